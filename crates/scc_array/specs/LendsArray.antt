@@ -7,6 +7,6 @@ use Rattle.scc_array.specs.Shelf.{Shelf}
 use Rattle.scc_array.specs.ShelfWrites.{shelf_write_at}
 
 module _ (E V : RattleType) (put : E.Denot → V.Denot → E.Denot) where
-  -- the entry at the place has the last value written through r
+  -- when the loan r ends, the entry at slot i of bucket b has the last value written through r
   abbrev pub lends_array_value : MutBor (List (Shelf E.Denot)) → ℕ → ℕ → MutBor V.Denot → Fml
   lends_array_value a b i r = Lends (the_row E) V a r (λ w. slice_set a.now b (shelf_write_at put (shelf_of a.now b) i w))

@@ -4,6 +4,6 @@ use Rattle.std.specs.Borrow.{Fml, RattleType, MutBor, Lends}
 use Rattle.scc_array.specs.Windows.{Window, window_of, written_over}
 use Rattle.scc_array.specs.contracts.columns.Columns.{the_row}
 
--- the entry at the place has the last value written through r
+-- when the loan r ends, the entry at slot i of bucket b is the last value written through r
 abbrev pub lends_cell : (R : RattleType) → MutBor (List (Window R.Denot)) → ℕ → ℕ → MutBor R.Denot → Fml
 lends_cell R ws b i r = Lends (the_row R) R ws r (λ x. slice_set ws.now b (written_over (window_of ws.now b) i x))

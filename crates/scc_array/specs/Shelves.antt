@@ -1,4 +1,4 @@
--- The buckets of an array: their places, and the lists of the entries past them.
+-- The buckets of an array: their slots and their overflow lists.
 use Rattle.std.specs.Prelude.{◌≡◌, ℕ, ◌+◌, ◌/◌, ◌⊎◌, Bool, false, List, [], length, map, slice_get, slice_index_or, Option, Some, None}
 use Rattle.std.specs.List.{range_with_len}
 use Rattle.std.specs.Vec.{vec_capacity}
@@ -6,27 +6,27 @@ use Rattle.std.specs.declared.vec.Vec.{Vec}
 use Rattle.scc_array.specs.Windows.{Window, window_of}
 use Rattle.scc_array.specs.Shelf.{Shelf, empty_shelf}
 
--- the bucket of that number
+-- bucket i
 abbrev pub shelf_of : {E : Type 0} → List (Shelf E) → ℕ → Shelf E
 shelf_of bs i = slice_index_or bs i empty_shelf
 
 module _ {E A : Type 0} where
-  -- the entries of a list, and how many it has room for; none where there is no list
+  -- the entries of the overflow list of a bucket; none without a list
   abbrev pub spilled : Option (Vec E A) → List E
   spilled None = []
   spilled (Some v) = v.items
 
-  -- how many entries the list of a bucket has room for; 0 without one
+  -- how many entries the overflow list of a bucket has room for; 0 without a list
   abbrev pub list_room : Option (Vec E A) → ℕ
   list_room None = 0
   list_room (Some v) = vec_capacity v
 
   module _ (ws : List (Window E)) (os : List (Vec E A)) where
-    -- bucket i, by its places and its overflow list
+    -- bucket i: its slots, tags and overflow list
     abbrev pub shelf_at : ℕ → Shelf E
     shelf_at i = record { slots = (window_of ws i).slots; tags = (window_of ws i).tags; overflow = spilled (slice_get os i); room = list_room (slice_get os i) }
 
-    -- all buckets, in their order
+    -- all buckets, in order
     abbrev pub shelves : List (Shelf E)
     shelves = map shelf_at (range_with_len 0 (length ws))
 
@@ -34,7 +34,8 @@ module _ {E A : Type 0} where
     pub record HasListEach : Type 0 where
       pub lists : (os ≡ []) ⊎ (length os ≡ length ws)
 
-  -- of the flags of the buckets, one for 16 in a row: there are none yet, or one for each group; a bucket whose flag is down has no entry in a list, and no room there
+  -- the flags, one for 16 buckets in a row: either none are made yet, or all; a bucket whose flag is down has no entry
+  -- in its overflow list and no room there
   pub record IsFlagged (ws : List (Window E)) (os : List (Vec E A)) (fs : List Bool) : Type 0 where
     pub flags : (fs ≡ []) ⊎ (length fs ≡ length ws / 16 + 1)
     pub told : (b : ℕ) → slice_index_or fs (b / 16) false ≡ false → (spilled (slice_get os b) ≡ []) × (list_room (slice_get os b) ≡ 0)

@@ -1,7 +1,7 @@
--- A list in which what follows a gap has moved up by one place.
+-- A list in which the elements after a gap have moved up by one position.
 use Rattle.std.specs.Prelude.{◌≡◌, ℕ, ◌+◌, ◌<◌, ◌≤◌, ◌⊎◌, List, length, slice_index_or}
 
--- from the gap to the last place each has what came next; the last one has d; the others are as they were
+-- each position from `gap` to before `last` has the next element, and `last` has d; the other positions stay
 pub record Closes {X : Type 0} (d : X) (xs : List X) (gap last : ℕ) (ys : List X) : Type 0 where
   pub count : length ys ≡ length xs
   pub moved : (q : ℕ) → gap ≤ q → q < last → slice_index_or ys q d ≡ slice_index_or xs (q + 1) d

@@ -1,5 +1,5 @@
-//! Two columns: a row of 32 tags for each bucket, and 32 places for entries. The entries of a bucket lie in the first
-//! of its places, and the tag of a free place is 0.
+//! `Columns`: a row of 32 tags for each bucket, and 32 cells for its entries. The entries of a bucket fill its first
+//! slots. The tag of a free slot is 0.
 ghost use Rattle.scc_array.specs.Sifts.{all_up, unflagged_of, picked_of, ups, window_with};
 ghost use Rattle.scc_array.specs.Takes.{TakesFirstOf};
 ghost use Rattle.scc_array.specs.Windows.{window_of, IsTagged, empty_window, pushed, popped_over, shifted_out, IsColumns};
@@ -22,8 +22,8 @@ impl<E: Keyed> Columns<E>
 where
     E::Key: Eq,
 {
-    /// Takes out the first entry of the bucket with that key, and answers it; the last one of the bucket takes its
-    /// place. Only places with the tag are compared, in rising order.
+    /// Takes out the first entry of the bucket whose key equals `key`, and returns it. The last entry of the bucket
+    /// moves into the free slot. Only entries whose tag is `tag` are compared, in the order of their slots.
     #[inline(always)]
     pub(crate) fn take_first(&mut self, bucket: usize, key: &E::Key, tag: u8) -> Option<E>
         requires bucket { bucket < length self.old }
@@ -37,8 +37,8 @@ where
         }
     }
 
-    /// The place of the first entry of the bucket with that key. Only places with the tag are compared, in rising
-    /// order.
+    /// Returns the slot of the first entry of the bucket whose key equals `key`. Only entries whose tag is `tag` are
+    /// compared, in the order of their slots.
     #[inline(always)]
     pub fn find(&self, bucket: usize, key: &E::Key, tag: u8) -> Option<usize>
         requires bucket { bucket < length self.now }
@@ -58,7 +58,7 @@ where
     }
 }
 
-/// Buckets of 32 places. A contract sees the entries of each bucket, and their tags.
+/// Buckets of 32 slots. A contract sees the entries of each bucket and their tags.
 pub struct Columns<E> {
     tags: Vec<[u8; 32]>,
     slots: Cells<E>,
@@ -79,7 +79,7 @@ impl<E> Model for Columns<E> {
 }
 
 impl<E> Columns<E> {
-    /// No buckets.
+    /// Returns columns without buckets. Allocates nothing.
     pub fn none(alloc: Global) -> Columns<E>
         ensures { result ≡ [] }
     {
@@ -89,7 +89,7 @@ impl<E> Columns<E> {
         }
     }
 
-    /// So many empty buckets.
+    /// Allocates columns of `count` empty buckets.
     pub fn with_buckets(alloc: Global, count: usize) -> Result<Columns<E>, AllocError>
         requires { count ≤ 2 ^ 58 }
         ensures { IfOk result (λ c. c ≡ replicate count empty_window) }
@@ -104,7 +104,7 @@ impl<E> Columns<E> {
         }
     }
 
-    /// The number of buckets.
+    /// Returns the number of buckets.
     #[inline(always)]
     pub fn len(&self) -> usize
         ensures count { result ≡ length self.now }
@@ -113,7 +113,7 @@ impl<E> Columns<E> {
         self.tags.len()
     }
 
-    /// How many entries the bucket has.
+    /// Returns the number of entries of the bucket.
     #[inline(always)]
     pub fn count(&self, bucket: usize) -> usize
         requires { bucket < length self.now }
@@ -124,8 +124,8 @@ impl<E> Columns<E> {
         if free == 0 { 32 } else { lowest_bit(free) }
     }
 
-    /// How many entries the bucket has, where none stands at the place; where one does, a number above that of the
-    /// place. It looks at one tag first.
+    /// Returns the number of entries of the bucket, if no entry stands at `slot`; otherwise, a number greater than
+    /// `slot`. Reads the tag of `slot` first.
     #[inline(always)]
     pub(crate) fn slots_before_overflow(&self, bucket: usize, slot: usize) -> usize
         requires { bucket < length self.now }
@@ -138,7 +138,7 @@ impl<E> Columns<E> {
         self.count(bucket)
     }
 
-    /// The entry at a place.
+    /// Returns the entry at `slot`.
     #[inline(always)]
     pub fn entry_at(&self, bucket: usize, slot: usize) -> &E
         requires bucket { bucket < length self.now }
@@ -148,7 +148,7 @@ impl<E> Columns<E> {
         self.slots.get(32 * bucket + slot)
     }
 
-    /// The places of the bucket with that tag, a bit each.
+    /// Returns a mask of the slots whose tag is `tag`, one bit a slot.
     #[inline(always)]
     fn hits(&self, bucket: usize, tag: u8) -> u32
         requires bucket { bucket < length self.now }
@@ -160,7 +160,7 @@ impl<E> Columns<E> {
         tag_mask(&self.tags[bucket], tag)
     }
 
-    /// The entry stands in the next place, which is free.
+    /// Puts `entry` into the next slot of the bucket, which must be free.
     #[inline(always)]
     pub fn push(&mut self, bucket: usize, entry: E, tag: u8)
         requires bucket { bucket < length self.old }
@@ -172,7 +172,7 @@ impl<E> Columns<E> {
         self.push_at(bucket, slot, entry, tag);
     }
 
-    /// The same where it is known which place is the next one.
+    /// Puts `entry` into `slot`, which must be the next slot of the bucket and free.
     #[inline(always)]
     pub(crate) fn push_at(&mut self, bucket: usize, slot: usize, entry: E, tag: u8)
         requires bucket { bucket < length self.old }
@@ -186,8 +186,8 @@ impl<E> Columns<E> {
         self.slots.put(32 * bucket + slot, entry);
     }
 
-    /// Moves the entries whose flag is 1 to the end of a bucket of other columns, in order. The others stay in their
-    /// order.
+    /// Moves the entries of `bucket` whose flag is 1 to the end of the bucket `target` of `into`. Both those entries
+    /// and the others keep their order.
     #[inline(always)]
     pub fn split(&mut self, bucket: usize, flags: &[u8; 32], into: &mut Columns<E>, target: usize)
         requires bucket { bucket < length self.old }
@@ -203,7 +203,7 @@ impl<E> Columns<E> {
         sift(&mut self.slots, row, base, flags, into, target, first);
     }
 
-    /// Moves all entries of a bucket to the end of a bucket of other columns, in order.
+    /// Moves all entries of `bucket` to the end of the bucket `target` of `into`, in order.
     #[inline(always)]
     pub fn pour(&mut self, bucket: usize, into: &mut Columns<E>, target: usize)
         requires bucket { bucket < length self.old }
@@ -229,7 +229,7 @@ impl<E> Columns<E> {
 
     ghost use Rattle.scc_array.specs.LendsColumns.{lends_cell};
 
-    /// Takes an entry out. The last one of its bucket takes its place.
+    /// Takes the entry at `slot` out, and returns it. The last entry of the bucket moves into the free slot.
     #[inline(always)]
     pub fn swap_remove(&mut self, bucket: usize, slot: usize) -> E
         requires bucket { bucket < length self.old }
@@ -250,7 +250,7 @@ impl<E> Columns<E> {
         self.slots.replace(base + slot, end)
     }
 
-    /// Takes an entry out. Those after it move up by one place.
+    /// Takes the entry at `slot` out, and returns it. The entries after it move up by one slot.
     pub fn remove(&mut self, bucket: usize, slot: usize) -> E
         requires bucket { bucket < length self.old }
         requires slot { slot < length (window_of self.old bucket).slots }
@@ -264,7 +264,7 @@ impl<E> Columns<E> {
         entry
     }
 
-    /// The entry at a place, to write to.
+    /// Returns the entry at `slot`, to write to.
     #[inline(always)]
     pub(crate) fn entry_mut(&mut self, bucket: usize, slot: usize) -> &mut E
         requires bucket { bucket < length self.old }
@@ -275,7 +275,7 @@ impl<E> Columns<E> {
         self.slots.get_mut(32 * bucket + slot)
     }
 
-    /// Gives the columns back, which hold no entry.
+    /// Releases the columns. No bucket may hold an entry.
     pub fn destroy_empty(self)
         requires { (i : ℕ) → i < length self → (window_of self i).slots ≡ [] }
     {
@@ -284,7 +284,7 @@ impl<E> Columns<E> {
     }
 }
 
-/// Drops what the places hold whose tag isn't 0.
+/// Drops the entry of each cell whose tag isn't 0.
 fn drop_cells<E: Drop>(tags: &[[u8; 32]], slots: &mut Cells<E>)
     requires { IsColumns tags.now slots.old }
     ensures { IsDrained slots.new }

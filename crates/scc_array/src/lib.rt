@@ -1,4 +1,5 @@
-//! The array of buckets of the hash containers, in two columns: 32 tags a bucket, and 32 places for entries a bucket.
+//! `Array`: the buckets of a hash container, in two columns of 32 tags and 32 cells a bucket, with an overflow list for
+//! each bucket.
 #![tactic(auto)]
 
 ghost use Rattle.scc_array.specs.Shelf.{shelf_entries, empty_shelf, with_slot, with_overflow, with_entry, next_slot, HasTag};
@@ -21,12 +22,13 @@ use scc_common::Keyed;
 use std::alloc::{AllocError, Global};
 use std::marker::Model;
 
-/// Buckets, each with at most 32 entries in places with a tag each, and further ones in a list of its own. A bucket's
-/// list is the entries of its places and then the others.
+/// Buckets, each with 32 slots with a tag each, and an overflow list. The entries of a bucket are those of its slots,
+/// and then those of its overflow list.
 pub struct Array<E> {
     columns: Columns<E>,
     overflow: Vec<Vec<E>>,
-    /// Which buckets may have entries past their places, a flag for 16 in a row: no list of another one is looked at.
+    /// One flag for each 16 buckets in a row, which says whether they may have entries in overflow lists. While the
+    /// flag of a bucket is down, its overflow list isn't read.
     crowded: Vec<bool>,
     alloc: Global,
 }
@@ -48,7 +50,7 @@ impl<E> Model for Array<E> {
 }
 
 impl<E> Array<E> {
-    /// An array without buckets, which asks for no memory.
+    /// Returns an array without buckets. Allocates nothing.
     pub fn none(alloc: Global) -> Array<E>
         ensures { result ≡ [] }
     {
@@ -60,7 +62,7 @@ impl<E> Array<E> {
         }
     }
 
-    /// So many empty buckets.
+    /// Allocates an array of `count` empty buckets.
     pub fn with_buckets(alloc: Global, count: usize) -> Result<Array<E>, AllocError>
         requires { count ≤ 2 ^ 58 }
         ensures { IfOk result (λ a. a ≡ replicate count empty_shelf) }
@@ -74,7 +76,7 @@ impl<E> Array<E> {
         })
     }
 
-    /// The number of buckets.
+    /// Returns the number of buckets.
     #[inline(always)]
     pub fn len(&self) -> usize
         ensures count { result ≡ length self.now }
@@ -83,7 +85,7 @@ impl<E> Array<E> {
         self.columns.len()
     }
 
-    /// Whether all places of the bucket are in use.
+    /// Returns whether all 32 slots of the bucket are in use.
     #[inline(always)]
     pub fn is_full(&self, bucket: usize) -> bool
         requires { bucket < length self.now }
@@ -92,7 +94,7 @@ impl<E> Array<E> {
         self.columns.count(bucket) >= 32
     }
 
-    /// Whether the entry at a place lies past the places in use.
+    /// Returns whether the entry at `slot` stands in the overflow list.
     #[inline(always)]
     pub fn is_overflow(&self, bucket: usize, slot: usize) -> bool
         requires bucket { bucket < length self.now }
@@ -102,8 +104,8 @@ impl<E> Array<E> {
         slot >= self.slots_before_overflow(bucket, slot)
     }
 
-    /// How many places of the bucket are in use, where the entry at the place lies past them; where it doesn't, a
-    /// number above that of the place. While no bucket has a list no tag is read.
+    /// Returns the number of slots of the bucket in use, if the entry at `slot` stands in the overflow list; otherwise,
+    /// a number greater than `slot`. Reads no tag while the array has no overflow lists.
     #[inline(always)]
     pub(crate) fn slots_before_overflow(&self, bucket: usize, slot: usize) -> usize
         requires bucket { bucket < length self.now }
@@ -111,14 +113,14 @@ impl<E> Array<E> {
         ensures within { slot < result → slot < length (shelf_of self.now bucket).slots }
         ensures past { result ≤ slot → result ≡ length (shelf_of self.now bucket).slots }
     {
-        // The number comes first: a search that looked at tags has shown it.
+        // `slot < 32` is compared first: a search that compared tags has shown it already.
         if slot < 32 && self.overflow.len() == 0 {
             return 32;
         }
         self.columns.slots_before_overflow(bucket, slot)
     }
 
-    /// Whether the bucket may have entries past its places.
+    /// Returns whether the bucket may have entries in its overflow list.
     #[inline(always)]
     pub fn is_crowded(&self, bucket: usize) -> bool
         requires { bucket < length self.now }
@@ -128,7 +130,7 @@ impl<E> Array<E> {
         flag < self.crowded.len() && self.crowded[flag]
     }
 
-    /// How many entries the bucket has past its places.
+    /// Returns the number of entries in the overflow list of the bucket.
     #[inline(always)]
     pub fn overflow_len(&self, bucket: usize) -> usize
         requires { bucket < length self.now }
@@ -143,7 +145,7 @@ impl<E> Array<E> {
         self.overflow[bucket].len()
     }
 
-    /// How many entries the bucket has.
+    /// Returns the number of entries of the bucket.
     #[inline(always)]
     pub fn bucket_len(&self, bucket: usize) -> usize
         requires bucket { bucket < length self.now }
@@ -153,7 +155,7 @@ impl<E> Array<E> {
         self.columns.count(bucket) + self.overflow_len(bucket)
     }
 
-    /// The entry stands in the next place of the bucket, which is free.
+    /// Puts `entry` into the next slot of the bucket, which must be free.
     #[inline(always)]
     pub fn insert_reserved(&mut self, bucket: usize, entry: E, tag: u8)
         requires bucket { bucket < length self.old }
@@ -164,8 +166,9 @@ impl<E> Array<E> {
         self.columns.push(bucket, entry, tag);
     }
 
-    /// The entry stands in the next place of the bucket, or at the end of the list past its places. It is handed back,
-    /// and the bucket is as it was, only where all places are in use and the list can't grow.
+    /// Puts `entry` into the next slot of the bucket, or at the end of the overflow list if all slots are in use. Fails
+    /// only if all slots are in use and the overflow list can't grow; then `entry` is handed back, and the entries
+    /// stay.
     #[inline(always)]
     pub fn insert(&mut self, bucket: usize, entry: E, tag: u8) -> Result<usize, E>
         requires bucket { bucket < length self.old }
@@ -188,7 +191,7 @@ impl<E> Array<E> {
         self.push_list(bucket, entry)
     }
 
-    /// The entry stands at the end of the list past the places of the bucket.
+    /// Puts `entry` at the end of the overflow list of the bucket.
     #[cold]
     pub(crate) fn push_list(&mut self, bucket: usize, entry: E) -> Result<usize, E>
         requires bucket { bucket < length self.old }
@@ -212,7 +215,7 @@ impl<E> Array<E> {
         push_to(&mut self.overflow, bucket, entry)
     }
 
-    /// The entry at a place.
+    /// Returns the entry at `slot`.
     #[inline(always)]
     pub fn entry_at(&self, bucket: usize, slot: usize) -> &E
         requires bucket { bucket < length self.now }
@@ -231,8 +234,8 @@ impl<E: Keyed> Array<E>
 where
     E::Key: Eq,
 {
-    /// The place of the first entry of the bucket with that key. Only places with the tag are compared, in rising
-    /// order, and then the entries past them.
+    /// Returns the slot of the first entry of the bucket whose key equals `key`. In the slots with a tag, only entries
+    /// whose tag is `tag` are compared; after them, all entries of the overflow list.
     #[inline(always)]
     pub fn search(&self, bucket: usize, key: &E::Key, tag: u8) -> Option<usize>
         requires bucket { bucket < length self.now }
@@ -251,7 +254,7 @@ where
         }
     }
 
-    /// The same past the places, where none of them has the key.
+    /// Searches the overflow list for `key`, as `search` does. No entry with a tag may have this key.
     pub(crate) fn search_list(&self, bucket: usize, key: &E::Key) -> Option<usize>
         requires bucket { bucket < length self.now }
         requires missed { position (λ e. E.Key.eq key.now (E.key_of e)) (shelf_of self.now bucket).slots ≡ None }
@@ -268,7 +271,7 @@ where
     }
 }
 
-/// The place of the first entry with that key.
+/// Returns the position of the first entry of `entries` whose key equals `key`.
 fn find_in<E: Keyed>(entries: &[E], key: &E::Key) -> Option<usize>
 where
     E::Key: Eq,

@@ -1,11 +1,11 @@
-//! The lists of the entries past the places, one a bucket, which are made with the first such entry.
+//! The overflow lists, one a bucket, which are made when the first entry needs one.
 ghost use Rattle.scc_array.specs.Lists.{AreBare, AreSpent, Opens, Pushes, RaisesFlag, ReservesList};
 ghost use Rattle.std.specs.Prelude.{◌≡◌, ◌<◌, ◌≤◌, ◌+◌, ◌/◌, ◌^◌, ◌⊎◌, [], false, true, length, IfOk, OnOk, OnErr};
 
 use std::alloc::{AllocError, Global};
 use std::mem;
 
-/// So many empty lists, none of which has memory of its own.
+/// Makes `count` empty lists, none of which has memory of its own.
 fn bare_lists<E>(alloc: Global, count: usize) -> Result<Vec<Vec<E>>, AllocError>
     ensures count { IfOk result (λ v. length v.items ≡ count) }
     ensures bare { IfOk result (λ v. AreBare v.items) }
@@ -20,7 +20,7 @@ fn bare_lists<E>(alloc: Global, count: usize) -> Result<Vec<Vec<E>>, AllocError>
     Ok(lists)
 }
 
-/// Makes so many empty lists where there are none.
+/// Makes `count` empty lists, if there are none.
 pub(crate) fn open_lists<E>(
     lists: &mut Vec<Vec<E>>,
     alloc: Global,
@@ -39,7 +39,7 @@ pub(crate) fn open_lists<E>(
     Ok(())
 }
 
-/// The number of the flag of a bucket, which 16 buckets in a row have in common.
+/// Returns the number of the flag of a bucket. 16 buckets in a row share one flag.
 #[inline(always)]
 pub(crate) fn flag_of(bucket: usize) -> usize
     ensures { result ≡ bucket / 16 }
@@ -47,7 +47,7 @@ pub(crate) fn flag_of(bucket: usize) -> usize
     bucket / 16
 }
 
-/// Raises the flag of a bucket. Where there are no flags, those of so many buckets are made, all others down.
+/// Raises the flag of `bucket`. If there are no flags, first makes those of `count` buckets, all down.
 #[cold]
 pub(crate) fn raise(
     flags: &mut Vec<bool>,
@@ -67,8 +67,8 @@ pub(crate) fn raise(
     Ok(())
 }
 
-/// Puts the entry at the end of a list, and answers its place there after 32 others. It is handed back where memory is
-/// refused.
+/// Puts `entry` at the end of the list of `bucket`, and returns its slot, which counts on after 32 slots. If memory is
+/// refused, `entry` is handed back.
 pub(crate) fn push_to<E>(lists: &mut Vec<Vec<E>>, bucket: usize, entry: E) -> Result<usize, E>
     requires { bucket < length lists.old.items }
     ensures { Pushes lists.old.items bucket entry result lists.new.items }
@@ -81,7 +81,7 @@ pub(crate) fn push_to<E>(lists: &mut Vec<Vec<E>>, bucket: usize, entry: E) -> Re
     }
 }
 
-/// Room for so many more entries at the end of a list.
+/// Reserves room for `additional` more entries at the end of the list of `bucket`.
 pub(crate) fn reserve_in<E>(
     lists: &mut Vec<Vec<E>>,
     bucket: usize,
@@ -97,7 +97,7 @@ pub(crate) fn reserve_in<E>(
     }
 }
 
-/// Frees lists that hold no entry.
+/// Releases the lists, which must hold no entry.
 pub(crate) fn destroy_lists<E>(lists: Vec<Vec<E>>)
     requires { AreSpent lists.items }
 {

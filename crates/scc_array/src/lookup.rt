@@ -1,4 +1,4 @@
-//! Searches that lend the entry itself, and reads for walks.
+//! Searches that return the entry itself, and reads for walks.
 ghost use Rattle.scc_array.specs.Hints.{IsPassing};
 ghost use Rattle.scc_array.specs.Shelf.{shelf_entries, HasTag};
 ghost use Rattle.scc_array.specs.Shelves.{shelf_of};
@@ -13,8 +13,8 @@ impl<E: Keyed> Array<E>
 where
     E::Key: Eq,
 {
-    /// The first entry of the bucket with that key. Only places with the tag are compared, in rising order, and then
-    /// the entries past them.
+    /// Returns the first entry of the bucket whose key equals `key`. In the slots with a tag, only entries whose tag is
+    /// `tag` are compared; after them, all entries of the overflow list.
     #[inline(always)]
     pub fn find(&self, bucket: usize, key: &E::Key, tag: u8) -> Option<&E>
         requires bucket { bucket < length self.now }
@@ -34,7 +34,7 @@ where
         }
     }
 
-    /// The first entry past the places of the bucket with that key.
+    /// Returns the first entry of the overflow list of the bucket whose key equals `key`.
     #[cold]
     pub(crate) fn find_in_overflow(&self, bucket: usize, key: &E::Key) -> Option<&E>
         requires { bucket < length self.now }
@@ -50,7 +50,8 @@ where
         }
     }
 
-    /// An entry of the bucket with that key. Where the answer is None and the tag is the key's, there is none.
+    /// Returns an entry of the bucket whose key equals `key`. If the result is `None` and `tag` is the tag of `key`,
+    /// the bucket has no such entry.
     #[inline(always)]
     pub fn find_hinted(&self, bucket: usize, key: &E::Key, tag: u8) -> Option<&E>
         requires bucket { bucket < length self.now }
@@ -75,7 +76,7 @@ where
 }
 
 impl<E> Array<E> {
-    /// How many places of the bucket are in use.
+    /// Returns how many of the 32 slots with a tag are in use.
     #[inline(always)]
     pub fn slot_count(&self, bucket: usize) -> usize
         requires { bucket < length self.now }
@@ -85,7 +86,7 @@ impl<E> Array<E> {
         self.columns.count(bucket)
     }
 
-    /// The entry at a place, where it is known how many places of the bucket are in use. A walk asks for that once a
+    /// Returns the entry at `slot`. `slots` must be the `slot_count` of the bucket, which a walk asks for once a
     /// bucket.
     #[inline(always)]
     pub fn entry_of(&self, bucket: usize, slot: usize, slots: usize) -> &E

@@ -1,4 +1,4 @@
-//! How entries get out of an array, and how it ends without one.
+//! Removals of entries, and the end of an array without entries.
 ghost use Rattle.scc_array.specs.Shelf.{shelf_entries, without_slot, swapped_out, HasTag};
 ghost use Rattle.scc_array.specs.Shelves.{shelf_of};
 ghost use Rattle.scc_array.specs.Takes.{TakesInSlots, TakesInOverflow};
@@ -11,7 +11,8 @@ use crate::lists::destroy_lists;
 use scc_common::Keyed;
 
 impl<E> Array<E> {
-    /// Takes an entry out. The entries after it in the places, or in the list past them, move up by one.
+    /// Takes the entry at `slot` out, and returns it. The entries after it in the slots with a tag, or in the overflow
+    /// list, move up by one.
     #[inline(always)]
     pub fn remove_at(&mut self, bucket: usize, slot: usize) -> E
         requires bucket { bucket < length self.old }
@@ -27,7 +28,8 @@ impl<E> Array<E> {
         list.remove(slot - count)
     }
 
-    /// Takes an entry out. The last entry of the places, or of the list past them, takes its place.
+    /// Takes the entry at `slot` out, and returns it. The last entry of the slots with a tag, or of the overflow list,
+    /// moves into its slot.
     #[inline(always)]
     pub fn swap_remove_at(&mut self, bucket: usize, slot: usize) -> E
         requires bucket { bucket < length self.old }
@@ -43,7 +45,7 @@ impl<E> Array<E> {
         list.swap_remove(slot - count)
     }
 
-    /// Gives the array back, which holds no entry.
+    /// Releases the array, which must hold no entry.
     pub fn destroy_empty(self)
         requires { (i : ℕ) → i < length self → shelf_entries (shelf_of self i) ≡ [] }
     {
@@ -62,8 +64,8 @@ impl<E: Keyed> Array<E>
 where
     E::Key: Eq,
 {
-    /// Takes out the first entry with that key among those in the places of the bucket, and answers it; the last of
-    /// them takes its place. Only places with the tag are compared, in rising order.
+    /// Takes out the first entry whose key equals `key` among the slots with a tag, and returns it. The last entry of
+    /// these slots moves into the free slot. Only entries whose tag is `tag` are compared, in the order of their slots.
     #[inline(always)]
     pub fn take_in_slots(&mut self, bucket: usize, key: &E::Key, tag: u8) -> Option<E>
         requires bucket { bucket < length self.old }
@@ -74,7 +76,8 @@ where
         self.columns.take_first(bucket, key, tag)
     }
 
-    /// The same past the places, where none of them has the key.
+    /// Takes out the first entry of the overflow list whose key equals `key`, and returns it. The last entry of the
+    /// list moves into its slot. No entry with a tag may have this key.
     #[cold]
     pub fn take_in_overflow(&mut self, bucket: usize, key: &E::Key) -> Option<E>
         requires bucket { bucket < length self.old }

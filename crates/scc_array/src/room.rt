@@ -1,4 +1,4 @@
-//! Room that is made before an entry is there.
+//! Room that is made before an entry exists.
 ghost use Rattle.scc_array.specs.Shelf.{shelf_entries, with_entry, with_overflow, next_slot, ShelfHasRoom};
 ghost use Rattle.scc_array.specs.Shelves.{shelf_of};
 ghost use Rattle.std.specs.Prelude.{◌≡◌, ◌≤◌, ◌<◌, ◌+◌, ◌^◌, length, slice_set, IfOk, IfErr, OnOk, OnErr};
@@ -9,13 +9,14 @@ use scc_common::Made;
 use std::alloc::{AllocError, Global};
 
 impl<E> Array<E> {
-    /// What the array takes its memory from.
+    /// Returns the allocator of the array.
     #[inline(always)]
     pub fn allocator(&self) -> Global {
         self.alloc
     }
 
-    /// The entry stands in the next place of the bucket, or at the end of the list past its places, which has room.
+    /// Puts `entry` into the next slot of the bucket, or at the end of the overflow list. The bucket must have room for
+    /// it.
     #[inline(always)]
     pub fn insert_in_room(&mut self, bucket: usize, entry: E, tag: u8)
         requires bucket { bucket < length self.old }
@@ -33,7 +34,7 @@ impl<E> Array<E> {
         }
     }
 
-    /// The entry stands at the end of the list past the places of the bucket, which has room.
+    /// Puts `entry` at the end of the overflow list of the bucket, which must have room for it.
     #[cold]
     fn push_in_room(&mut self, bucket: usize, entry: E)
         requires bucket { bucket < length self.old }
@@ -48,7 +49,7 @@ impl<E> Array<E> {
         }
     }
 
-    /// Room for so many more entries at the end of the list past the places of the bucket.
+    /// Reserves room for `additional` more entries in the overflow list of the bucket.
     pub fn reserve_overflow(&mut self, bucket: usize, additional: usize) -> Result<(), AllocError>
         requires { bucket < length self.old }
         ensures value { self.new ≡ slice_set self.old bucket
@@ -69,7 +70,8 @@ impl<E> Array<E> {
         reserve_in(&mut self.overflow, bucket, additional)
     }
 
-    /// Room for one more entry: a free place, or one in the list past the places, which may grow.
+    /// Makes room for one more entry in the bucket: the overflow list grows, if all slots are in use and the list is
+    /// full.
     #[inline(always)]
     pub fn make_room(&mut self, bucket: usize) -> Result<(), AllocError>
         requires { bucket < length self.old }
@@ -84,7 +86,7 @@ impl<E> Array<E> {
         self.reserve_overflow(bucket, 1)
     }
 
-    /// Where the next entry of the bucket will stand.
+    /// Returns the slot where the next entry of the bucket will stand.
     #[inline(always)]
     fn next_slot(&self, bucket: usize) -> usize
         requires bucket { bucket < length self.now }
@@ -100,9 +102,8 @@ impl<E> Array<E> {
 }
 
 impl<E: Made> Array<E> {
-    /// Makes an entry of the parts, which stands in the next place of the bucket or at the end of the list past its
-    /// places. Room for it is made first. Where memory is refused, the parts are handed back, and the bucket is as it
-    /// was.
+    /// Makes an entry of `parts`, and puts it into the next slot of the bucket or at the end of the overflow list.
+    /// Makes room for it first. If memory is refused, `parts` are handed back, and the entries stay.
     #[inline(always)]
     pub fn insert_made(
         &mut self,

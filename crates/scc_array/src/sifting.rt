@@ -1,4 +1,4 @@
-//! The entries of a bucket are parted: some go to other columns, and the others close their ranks.
+//! Parts the entries of a bucket: some move to other columns, and the others move up.
 ghost use Rattle.scc_array.specs.Shelves.{shelf_of};
 ghost use Rattle.scc_array.specs.Shifts.{Closes};
 ghost use Rattle.scc_array.specs.Sifts.{all_up, unflagged_of, picked_of, window_with, AreAt, AreUnflagged, AreLeft, MovesCell, ups, shelf_unflagged, shelf_with};
@@ -11,8 +11,8 @@ use crate::columns::Columns;
 use crate::tags::{lowest_bit, tag_mask, without_lowest_bit};
 use scc_slots::Cells;
 
-/// Moves the entries after the free place up by one, to the last one, and their tags in the row, where the last one is
-/// 0 then. The places of the row begin at `base`. One loop does both, since its end is as good as random.
+/// Moves the entries after the free slot `gap`, up to `last`, and their tags up by one slot. The tag of `last` is 0
+/// then. The cells of the row begin at `base`. One loop moves both, because `last` is unpredictable.
 #[inline(always)]
 pub(crate) fn close_gap<E>(
     slots: &mut Cells<E>,
@@ -38,8 +38,8 @@ pub(crate) fn close_gap<E>(
     row[last] = 0;
 }
 
-/// Moves an entry and its tag to an earlier place, which is free, or leaves it where it is. The places of the row begin
-/// at `base`.
+/// Moves an entry and its tag from the slot `from` to the slot `to`. `to` must be free, or equal to `from`. The cells
+/// of the row begin at `base`.
 #[inline(always)]
 fn move_up<E>(slots: &mut Cells<E>, row: &mut [u8; 32], base: usize, from: usize, to: usize)
     requires order { to ≤ from }
@@ -60,8 +60,8 @@ fn move_up<E>(slots: &mut Cells<E>, row: &mut [u8; 32], base: usize, from: usize
     row[from] = 0;
 }
 
-/// Moves the entries of a row whose flag is 1 to the end of a bucket of the columns, where `first` stand, in order.
-/// Their places are free then. The places of the row begin at `base`.
+/// Moves the entries of a row whose flag is 1 to the end of the bucket `target` of `into`, in order, and leaves their
+/// slots free. `target` must hold `first` entries. The cells of the row begin at `base`.
 #[inline(always)]
 fn pick<E>(
     slots: &mut Cells<E>,
@@ -98,8 +98,8 @@ fn pick<E>(
     }
 }
 
-/// Moves the entries of a row with gaps to its first places, in order. `bits` has a bit for each of them. The places of
-/// the row begin at `base`.
+/// Moves the entries of a row with gaps to its first slots, in order. `bits` must have a bit for each of these entries.
+/// The cells of the row begin at `base`.
 #[inline(always)]
 fn close_ranks<E>(slots: &mut Cells<E>, row: &mut [u8; 32], base: usize, bits: u32)
     requires small { base + 32 < 2 ^ 64 }
@@ -122,9 +122,9 @@ fn close_ranks<E>(slots: &mut Cells<E>, row: &mut [u8; 32], base: usize, bits: u
     }
 }
 
-/// Moves the entries of a row whose flag is 1 to the end of a bucket of the columns, where `first` stand, and the
-/// others to the row's first places, both in order. The places of the row begin at `base`. Each entry is looked at
-/// once, and no flag is tested: the loops go by the bits of two masks.
+/// Moves the entries of a row whose flag is 1 to the end of the bucket `target` of `into`, and the others to the first
+/// slots of the row, both in order. `target` must hold `first` entries. The cells of the row begin at `base`. Each
+/// entry is visited once, and no flag is tested: the loops follow the bits of two masks.
 #[inline(always)]
 pub(crate) fn sift<E>(
     slots: &mut Cells<E>,
@@ -154,8 +154,8 @@ pub(crate) fn sift<E>(
     close_ranks(slots, row, base, rest);
 }
 
-/// Moves all entries of a row to the end of a bucket of the columns, where `first` stand, in order. The places of the
-/// row begin at `base`, and so many are in use.
+/// Moves all entries of a row to the end of the bucket `target` of `into`, in order. The row must hold `entry_count`
+/// entries, and `target` must hold `first`. The cells of the row begin at `base`.
 #[inline(always)]
 pub(crate) fn pour<E>(
     slots: &mut Cells<E>,
@@ -192,9 +192,8 @@ pub(crate) fn pour<E>(
 }
 
 impl<E> Array<E> {
-    /// Moves the entries in places whose flag is 1 to the next places of a bucket of another array, in order. The
-    /// others stay in their order, and so does what lies past the places. Each entry is looked at once, and no memory
-    /// is taken.
+    /// Moves the entries of `bucket` whose flag is 1 to the next slots of the bucket `target` of `into`, in order. The
+    /// other entries keep their order, and the overflow list stays. Each entry is visited once. Allocates nothing.
     #[inline(always)]
     pub fn split(&mut self, bucket: usize, flags: &[u8; 32], into: &mut Array<E>, target: usize)
         requires bucket { bucket < length self.old }
@@ -207,8 +206,8 @@ impl<E> Array<E> {
         self.columns.split(bucket, flags, &mut into.columns, target);
     }
 
-    /// Moves all entries in the places of a bucket to the next places of a bucket of another array, in order. What lies
-    /// past the places stays, and no memory is taken.
+    /// Moves all entries in the slots of `bucket` with a tag to the next slots of the bucket `target` of `into`, in
+    /// order. The overflow list stays. Allocates nothing.
     #[inline(always)]
     pub fn pour(&mut self, bucket: usize, into: &mut Array<E>, target: usize)
         requires bucket { bucket < length self.old }

@@ -1,11 +1,11 @@
-//! The search of 32 tags at once.
+//! The comparison of 32 tags at once.
 ghost use Rattle.std.specs.Int.{bit_at, trailing_zeros, w32};
 ghost use Rattle.std.specs.Prelude.{◌≡◌, ◌≢◌, ◌==◌, ◌<◌, ◌≤◌, ℕ, map};
 ghost use lib.Lanes.{mask_l};
 
 use std::simd::prelude::*;
 
-/// Bit i is set exactly where `tags[i]` is `tag`.
+/// Returns a mask whose bit i is set exactly if `tags[i]` is `tag`.
 #[inline(always)]
 pub fn tag_mask(tags: &[u8; 32], tag: u8) -> u32
     ensures { result ≡ mask_l (map (λ x. x == tag) tags.now) }
@@ -14,7 +14,7 @@ pub fn tag_mask(tags: &[u8; 32], tag: u8) -> u32
     same.to_bitmask() as u32
 }
 
-/// The place of the lowest set bit.
+/// Returns the position of the lowest set bit of `bits`.
 #[inline(always)]
 pub(crate) fn lowest_bit(bits: u32) -> usize
     requires { 0 < bits }
@@ -25,7 +25,7 @@ pub(crate) fn lowest_bit(bits: u32) -> usize
     bits.trailing_zeros() as usize
 }
 
-/// `bits` with its lowest set bit cleared.
+/// Returns `bits` with its lowest set bit cleared.
 #[inline(always)]
 pub(crate) fn without_lowest_bit(bits: u32) -> u32
     requires { 0 < bits }

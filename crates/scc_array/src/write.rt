@@ -1,4 +1,4 @@
-//! Writes into the entries of an array.
+//! Writes to the entries of an array.
 ghost use Rattle.scc_array.specs.LendsArray.{lends_array_value};
 ghost use Rattle.scc_array.specs.Shelf.{shelf_entries, HasTag};
 ghost use Rattle.scc_array.specs.ShelfWrites.{shelf_write_at, put_whole};
@@ -16,9 +16,10 @@ impl<E: Valued> Array<E>
 where
     E::Key: Eq,
 {
-    /// Lends the key of the first entry of the bucket with that key to `u`, and its value to write, and answers what
-    /// `u` answered; None where there is no such entry. Only places with the tag are compared, in rising order, and
-    /// then the entries past them. An entry that was found isn't looked for again.
+    /// Calls `u` with the key and the value of the first entry of the bucket whose key equals `key`, and returns the
+    /// result of `u`. `u` may write to the value. Returns `None` if there is no such entry. In the slots with a tag,
+    /// only entries whose tag is `tag` are compared; after them, all entries of the overflow list. The entry is looked
+    /// for once.
     #[inline(always)]
     pub fn update<R, U: FnOnce(&E::Key, &mut E::Value) -> R>(
         &mut self,
@@ -50,7 +51,7 @@ where
         }
     }
 
-    /// The same past the places, where none of them has the key.
+    /// As `update`, but searches the overflow list alone. No entry with a tag may have this key.
     #[cold]
     fn update_list<R, U: FnOnce(&E::Key, &mut E::Value) -> R>(
         &mut self,
@@ -77,7 +78,7 @@ where
 }
 
 impl<E: Valued> Array<E> {
-    /// The key of the entry in a place in use, and its value to write.
+    /// Returns the key of the entry at `slot`, and its value to write to. `slot` must have a tag.
     #[inline(always)]
     fn parts_mut_in(&mut self, bucket: usize, slot: usize) -> (&E::Key, &mut E::Value)
         requires bucket { bucket < length self.old }
@@ -91,7 +92,7 @@ impl<E: Valued> Array<E> {
         entry.parts_mut()
     }
 
-    /// The key of the entry at the place, and its value to write.
+    /// Returns the key of the entry at `slot`, and its value to write to.
     #[inline(always)]
     pub fn parts_mut_at(&mut self, bucket: usize, slot: usize) -> (&E::Key, &mut E::Value)
         requires bucket { bucket < length self.old }
@@ -112,7 +113,7 @@ impl<E: Valued> Array<E> {
         }
     }
 
-    /// Puts the key in the place of the one of the entry there, and answers that one.
+    /// Replaces the key of the entry at `slot` by `key`, and returns the old key.
     pub fn replace_key_at(&mut self, bucket: usize, slot: usize, key: E::Key) -> E::Key
         requires bucket { bucket < length self.old }
         requires slot { slot < length (shelf_entries (shelf_of self.old bucket)) }
@@ -133,7 +134,7 @@ impl<E: Valued> Array<E> {
 }
 
 impl<E> Array<E> {
-    /// Puts the entry in the place of the one there, and answers that one. The tag stays.
+    /// Replaces the entry at `slot` by `entry`, and returns the old entry. The tag stays.
     pub fn replace_at(&mut self, bucket: usize, slot: usize, entry: E) -> E
         requires bucket { bucket < length self.old }
         requires slot { slot < length (shelf_entries (shelf_of self.old bucket)) }

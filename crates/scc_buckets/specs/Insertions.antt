@@ -1,4 +1,4 @@
--- What an insertion of a new key does to buckets, in one word a call. A refusal hands back what was supplied.
+-- What an insertion of a new key does to buckets, one word a call. A refusal hands back the argument.
 use Rattle.std.specs.Prelude.{◌≡◌, ℕ, Bool, Result, IfOk, IfErr}
 use Rattle.std.specs.Result.{OnOk, OnErr}
 use Rattle.scc_contents.specs.Contents.{Contents, bucket_count, refused_of, HasRoomBy, IsUniqueBy}
@@ -8,54 +8,54 @@ use Rattle.scc_buckets.specs.Places.{IsInsertedAtSpot}
 use Rattle.scc_buckets.specs.declared.place.Place.{Place}
 
 module _ {E K S : Type 0} (eq : K → K → Bool) (key : E → K) where
-  -- the new entry e is put into bucket i
+  -- the new entry e is inserted into bucket i
   pub record InsertsInBucket (hash : K → ℕ) (c : Contents E S) (i : ℕ) (e : E) (result : Result Place E) (d : Contents E S) : Type 0 where
-    -- the entry is put in, and the place is its place
+    -- on success, e is inserted, and the result is its place
     pub ok : IfOk result (IsInsertedAtSpot c e d)
-    -- the list of the bucket alone got it
+    -- on success, the list of bucket i alone has gained e
     pub exact : IfOk result (IsPutIn c i e d)
-    -- refused, it comes back and nothing changed
+    -- on failure, e is handed back and nothing changes
     pub err : IfErr result (λ f. (f ≡ e) × IsUnchanged c d)
-    -- each list is as it was then
+    -- on failure, each list stays
     pub stays : OnErr result (HasSameLists c d)
-    -- it is refused only where the key's bucket has no room
+    -- the call fails only if the bucket of the key has no room
     pub full : OnErr result (HasRoomBy hash key c (key e) → ⊥)
     -- the number of buckets stays
     pub buckets : bucket_count d ≡ bucket_count c
-    -- the note of refused memory stays
+    -- the note and the mark stay
     pub refused : refused_of d ≡ refused_of c
     -- no two keys are equal
     pub unique : IsUniqueBy eq key d
 
   module _ {X : Type 0} where
-    -- the new entry e, made of x, is put into bucket i
+    -- the new entry e, made of x, is inserted into bucket i
     pub record InsertsMadeInBucket (c : Contents E S) (i : ℕ) (e : E) (x : X) (result : Result Place X) (d : Contents E S) : Type 0 where
-      -- the entry is put in, and the place is its place
+      -- on success, e is inserted, and the result is its place
       pub ok : IfOk result (IsInsertedAtSpot c e d)
-      -- the list of the bucket alone got it
+      -- on success, the list of bucket i alone has gained e
       pub exact : IfOk result (IsPutIn c i e d)
-      -- refused, the parts come back and nothing changed
+      -- on failure, x is handed back and nothing changes
       pub err : IfErr result (λ y. (y ≡ x) × IsUnchanged c d)
-      -- each list is as it was then
+      -- on failure, each list stays
       pub stays : OnErr result (HasSameLists c d)
       -- the number of buckets stays
       pub buckets : bucket_count d ≡ bucket_count c
-      -- the note of refused memory stays
+      -- the note and the mark stay
       pub refused : refused_of d ≡ refused_of c
       -- no two keys are equal
       pub unique : IsUniqueBy eq key d
 
-    -- the new entry e, made of x, is put into the first array, which is made for it
+    -- the new entry e, made of x, is inserted into the first array, which is made for it
     pub record InsertsMadeInFirstArray (c : Contents E S) (e : E) (x : X) (result : Result Place X) (d : Contents E S) : Type 0 where
-      -- the entry is put in, and the place is its place
+      -- on success, e is inserted, and the result is its place
       pub ok : IfOk result (IsInsertedAtSpot c e d)
-      -- refused, the parts come back and nothing changed
+      -- on failure, x is handed back and nothing changes
       pub err : IfErr result (λ y. (y ≡ x) × IsUnchanged c d)
       -- the number of buckets changes only by the first array
       pub growth : Grows c d
-      -- the array has the size of the minimum
+      -- on success, the array has the size of the minimum
       pub first : OnOk result (FirstArrayWhenDue c d)
-      -- the note of refused memory stays
+      -- the note and the mark stay
       pub noted : refused_of d ≡ refused_of c
       -- no two keys are equal
       pub unique : IsUniqueBy eq key d

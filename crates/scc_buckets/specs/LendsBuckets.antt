@@ -14,6 +14,6 @@ module _ (E H K T V : RattleType) (by : keyed.Ghosts E.Denot K.Denot) (key : Has
   abbrev pub buckets_row : RattleType
   buckets_row = the_row E H K T by build feed (record { eq = key.eq }) (record { hash_input = key.hash_input })
 
-  -- the entry at the place has the last value written through r
+  -- when the loan r ends, the entry at p has the last value written through r
   abbrev pub lends_value : MutBor (Contents E.Denot H.Denot) → Place → MutBor V.Denot → Fml
   lends_value m p r = Lends buckets_row V m r (with_write_at_spot put m.now p)

@@ -5,11 +5,11 @@ use Rattle.scc_contents.specs.Contents.{Contents, entries, bucket_count, setting
 use Rattle.scc_contents.specs.Routing.{bucket_number, tag_of}
 use Rattle.scc_array.specs.Shelf.{Shelf, shelf_entries}
 
--- the entries that belong to bucket i of n, in their order
+-- the entries es that belong to bucket i of n, in their order
 abbrev pub bound_for : {E : Type 0} → (E → ℕ) → ℕ → ℕ → ℕ → List E → List E
 bound_for hash t n i es = filter (λ e. bucket_number t n (hash e) == i) es
 
--- a bucket whose next entry stands last, and whose tags are right
+-- the overflow list of b is used only if all slots are, and its tags are those of its entries
 pub record IsPacked {E : Type 0} (hash : E → ℕ) (b : Shelf E) : Type 0 where
   pub last : (32 ≤ length b.slots) ⊎ (b.overflow ≡ [])
   pub tagged : b.tags ≡ map (λ e. tag_of (hash e)) b.slots

@@ -1,4 +1,4 @@
-//! Tables whose buckets hold at most 32 entries, each in the order of its list.
+//! Changes of buckets that hold at most 32 entries each, each in the order of its list.
 ghost use Rattle.scc_buckets.specs.Bounded.{HasList, IsBounded, IsListed, PutsLast};
 ghost use Rattle.scc_contents.specs.Contents.{entries, bucket_count, list_of, settings_of, key_hash, IsUniqueBy};
 ghost use Rattle.scc_contents.specs.Routing.{bucket_number};
@@ -14,7 +14,8 @@ impl<E: Keyed, H: BuildHasher> Buckets<E, H>
 where
     E::Key: Eq + Hash,
 {
-    /// Puts an entry whose key is new at the end of the list of its bucket, which holds fewer than 32.
+    /// Puts `entry`, whose key is new, at the end of the list of `bucket`. `bucket` must be the bucket of `hash`, and
+    /// hold fewer than 32 entries.
     #[inline(always)]
     pub(crate) fn push_last(&mut self, bucket: usize, hash: u64, entry: E)
         requires within { bucket < bucket_count self.old }
@@ -32,8 +33,8 @@ where
         self.length += 1;
     }
 
-    /// Puts an entry whose key is new at the end of the list of its bucket. Where that holds 32, its first one goes and
-    /// is answered. It takes no memory.
+    /// Puts `entry`, whose key is new, at the end of the list of `bucket`. If the bucket holds 32 entries, first takes
+    /// its first entry out, and returns it. `bucket` must be the bucket of `hash`. Allocates nothing.
     #[inline(always)]
     pub fn put_last(&mut self, bucket: usize, hash: u64, entry: E) -> Option<E>
         requires within { bucket < bucket_count self.old }
@@ -55,7 +56,8 @@ where
         Some(first)
     }
 
-    /// Moves the entry to the end of the list of its bucket, the one of the hash, unless it stands there.
+    /// Moves the entry at `slot` to the end of the list of `bucket`, unless it is the last there. `hash` must be the
+    /// hash of its key.
     #[inline(always)]
     pub fn touch(&mut self, bucket: usize, slot: usize, hash: u64)
         requires within { bucket < bucket_count self.old }

@@ -1,4 +1,4 @@
-//! How buckets are made that hold clones of others' entries.
+//! Copies of buckets, which hold clones of the entries.
 ghost use Rattle.scc_array.specs.Shelf.{shelf_entries};
 ghost use Rattle.scc_array.specs.Shelves.{shelf_of};
 ghost use Rattle.scc_contents.specs.Clones.{AddsClones, HasClones};
@@ -16,8 +16,9 @@ impl<E: Keyed, H: BuildHasher> Buckets<E, H>
 where
     E::Key: Eq + Hash,
 {
-    /// Buckets with clones of all entries under a clone of the hasher. They are as many, and their slots are
-    /// those that it was asked for. It is refused for want of memory, and where a clone can't be had or equals another.
+    /// Makes buckets with clones of all entries, under a clone of the hasher. The copy has the same number of buckets
+    /// as `self`, and all its slots count as asked for. Fails if memory is refused, if a clone fails, and if the clones
+    /// of two keys are equal.
     pub fn try_clone(&self) -> Result<Buckets<E, H>, MakeError>
     where
         E: Clone,
@@ -34,7 +35,8 @@ where
         Ok(copy)
     }
 
-    /// As many empty buckets, which skip as many bits, under that hasher.
+    /// Makes empty buckets under `hasher`, in the number of those of `self`. They skip the same number of bits as
+    /// `self`.
     pub(crate) fn fresh_like(&self, hasher: H) -> Result<Buckets<E, H>, MakeError>
     where
         H: Drop,
@@ -71,7 +73,7 @@ where
         }
     }
 
-    /// Puts in a clone of each entry of the other buckets, with no resize.
+    /// Inserts a clone of each entry of `other`, without a resize.
     pub fn insert_clones_of(&mut self, other: &Buckets<E, H>) -> Result<(), MakeError>
     where
         E: Clone,
@@ -84,7 +86,7 @@ where
         Ok(())
     }
 
-    /// Puts in a clone of each entry of that bucket, with no resize.
+    /// Inserts a clone of each entry of the bucket `bucket` of `array`, without a resize.
     pub fn insert_clones(&mut self, array: &Array<E>, bucket: usize) -> Result<(), MakeError>
     where
         E: Clone,
@@ -98,8 +100,8 @@ where
         Ok(())
     }
 
-    /// Puts in a clone of the entry, with no resize. It is refused for want of memory, and where there is no array or
-    /// the clone's key is there.
+    /// Inserts a clone of `source`, without a resize. Fails if memory is refused, if the clone fails, if there is no
+    /// array, and if the key of the clone is present.
     fn insert_clone(&mut self, source: &E) -> Result<(), MakeError>
     where
         E: Clone,

@@ -1,4 +1,4 @@
-//! How entries get into buckets, also those that are made when they are put in.
+//! Insertions into buckets: of an entry, and of an entry that the insertion makes of its parts.
 ghost use Rattle.scc_buckets.specs.Insertions.{InsertsInBucket, InsertsMadeInBucket, InsertsMadeInFirstArray};
 ghost use Rattle.scc_contents.specs.Contents.{entries, bucket_count, settings_of, key_hash};
 ghost use Rattle.scc_contents.specs.Routing.{bucket_number};
@@ -10,10 +10,10 @@ use crate::place::{Place, tag};
 use scc_common::{Keyed, Made};
 use std::hash::{BuildHasher, Hash};
 
-/// How many entries may lie in the overflow lists of all buckets: fewer than this.
+/// The number of entries in the overflow lists of all buckets is always less than this.
 pub const OVERFLOW_LIMIT: usize = 1 << 62;
 
-/// 1 where it holds, else 0.
+/// Returns 1 if `holds`, or else 0.
 #[inline(always)]
 pub(crate) fn one_if(holds: bool) -> usize
     ensures yes { IsTrue holds → result ≡ 1 }
@@ -22,7 +22,7 @@ pub(crate) fn one_if(holds: bool) -> usize
     if holds { 1 } else { 0 }
 }
 
-/// Whether so many entries in overflow lists are the most that there may be.
+/// Returns whether the overflow lists hold the most entries allowed, if they hold `overflowing`.
 #[inline(always)]
 pub(crate) fn is_overflow_full(overflowing: usize) -> bool
     ensures full { IsTrue result → 2 ^ 62 - 1 ≤ overflowing }
@@ -35,8 +35,8 @@ impl<E: Keyed, H: BuildHasher> Buckets<E, H>
 where
     E::Key: Eq + Hash,
 {
-    /// Puts in an entry whose key is new, into that bucket, the one of the hash, and answers its place. The entry is
-    /// handed back where the bucket is full and the overflow list can't grow.
+    /// Inserts `entry`, whose key is new, into `bucket`, and returns its place. `bucket` must be the bucket of `hash`.
+    /// Fails if the bucket is full and the overflow list can't grow; then `entry` is handed back.
     #[inline(always)]
     pub fn insert_in(&mut self, bucket: usize, hash: u64, entry: E) -> Result<Place, E>
         requires within { bucket < bucket_count self.old }
@@ -64,9 +64,9 @@ impl<E: Keyed + Made, H: BuildHasher> Buckets<E, H>
 where
     E::Key: Eq + Hash,
 {
-    /// Puts in an entry of the parts, whose key is new, where there is no array, and answers its place. The array is
-    /// made, of the size of the minimum. The parts are handed back, and nothing changed, where memory for it is refused
-    /// and where the entry can't be made.
+    /// Makes the first array, with the size of the minimum, and inserts an entry made of `parts`, whose key is new.
+    /// Returns its place. Fails if memory for the array is refused or the entry can't be made; then `parts` are handed
+    /// back, and nothing changes.
     #[cold]
     pub fn insert_made_first(&mut self, hash: u64, parts: E::Parts) -> Result<Place, E::Parts>
         requires none { bucket_count self.old ≡ 0 }
@@ -89,9 +89,9 @@ where
         }
     }
 
-    /// Puts in an entry of the parts, whose key is new, into that bucket, the one of the hash, and answers its place.
-    /// The parts are handed back where the bucket is full and the overflow list can't grow, and where the entry can't
-    /// be made.
+    /// Inserts an entry made of `parts`, whose key is new, into `bucket`, and returns its place. `bucket` must be the
+    /// bucket of `hash`. Fails if the bucket is full and the overflow list can't grow, or if the entry can't be made;
+    /// then `parts` are handed back.
     #[inline(always)]
     pub fn insert_made_in(
         &mut self,

@@ -1,5 +1,5 @@
-//! The buckets of one array, 32 tagged slots and an overflow list each, found by the bits of a key's hash. A table has
-//! one of them, or two while entries move from one to the other.
+//! `Buckets`: the buckets of one array, with 32 slots with a tag and an overflow list each, found by the bits of a
+//! hash. A table has one `Buckets`, or two while entries move from one to the other.
 #![tactic(auto)]
 
 ghost use Rattle.scc_array.specs.Shelf.{shelf_entries};
@@ -28,7 +28,7 @@ use scc_common::Keyed;
 use std::hash::{BuildHasher, Hash};
 use std::marker::Model;
 
-/// Entries with distinct keys, in buckets. A container sees the list of each bucket, the number of buckets and the
+/// Entries with distinct keys, in buckets. A contract sees the list of each bucket, the number of buckets and the
 /// settings, by the words of `scc_contents`.
 #[derive(Drop)]
 pub struct Buckets<E: Keyed, H: BuildHasher>
@@ -79,7 +79,7 @@ impl<E: Keyed, H: BuildHasher> Buckets<E, H>
 where
     E::Key: Eq + Hash,
 {
-    /// The number of entries.
+    /// Returns the number of entries.
     #[inline(always)]
     pub fn len(&self) -> usize
         ensures len { result ≡ length (entries self.now) }
@@ -89,7 +89,7 @@ where
         self.length
     }
 
-    /// How many entries lie in overflow lists.
+    /// Returns the number of entries in overflow lists.
     #[inline(always)]
     pub fn overflow_len(&self) -> usize
         ensures value { result ≡ overflow_of self.now }
@@ -98,7 +98,7 @@ where
         self.overflowing
     }
 
-    /// The number of buckets, 0 where there is no array.
+    /// Returns the number of buckets, 0 if there is no array.
     #[inline(always)]
     pub fn bucket_count(&self) -> usize
         ensures count { result ≡ bucket_count self.now }
@@ -108,7 +108,7 @@ where
         self.buckets.len()
     }
 
-    /// Whether memory was refused for the last resize that was due.
+    /// Returns whether memory was refused for the last resize that was due.
     #[inline(always)]
     pub fn is_resize_refused(&self) -> bool
         ensures { result ≡ (refused_of self.now).0 }
@@ -116,7 +116,7 @@ where
         self.refused
     }
 
-    /// The hash of a key under the buckets' hasher.
+    /// Returns the hash of `key` under the hasher of the buckets.
     #[inline(always)]
     pub fn hash(&self, key: &E::Key) -> u64
         ensures { result ≡ key_hash H.BuildHasher H.Hasher.Hasher E.Key.hash_input self.now key.now }
@@ -124,7 +124,7 @@ where
         self.hasher.hash_one(key)
     }
 
-    /// The number of the bucket of a key, 0 where there is no array.
+    /// Returns the number of the bucket of `key`, 0 if there is no array.
     pub fn bucket_index(&self, key: &E::Key) -> usize
         ensures { result ≡ bucket_of (key_hash H.BuildHasher H.Hasher.Hasher E.Key.hash_input self.now) self.now
             key.now }
@@ -132,7 +132,7 @@ where
         bucket_index(self.hash(key), self.skipped, self.buckets.len())
     }
 
-    /// Where the entry with that key stands. `hash` is the key's hash.
+    /// Returns the place of the entry whose key equals `key`, or `None`. `hash` must be the hash of `key`.
     #[inline(always)]
     pub fn search(&self, hash: u64, key: &E::Key) -> Option<Place>
         requires { hash ≡ key_hash H.BuildHasher H.Hasher.Hasher E.Key.hash_input self.now key.now }
@@ -151,7 +151,7 @@ where
         }
     }
 
-    /// The buckets, to look at.
+    /// Returns the array, to read.
     #[inline(always)]
     pub(crate) fn array(&self) -> &Array<E>
         ensures all { entries self.now ≡ flat_map shelf_entries result.now }

@@ -1,4 +1,4 @@
-//! Searches that lend an entry or answer its slot, and reads.
+//! Searches that return the entry or its slot, and reads.
 ghost use Rattle.scc_buckets.specs.Bounded.{IsBounded, IsListed, IsListedAtSpot, IsUnlisted};
 ghost use Rattle.scc_buckets.specs.Places.{IsSpot};
 ghost use Rattle.scc_contents.specs.Contents.{entries, key_hash, bucket_count, list_of, settings_of, IsUniqueBy, IsRouted};
@@ -16,7 +16,7 @@ impl<E: Keyed, H: BuildHasher> Buckets<E, H>
 where
     E::Key: Eq + Hash,
 {
-    /// The entry with that key. `hash` is the key's hash.
+    /// Returns the entry whose key equals `key`, or `None`. `hash` must be the hash of `key`.
     #[inline(always)]
     pub fn find(&self, hash: u64, key: &E::Key) -> Option<&E>
         requires { hash ≡ key_hash H.BuildHasher H.Hasher.Hasher E.Key.hash_input self.now key.now }
@@ -30,7 +30,8 @@ where
         self.buckets.find(bucket, key, tag(hash))
     }
 
-    /// The entry with that key. Where `hint` is the key's hash and the entry is there, the key isn't hashed.
+    /// Returns the entry whose key equals `key`, or `None`. `hint` may be any hash: if it is the hash of `key` and the
+    /// entry is present, `key` isn't hashed.
     #[inline(always)]
     pub fn find_by_hint(&self, hint: u64, key: &E::Key) -> Option<&E>
         ensures { option_copied result ≡ find (λ e. E.Key.eq key.now (E.key_of e)) (entries self.now) }
@@ -47,7 +48,7 @@ where
         }
     }
 
-    /// The entry with that key, whose hash wasn't the hint.
+    /// As `find`, for a key whose hash wasn't the hint.
     #[cold]
     fn find_anew(&self, hash: u64, key: &E::Key) -> Option<&E>
         requires { hash ≡ key_hash H.BuildHasher H.Hasher.Hasher E.Key.hash_input self.now key.now }
@@ -56,8 +57,8 @@ where
         self.find(hash, key)
     }
 
-    /// The entry with that key in the bucket of the hint. Where the answer is None and the hint is the key's hash, there
-    /// is none.
+    /// Searches the bucket of `hint` for the entry whose key equals `key`. If the result is `None` and `hint` is the
+    /// hash of `key`, there is no such entry.
     #[inline(always)]
     fn find_hinted(&self, hint: u64, key: &E::Key) -> Option<&E>
         ensures { MatchOption result (hint ≡ key_hash H.BuildHasher H.Hasher.Hasher E.Key.hash_input self.now key.now
@@ -75,7 +76,8 @@ where
         }
     }
 
-    /// The place in the list of the bucket, the one of the hash, of the entry with that key.
+    /// Returns the slot of the entry of `bucket` whose key equals `key`, or `None`. `bucket` must be the bucket of
+    /// `hash`, and `hash` the hash of `key`.
     #[inline(always)]
     pub fn search_in(&self, bucket: usize, hash: u64, key: &E::Key) -> Option<usize>
         requires within { bucket < bucket_count self.now }
@@ -87,7 +89,7 @@ where
         self.buckets.search(bucket, key, tag(hash))
     }
 
-    /// Where the entry with that key stands in the list of its bucket. `hash` is the key's hash.
+    /// As `search`, but the contract speaks of the list of the bucket. `hash` must be the hash of `key`.
     #[inline(always)]
     pub fn search_place(&self, hash: u64, key: &E::Key) -> Option<Place>
         requires { hash ≡ key_hash H.BuildHasher H.Hasher.Hasher E.Key.hash_input self.now key.now }
@@ -106,7 +108,8 @@ where
         }
     }
 
-    /// What the buckets keep of their lists at any time. It does nothing, and is there for its contract.
+    /// States what always holds of the lists: each entry stands in the bucket of its hash, and no two keys are equal.
+    /// It does nothing, and is there for its contract.
     #[inline(always)]
     pub fn list_facts(&self)
         ensures routed { IsRouted (λ e. key_hash H.BuildHasher H.Hasher.Hasher E.Key.hash_input self.now (E.key_of e))
@@ -118,7 +121,7 @@ where
         let _ = self.buckets.len();
     }
 
-    /// The entry at the place, seen in the list of its bucket.
+    /// Returns the entry at `place`. The contract speaks of the list of the bucket.
     #[inline(always)]
     pub fn entry_in(&self, place: Place) -> &E
         requires { IsSpot self.now place }
@@ -127,7 +130,7 @@ where
         self.buckets.entry_at(place.bucket, place.slot)
     }
 
-    /// How many entries the bucket holds.
+    /// Returns the number of entries of `bucket`.
     #[inline(always)]
     pub fn list_len(&self, bucket: usize) -> usize
         requires { bucket < bucket_count self.now }
@@ -136,7 +139,7 @@ where
         self.buckets.bucket_len(bucket)
     }
 
-    /// The number of the bucket of a hash, 0 where there is no array.
+    /// Returns the number of the bucket of `hash`, 0 if there is no array.
     #[inline(always)]
     pub fn bucket_at(&self, hash: u64) -> usize
         ensures value { result ≡ bucket_number (settings_of self.now).skipped (bucket_count self.now) hash }

@@ -1,4 +1,4 @@
-//! How buckets and their array are made, and another array in the place of the present one.
+//! Making buckets and their array, and replacing the array by another.
 ghost use Rattle.scc_array.specs.Shelf.{shelf_entries};
 ghost use Rattle.scc_buckets.specs.Making.{AreNewBuckets, MakesBuckets, InstallsFirstArray, InstallsBuckets};
 ghost use Rattle.scc_buckets.specs.Tables.{AllEmpty, IsBuckets};
@@ -17,13 +17,13 @@ impl<E: Keyed, H: BuildHasher> Buckets<E, H>
 where
     E::Key: Eq + Hash,
 {
-    /// What the buckets take their memory from.
+    /// Returns the allocator of the buckets.
     pub fn allocator(&self) -> Global {
         self.buckets.allocator()
     }
 
-    /// No buckets and no array, to skip so many bits of each hash. No resize of it was refused, and nothing
-    /// waits.
+    /// Makes buckets without an array, which skip `skipped` bits of each hash. No refused memory is noted, and no
+    /// bucket waits. Allocates nothing.
     pub fn new(alloc: Global, skipped: u32, hasher: H) -> Buckets<E, H>
         requires { skipped ≤ 4 }
         ensures { AreNewBuckets E.key_of (key_hash H.BuildHasher H.Hasher.Hasher E.Key.hash_input)
@@ -42,8 +42,8 @@ where
         }
     }
 
-    /// Empty buckets, an array of the size of so many slots, which are then the slots asked for; without an array
-    /// for 0. A size that can't be had is refused.
+    /// Makes empty buckets with an array of the size for `slots`, whose slots are the slots asked for. If `slots` is 0,
+    /// there is no array, and nothing is allocated. Fails if memory is refused.
     pub fn with_capacity(
         alloc: Global,
         skipped: u32,
@@ -76,7 +76,7 @@ where
         }
     }
 
-    /// Makes the first array, of the size of the minimum.
+    /// Makes the first array, with the size of the minimum.
     pub fn install_first(&mut self) -> Result<(), AllocError>
         requires { bucket_count self.old ≡ 0 }
         ensures { InstallsFirstArray (λ e. key_hash H.BuildHasher H.Hasher.Hasher E.Key.hash_input self.old (E.key_of e))
@@ -90,7 +90,7 @@ where
         Ok(())
     }
 
-    /// Gives the array back, in which no entry lies.
+    /// Releases the array, which must hold no entry.
     pub(crate) fn drop_array(&mut self)
         requires { entries self.old ≡ [] }
         ensures still { entries self.new ≡ [] }
@@ -105,8 +105,8 @@ where
         old.destroy_empty();
     }
 
-    /// Puts other buckets, with so many entries and so many of them in overflow lists, in the place of those here,
-    /// and answers those with their two numbers. Neither array is looked at.
+    /// Replaces the array by `buckets`, which must hold `count` entries, `overflowing` of them in overflow lists.
+    /// Returns the replaced array with its two numbers. Reads no entry.
     pub fn install(
         &mut self,
         buckets: Array<E>,
@@ -128,7 +128,7 @@ where
     }
 }
 
-/// So many empty buckets.
+/// Makes an array of `count` empty buckets.
 pub(crate) fn fresh_buckets<E>(alloc: Global, count: usize) -> Result<Array<E>, AllocError>
     requires { count ≤ 2 ^ 58 }
     ensures count { IfOk result (λ a. length a ≡ count) }

@@ -1,15 +1,16 @@
-//! A place, and from a hash to its bucket and its tag.
+//! `Place`, and the bucket and the tag of a hash.
 ghost use Rattle.scc_contents.specs.Routing.{bucket_number, tag_of};
 ghost use Rattle.std.specs.Prelude.{◌≡◌, ◌<◌};
 
-/// The number of a bucket, and that of an entry in its list. It holds until the container changes that handed it out.
+/// The number of a bucket, and the slot of an entry in the bucket. A place is valid until the container that returned
+/// it changes.
 #[derive(Clone, Copy, Debug, PartialEq)]
 pub struct Place {
     pub bucket: usize,
     pub slot: usize,
 }
 
-/// The bucket of a hash: the number that its first bits after the skipped ones write.
+/// Returns the bucket of `hash`: the number that its first bits after the skipped bits write.
 #[inline(always)]
 pub fn bucket_index(hash: u64, skipped: u32, buckets: usize) -> usize
     requires { skipped < 64 }
@@ -20,7 +21,7 @@ pub fn bucket_index(hash: u64, skipped: u32, buckets: usize) -> usize
     ((rest as u128 * buckets as u128) >> 64) as usize
 }
 
-/// The tag of a slot in use, which is never 0.
+/// Returns the tag of an entry with the hash `hash`, which is never 0.
 #[inline(always)]
 pub fn tag(hash: u64) -> u8
     ensures { result ≡ tag_of hash }

@@ -1,4 +1,4 @@
-//! How entries get out of buckets.
+//! Removals of entries from buckets.
 ghost use Rattle.scc_buckets.specs.Places.{IsSpot};
 ghost use Rattle.scc_buckets.specs.Removals.{TakesAtSpot, SwapsOutAtSpot};
 ghost use Rattle.scc_buckets.specs.Takes.{TakesFirstSpot};
@@ -15,8 +15,8 @@ impl<E: Keyed, H: BuildHasher> Buckets<E, H>
 where
     E::Key: Eq + Hash,
 {
-    /// Takes the entry out of its place: the others stay in their order, and the one after it has as many before it as
-    /// it had.
+    /// Takes the entry at `place` out, and returns it. The other entries keep their order, and the number of entries
+    /// before `place` stays.
     pub fn take_in(&mut self, place: Place) -> E
         requires { IsSpot self.old place }
         ensures { TakesAtSpot E.Key.eq E.key_of self.old place result self.new }
@@ -28,8 +28,8 @@ where
         entry
     }
 
-    /// Takes the entry out of its place. The last entry of its bucket's slots, or of its overflow list, may take its
-    /// place.
+    /// Takes the entry at `place` out, and returns it. The last entry of the slots of its bucket, or of the overflow
+    /// list, may move into its slot.
     #[inline(always)]
     pub fn swap_take_at(&mut self, place: Place) -> E
         requires { IsSpot self.old place }
@@ -42,8 +42,8 @@ where
         entry
     }
 
-    /// Takes out the entry with that key, and answers it; None where there is no such entry. The last entry of its
-    /// bucket's slots, or of its overflow list, may take its place. `hash` is the key's hash.
+    /// Takes out the entry whose key equals `key`, and returns it, or `None` if there is no such entry. The last entry
+    /// of the slots of its bucket, or of the overflow list, may move into its slot. `hash` must be the hash of `key`.
     #[inline(always)]
     pub fn take_first(&mut self, hash: u64, key: &E::Key) -> Option<E>
         requires { hash ≡ key_hash H.BuildHasher H.Hasher.Hasher E.Key.hash_input self.old key.now }

@@ -1,4 +1,4 @@
-//! How large an array is, how many slots are kept at least, and the note of a resize that was refused.
+//! The sizes of an array, the minimum, and the note and the mark of a resize whose memory was refused.
 ghost use Rattle.scc_buckets.specs.Making.{SetsReservedSlots};
 ghost use Rattle.scc_contents.specs.Contents.{settings_of, refused_of, minimum_of, lists_of, overflow_of, IsUniqueBy};
 ghost use Rattle.scc_contents.specs.Sizes.{IsBucketCount, IsArraySize};
@@ -15,8 +15,8 @@ pub const GREATEST_CAPACITY: usize = 1 << 63;
 /// The greatest number of buckets, of 32 slots each.
 pub const MOST_BUCKETS: usize = 1 << 58;
 
-/// The array size of so many slots: the least power of two that is at least that many and at least 64, cut at the
-/// greatest capacity.
+/// Returns the size of an array for `slots`: the least power of two that is at least `slots` and at least 64, or the
+/// greatest capacity if that is less.
 pub fn slots_for(slots: usize) -> usize
     ensures { IsArraySize slots result }
 {
@@ -29,7 +29,7 @@ pub fn slots_for(slots: usize) -> usize
     }
 }
 
-/// The buckets of that array, of 32 slots each.
+/// Returns the number of buckets, of 32 slots each, of an array for `slots`.
 pub fn buckets_for(slots: usize) -> usize
     ensures array { IsBucketCount result }
     ensures size { IsArraySize slots (32 * result) }
@@ -41,7 +41,7 @@ impl<E: Keyed, H: BuildHasher> Buckets<E, H>
 where
     E::Key: Eq + Hash,
 {
-    /// The slots that the array keeps at least: those asked for at making, and those reserved.
+    /// Returns the minimum: the slots asked for at making, and the slots reserved.
     #[inline(always)]
     pub fn minimum(&self) -> usize
         ensures value { result ≡ minimum_of self.now }
@@ -51,7 +51,7 @@ where
         self.asked + self.reserved
     }
 
-    /// The slots reserved and not given back.
+    /// Returns the number of slots that are reserved.
     #[inline(always)]
     pub fn reserved(&self) -> usize
         ensures value { result ≡ (settings_of self.now).reserved }
@@ -61,7 +61,7 @@ where
         self.reserved
     }
 
-    /// Sets the note of refused memory alone.
+    /// Sets the note of refused memory to `refused`, and takes the mark away.
     pub fn note(&mut self, refused: bool)
         ensures unchanged { IsUnchanged self.old self.new }
         ensures lists { lists_of self.new ≡ lists_of self.old }
@@ -73,7 +73,8 @@ where
         self.marked = false;
     }
 
-    /// Whether the next insertion is not to try the growth that is due: it was refused just before.
+    /// Returns whether the growth is marked: memory for it was refused just before, and the next insertion doesn't try
+    /// it.
     #[inline(always)]
     pub fn is_marked(&self) -> bool
         ensures { result ≡ (refused_of self.now).1 }
@@ -81,7 +82,7 @@ where
         self.marked
     }
 
-    /// Notes that memory was refused, and whether the next insertion is not to try the growth again.
+    /// Sets the note of refused memory, and the mark, which says that the next insertion doesn't try the growth.
     pub fn mark(&mut self, refused: bool, marked: bool)
         ensures unchanged { IsUnchanged self.old self.new }
         ensures lists { lists_of self.new ≡ lists_of self.old }
@@ -93,7 +94,7 @@ where
         self.marked = marked;
     }
 
-    /// Sets the number of reserved slots alone.
+    /// Sets the number of reserved slots.
     pub fn set_reserved(&mut self, reserved: usize)
         requires { (settings_of self.old).asked + reserved ≤ 2 ^ 63 }
         ensures { SetsReservedSlots reserved self.old self.new }

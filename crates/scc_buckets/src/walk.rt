@@ -1,4 +1,4 @@
-//! Walks over pairs, which lend a key and a value to a closure.
+//! Walks over pairs and versions.
 
 pub mod pairs;
 pub mod versions;

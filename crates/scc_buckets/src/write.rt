@@ -1,4 +1,4 @@
-//! Writes into the entries of buckets. No write changes a place, and none takes memory.
+//! Writes to the entries of buckets. No write changes a place, and none allocates.
 ghost use Rattle.scc_array.specs.ShelfWrites.{put_whole};
 ghost use Rattle.scc_buckets.specs.LendsBuckets.{lends_value};
 ghost use Rattle.scc_buckets.specs.Places.{IsSpot, index_of_spot};
@@ -18,7 +18,7 @@ impl<E: Keyed, H: BuildHasher> Buckets<E, H>
 where
     E::Key: Eq + Hash,
 {
-    /// Puts the entry in the place of the one there, whose key it equals, and answers that one.
+    /// Replaces the entry at `place` by `entry`, and returns the old entry. The two keys must be equal.
     pub fn replace_at(&mut self, place: Place, entry: E) -> E
         requires within { IsSpot self.old place }
         requires same { (e : E) → slice_get (entries self.old) (index_of_spot self.old place) ≡ Some e
@@ -34,8 +34,8 @@ impl<E: Valued, H: BuildHasher> Buckets<E, H>
 where
     E::Key: Eq + Hash,
 {
-    /// Lends the key of the entry with that key to `u`, and its value to write, and answers what `u` answered; None
-    /// where there is no such entry. `hash` is the key's hash.
+    /// Calls `u` with the key and the value of the entry whose key equals `key`, and returns the result of `u`. `u` may
+    /// write to the value. Returns `None` if there is no such entry. `hash` must be the hash of `key`.
     #[inline(always)]
     pub fn update<R, U: FnOnce(&E::Key, &mut E::Value) -> R>(
         &mut self,
@@ -58,7 +58,7 @@ where
         self.buckets.update(bucket, key, tag(hash), u)
     }
 
-    /// The key of the entry at the place, and its value to write.
+    /// Returns the key of the entry at `place`, and its value to write to.
     #[inline(always)]
     pub fn parts_mut_at(&mut self, place: Place) -> (&E::Key, &mut E::Value)
         requires { IsSpot self.old place }
@@ -70,7 +70,7 @@ where
         self.buckets.parts_mut_at(place.bucket, place.slot)
     }
 
-    /// Puts the key in the place of the one there, which it equals, and answers that one.
+    /// Replaces the key of the entry at `place` by `key`, and returns the old key. The two keys must be equal.
     pub fn replace_key_at(&mut self, place: Place, key: E::Key) -> E::Key
         requires within { IsSpot self.old place }
         requires same { (e : E) → slice_get (entries self.old) (index_of_spot self.old place) ≡ Some e

@@ -1,10 +1,10 @@
-//! What an entry of a table is: it has a key, may have a value beside it, and may be made of the two.
+//! The entries of a table: an entry has a key (`Keyed`), may have a value (`Valued`), and may be made of the two (`Made`).
 ghost use Rattle.std.specs.Borrow.{sem, Lends};
 ghost use Rattle.std.specs.Prelude.{◌≡◌, IfOk, IfErr};
 
 use std::alloc::Global;
 
-/// An entry of a table: what it is found by.
+/// An entry of a table, which is found by its key.
 pub trait Keyed {
     type Key;
 
@@ -25,16 +25,16 @@ impl<K, V> Keyed for (K, V) {
     }
 }
 
-/// An entry with a value beside its key.
+/// An entry with a key and a value.
 pub trait Valued: Keyed {
     type Value;
 
     ghost value_of: { Self → Self.Value };
 
-    // The entry with that value.
+    // The entry with its value replaced.
     ghost with_value: { Self → Self.Value → Self };
 
-    // The entry with that key.
+    // The entry with its key replaced.
     ghost with_key: { Self → Self.Key → Self };
 
     fn parts_mut(&mut self) -> (&Self::Key, &mut Self::Value)
@@ -77,7 +77,7 @@ impl<K, V> Valued for (K, V) {
     ghost key_is = { λ e k. refl };
 }
 
-/// An entry that is made of parts, in memory that may be refused.
+/// An entry that is made of parts, which fails if memory is refused.
 pub trait Made: Sized {
     type Parts;
 

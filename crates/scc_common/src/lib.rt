@@ -1,5 +1,4 @@
-//! What all containers share: errors, verdicts, what an entry is, what holds a container for writing, and what several
-//! owners share.
+//! What all containers share: errors, verdicts, entries, guards, and hashers with several owners.
 #![tactic(auto)]
 
 pub mod entry;

@@ -1,4 +1,4 @@
-//! A hasher that several containers share.
+//! `Shared`: a hasher that several containers share.
 ghost use Rattle.std.specs.Prelude.{◌≡◌, IfOk};
 ghost use Rattle.std.specs.Arc.{arc_value};
 
@@ -7,8 +7,8 @@ use std::hash::BuildHasher;
 use std::marker::Model;
 use std::sync::Arc;
 
-/// One of several owners of a hasher. Containers that are made with owners of one hasher hash alike, and no clone of
-/// the hasher is asked for. A contract sees the hasher itself.
+/// One of several owners of a hasher. Containers made with owners of one hasher hash alike, and the hasher needn't be
+/// cloned. A contract sees the hasher itself.
 #[derive(Drop)]
 pub struct Shared<H> {
     owner: Arc<H>,
@@ -25,7 +25,7 @@ impl<H> Model for Shared<H> {
 }
 
 impl<H> Shared<H> {
-    /// An owner of the hasher.
+    /// Makes a `Shared` of an owner of the hasher.
     pub fn new(owner: Arc<H>) -> Shared<H>
         ensures { result ≡ arc_value owner }
     {
@@ -33,15 +33,15 @@ impl<H> Shared<H> {
     }
 }
 
-/// What can be handed out once more, the same.
+/// A value that can be handed out once more, unchanged.
 pub trait CloneOwner: Sized {
-    /// The same once more.
+    /// Returns the value once more.
     fn clone_owner(&self) -> Result<Self, AllocError>
         ensures { IfOk result (λ s. s ≡ self.now) };
 }
 
 impl<H> CloneOwner for Shared<H> {
-    /// One more owner of the same hasher. It is refused where there are 2^63 - 1 of them.
+    /// Returns one more owner of the hasher. Fails if there are 2^63 - 1 owners.
     fn clone_owner(&self) -> Result<Shared<H>, AllocError> {
         Ok(Shared {
             owner: Arc::try_clone(&self.owner)?,

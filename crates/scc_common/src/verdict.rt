@@ -1,7 +1,6 @@
-//! What a walk that may write is told.
+//! `Verdict`: what a closure tells a walk that may take entries out.
 
-/// What becomes of a visited entry, and whether the walk goes on. It stands for the original's entry that consumes
-/// itself.
+/// What becomes of a visited entry, and whether the walk goes on.
 #[derive(Clone, Copy, Debug, PartialEq)]
 pub enum Verdict {
     /// The entry stays, and the walk goes on.

@@ -1,4 +1,4 @@
-//! A pair that several owners share, and that never changes.
+//! `Version`: a pair that several owners share, and that never changes.
 ghost use Rattle.std.specs.Prelude.{◌≡◌, IfOk, IfErr};
 ghost use Rattle.std.specs.Arc.{arc_value};
 
@@ -7,7 +7,7 @@ use std::alloc::{AllocError, Global};
 use std::marker::Model;
 use std::sync::Arc;
 
-/// A key and a value that stay what they were made of. A contract sees the pair of them.
+/// A key and a value that never change. A contract sees the pair of them.
 #[derive(Drop)]
 pub struct Version<K, V> {
     key: K,
@@ -21,7 +21,7 @@ impl<K, V> Model for Version<K, V> {
 }
 
 impl<K, V> Version<K, V> {
-    /// A version of the key with that value.
+    /// Makes a version of `key` and `value`.
     #[inline(always)]
     pub fn new(key: K, value: V) -> Version<K, V>
         ensures { result ≡ (key, value) }
@@ -29,7 +29,7 @@ impl<K, V> Version<K, V> {
         Version { key, value }
     }
 
-    /// The key.
+    /// Returns the key.
     #[inline(always)]
     pub fn key(&self) -> &K
         ensures { result.now ≡ self.now.0 }
@@ -37,7 +37,7 @@ impl<K, V> Version<K, V> {
         &self.key
     }
 
-    /// The value.
+    /// Returns the value.
     #[inline(always)]
     pub fn value(&self) -> &V
         ensures { result.now ≡ self.now.1 }
@@ -45,7 +45,7 @@ impl<K, V> Version<K, V> {
         &self.value
     }
 
-    /// The key and the value, out of a version that no one shares.
+    /// Returns the key and the value of a version that has no other owner.
     #[inline(always)]
     pub(crate) fn into_pair(self) -> (K, V)
         ensures { result ≡ self }
@@ -55,8 +55,8 @@ impl<K, V> Version<K, V> {
     }
 }
 
-/// One of the owners of a version, as the entry of a table. A contract sees the version's pair, and so does the table:
-/// two owners of one version are alike.
+/// One of the owners of a version, as the entry of a table. A contract sees the pair of the version, and doesn't tell
+/// two owners of one version apart.
 #[derive(Drop)]
 pub struct SharedVersion<K, V> {
     owner: Arc<Version<K, V>>,
@@ -75,7 +75,7 @@ impl<K, V> Model for SharedVersion<K, V> {
 }
 
 impl<K, V> SharedVersion<K, V> {
-    /// The version.
+    /// Returns the version.
     #[inline(always)]
     pub fn version(&self) -> &Version<K, V>
         ensures { result.now ≡ self.now }
@@ -83,7 +83,7 @@ impl<K, V> SharedVersion<K, V> {
         &self.owner
     }
 
-    /// One more owner of the version. It is refused where there are 2^63 - 1 of them.
+    /// Returns one more owner of the version. Fails if there are 2^63 - 1 owners.
     #[inline(always)]
     pub fn clone_owner(&self) -> Result<Arc<Version<K, V>>, AllocError>
         ensures { IfOk result (λ a. arc_value a ≡ self.now) }
@@ -108,7 +108,7 @@ impl<K, V> Made for SharedVersion<K, V> {
 
     ghost made_of = { λ p. p };
 
-    /// The first owner of a version of the pair, which takes one allocation.
+    /// Makes a version of the pair, and returns its first owner. Takes one allocation.
     #[inline(always)]
     fn make(alloc: Global, parts: (K, V)) -> Result<SharedVersion<K, V>, (K, V)> {
         let (key, value) = parts;
@@ -122,7 +122,7 @@ impl<K, V> Made for SharedVersion<K, V> {
 impl<K: Clone, V: Clone> Clone for SharedVersion<K, V> {
     ghost is_clone = { λ p q. K.is_clone p.0 q.0 × V.is_clone p.1 q.1 };
 
-    /// The owner of a new version, of clones of the key and the value.
+    /// Makes a new version of clones of the key and the value, and returns its owner.
     fn clone(&self) -> Result<SharedVersion<K, V>, AllocError> {
         let version = self.version();
         let key = version.key().clone()?;

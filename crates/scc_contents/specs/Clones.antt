@@ -5,7 +5,7 @@ use Rattle.std.specs.List.Sorted.{IsPermutation}
 use Rattle.scc_contents.specs.Contents.{Contents, entries, bucket_count, refused_of, settings_of}
 
 module _ {E S : Type 0} where
-  -- clones of the sources, by C, were added to the entries of c, and nothing else changed
+  -- clones of the sources, by C, are added to the entries of c, and nothing else changes
   pub record AddsClones (C : E → E → Type 0) (sources : List E) (c d : Contents E S) : Type 0 where
     pub copies : List E
     pub cloned : AllZip C sources copies
@@ -14,7 +14,8 @@ module _ {E S : Type 0} where
     pub settings : settings_of d ≡ settings_of c
     pub noted : refused_of d ≡ refused_of c
 
-  -- d has a clone of each entry of c, by C, in some order, and of its hasher, by B. It has as many buckets, whose slots are those asked for, skips as many bits, and has nothing reserved
+  -- d has a clone of each entry of c, by C, in some order, and a clone of its hasher, by B; d has the number of buckets
+  -- and the skipped bits of c, all its slots are asked for, and none are reserved
   pub record HasClones (C : E → E → Type 0) (B : S → S → Type 0) (c d : Contents E S) : Type 0 where
     pub copies : List E
     pub cloned : AllZip C (entries c) copies

@@ -1,4 +1,4 @@
--- What a table holds, and the words by which containers see it.
+-- What a table holds, and the words by which contracts see it.
 use Rattle.std.specs.Prelude.{◌≡◌, ℕ, Some, ◌+◌, ◌<◌, ◌==◌, Bool, List, [], length, map, count_by, refl}
 use Rattle.std.specs.Hash.{HashWrites}
 use Rattle.std.specs.List.{flat_map, IsDistinct, slice_get, slice_index_or}
@@ -8,14 +8,17 @@ use Rattle.std.specs.declared.hash.BuildHasher as builder
 use Rattle.scc_contents.specs.Hashing.{hash_of}
 use Rattle.scc_contents.specs.Routing.{bucket_number}
 
--- what is fixed at making, and what is reserved: the hasher, how many bits of a hash are skipped, the slots asked for, the slots reserved
+-- the hasher, the number of skipped bits of a hash, the slots asked for and the slots reserved; only the last changes
+-- after making
 pub record Settings (S : Type 0) : Type 0 where
   pub hasher : S
   pub skipped : ℕ
   pub asked : ℕ
   pub reserved : ℕ
 
--- the list of each bucket, the settings, whether the last resize that was due was refused and whether the next insertion is not to try it again, and how many entries lie in overflow lists; then of each bucket whether its entries wait in an old array, and of each bucket of that array the buckets that its entries belong to, in their order. No bucket is named in either where nothing waits
+-- the list of each bucket, the settings, the note and the mark, and how many entries stand in overflow lists; then a
+-- flag for each bucket, which says whether it waits, and for each old bucket the buckets that its entries belong to, in
+-- order. The last two are empty if no bucket waits
 pub record Contents (E S : Type 0) : Type 0 where
   pub lists : List (List E)
   pub settings : Settings S
@@ -33,23 +36,24 @@ contents_code {E} {S} e s =
     (λ _. refl)
 
 module _ {E S : Type 0} where
-  -- all entries: the buckets' lists joined, in the order of the buckets
+  -- all entries: the lists of the buckets, joined in the order of the buckets
   unfoldable pub entries : Contents E S → List E
   entries c = flat_map (λ l. l) c.lists
 
-  -- how many buckets the array has, 0 where there is none
+  -- the number of buckets of the array, 0 if there is none
   unfoldable pub bucket_count : Contents E S → ℕ
   bucket_count c = length c.lists
 
-  -- what is fixed, and what is reserved
+  -- the settings: the hasher, the skipped bits, the slots asked for and the slots reserved
   unfoldable pub settings_of : Contents E S → Settings S
   settings_of c = c.settings
 
-  -- whether memory was refused for the last resize that was due, and whether the next insertion is not to try it again
+  -- the note, which says that memory for the last resize that was due was refused, and the mark, which says that the
+  -- next insertion doesn't try the growth
   unfoldable pub refused_of : Contents E S → Bool × Bool
   refused_of c = c.refused
 
-  -- the entries of one bucket, in order
+  -- the entries of bucket i, in order
   unfoldable pub list_of : Contents E S → ℕ → List E
   list_of c i = slice_index_or c.lists i []
 
@@ -57,27 +61,28 @@ module _ {E S : Type 0} where
   unfoldable pub lists_of : Contents E S → List (List E)
   lists_of c = c.lists
 
-  -- how many entries lie in overflow lists
+  -- how many entries stand in overflow lists
   unfoldable pub overflow_of : Contents E S → ℕ
   overflow_of c = c.spilled
 
-  -- of each bucket whether its entries wait in an old array; empty where none does
+  -- a flag for each bucket, which says whether it waits; empty if none waits
   unfoldable pub waiting_of : Contents E S → List Bool
   waiting_of c = c.waiting
 
-  -- of each bucket of the old array the buckets that its entries belong to, in their order; empty where there is none
+  -- what the old array owes: for each old bucket the buckets that its entries belong to, in order; empty if there is no
+  -- old array
   unfoldable pub owed_of : Contents E S → List (List ℕ)
   owed_of c = c.owed
 
-  -- how many buckets still have their entries in an old array
+  -- how many buckets wait
   unfoldable pub pending_of : Contents E S → ℕ
   pending_of c = count_by (λ w. w) c.waiting
 
-  -- the slots that the array keeps at least: those asked for at making, and those reserved
+  -- the minimum: the slots asked for at making, and the slots reserved
   abbrev pub minimum_of : Contents E S → ℕ
   minimum_of c = (settings_of c).asked + (settings_of c).reserved
 
-  -- each entry stands in the list of the bucket that its hash names
+  -- each entry stands in the list of the bucket of its hash
   pub record IsRouted (hash : E → ℕ) (c : Contents E S) : Type 0 where
     pub routed : (i j : ℕ) (e : E) → slice_get (list_of c i) j ≡ Some e → bucket_number (settings_of c).skipped (bucket_count c) (hash e) ≡ i
 
@@ -86,20 +91,20 @@ module _ {E S : Type 0} where
   IsUniqueBy eq key c = IsDistinct eq (map key (entries c))
 
   module _ {T : Type 0} (build : builder.Ghosts S T) (feed : hasher.Ghosts T) {K : Type 0} (input : K → HashWrites) where
-    -- the hash of a key under the container's hasher
+    -- the hash of k under the hasher of c
     abbrev pub key_hash : Contents E S → K → ℕ
     key_hash c k = hash_of build feed (settings_of c).hasher (input k)
 
-  -- the hash of a key under the container's hasher, by what hashers of that type make of a key
+  -- the hash of k under the hasher of c, by `hash`, which gives the hash of a key under a hasher
   abbrev pub hash_in : {K : Type 0} → (S → K → ℕ) → Contents E S → K → ℕ
   hash_in hash c k = hash (settings_of c).hasher k
 
   module _ {K : Type 0} (hash : K → ℕ) where
-    -- the number of the bucket of a key
+    -- the number of the bucket of k
     abbrev pub bucket_of : Contents E S → K → ℕ
     bucket_of c k = bucket_number (settings_of c).skipped (bucket_count c) (hash k)
 
-    -- there is an array, and the bucket of that hash holds fewer than 32 entries
+    -- there is an array, and the bucket of the hash h holds fewer than 32 entries
     abbrev pub HasRoomAt : (E → K) → Contents E S → ℕ → Type 0
     HasRoomAt key c h = (0 < bucket_count c) × (count_by (λ e. bucket_of c (key e) == bucket_number (settings_of c).skipped (bucket_count c) h) (entries c) < 32)
 

@@ -1,4 +1,4 @@
--- Equality of two lists of pairs, by the look-ups of their keys, is symmetric and transitive.
+-- Equality of two lists of pairs, by the look-ups of their keys, is symmetric, transitive and reflexive.
 use Rattle.std.proofs.Common.{◌≡◌, Bool, true, false, cond, ◌&&◌, List, [], ◌∷◌, Option, None, Some, is_some, refl, sym, ap, subst, ◌∙◌}
 use Rattle.std.specs.Cmp.{IsEquivalence, first_so, second_so}
 use Rattle.std.specs.HashMap.{entries_eq}
@@ -55,7 +55,7 @@ module _ {K V : Type 0} (eq : K → K → Bool) (E : K × V → K × V → Bool)
   all-flipped f es fs [] = refl
   all-flipped f es fs (k ∷ ks) = λ i. option-symm E f (lookup_entry (eq k) es) (lookup_entry (eq k) fs) i && all-flipped f es fs ks i
 
-  -- equality of contents goes both ways
+  -- equality of lists of pairs is symmetric
   pub entries_eq-symm : ((x y : K × V) → E x y ≡ E y x) → (es fs : List (K × V)) → entries_eq eq E es fs ≡ entries_eq eq E fs es
   unfolding entries_eq
   entries_eq-symm f es fs =
@@ -83,11 +83,11 @@ module _ {K V : Type 0} (eq : K → K → Bool) (E : K × V → K × V → Bool)
         (λ p s. let at = key-at_find (agree es fs) (eq q) fs p (second_so (list_all (agree es fs) (keys_of es)) (list_all (agree es fs) (keys_of fs)) h) s in agree-alike es fs q p.0 at.1 at.0))
         (λ p s. let at = key-at_find (agree es fs) (eq q) es p (first_so (list_all (agree es fs) (keys_of es)) (list_all (agree es fs) (keys_of fs)) h) s in agree-alike es fs q p.0 at.1 at.0)
 
-    -- what equals the same contents is equal
+    -- equality of lists of pairs is transitive
     pub entries_eq-trans : ((x y z : K × V) → E x y ≡ true → E y z ≡ true → E x z ≡ true) → (es fs gs : List (K × V)) → entries_eq eq E es fs ≡ true → entries_eq eq E fs gs ≡ true → entries_eq eq E es gs ≡ true
     entries_eq-trans f es fs gs a b = entries_eq-from_all es gs (λ k. option-trans E f (lookup_entry (eq k) es) (lookup_entry (eq k) fs) (lookup_entry (eq k) gs) (agree-from_eq es fs a k) (agree-from_eq fs gs b k))
 
-  -- a list equals itself, where each value equals itself
+  -- a list equals itself, if each pair equals itself
   pub entries_eq-refl : ((x : K × V) → E x x ≡ true) → (es : List (K × V)) → entries_eq eq E es es ≡ true
   entries_eq-refl f es = entries_eq-from_all es es (λ k. option-refl (lookup_entry (eq k) es))
     where

@@ -1,9 +1,9 @@
-//! The hash of a key under a hasher, in one word.
+//! `Hashes`: the hash of a key under a hasher, in one word.
 ghost use Rattle.std.specs.Prelude.{ℕ};
 
 use std::hash::{BuildHasher, Hash};
 
-/// A hasher of such keys. A contract sees the hash of a key as `hash_of`.
+/// A hasher of keys of the type `K`. A contract sees the hash of a key as `hash_of`.
 pub trait Hashes<K> {
     ghost hash_of: { Self → K → ℕ };
 }

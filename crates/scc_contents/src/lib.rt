@@ -1,5 +1,5 @@
-//! The words of what a table holds, of the steps of calls, of closures and of walks, which all containers share. It has
-//! no function.
+//! The words that all containers share: of what a table holds, of the steps of calls, of closures and of walks. The
+//! crate has no function.
 #![tactic(auto)]
 
 pub mod hashes;

@@ -1,4 +1,4 @@
--- Entries of one bucket of a new array that are taken out of an old one.
+-- Moves of the entries of one bucket of a new array out of an old one.
 use Rattle.std.specs.Prelude.{◌≡◌, ◌==◌, ℕ, ◌+◌, ◌*◌, ◌<◌, ◌≤◌, ◌⊎◌, not, List, [], length, slice_set}
 use Rattle.std.specs.List.{filter, flat_map}
 use Rattle.scc_array.specs.Shelves.{shelf_of}
@@ -8,20 +8,21 @@ use Rattle.scc_buckets.specs.Pour.{bound_for, Extends}
 use Rattle.scc_contents.specs.Routing.{bucket_number}
 use Rattle.scc_buckets.specs.Tables.{IsOwn}
 
--- the entries that don't belong to bucket i of n, in their order
+-- the entries es that don't belong to bucket i of n, in their order
 abbrev pub others_for : {E : Type 0} → (E → ℕ) → ℕ → ℕ → ℕ → List E → List E
 others_for hash t n i es = filter (λ e. not (bucket_number t n (hash e) == i)) es
 
--- one number of buckets is a multiple of the other, and they differ
+-- m and n differ, and one is a multiple of the other
 pub data AreMultiples (m n : ℕ) : Type 0 where
   grown : (r : ℕ) → 1 < r → n ≡ r * m → AreMultiples m n
   shrunk : (r : ℕ) → 1 < r → m ≡ r * n → AreMultiples m n
 
--- each bucket of an array keeps its own entries, with their tags
+-- each bucket holds only entries that belong to it, with their tags
 pub record AreOwn {E : Type 0} (hash : E → ℕ) (t : ℕ) (bs : List (Shelf E)) : Type 0 where
   pub own : (j : ℕ) → j < length bs → IsOwn hash t (length bs) j (shelf_of bs j)
 
--- the entries of old bucket j that belong to bucket i of n moved to the end of a, which is b then; the others stay in their order
+-- the entries of old bucket j that belong to bucket i of n have moved to the end of bucket a, which becomes b; the
+-- others keep their order
 pub record Pulls {E : Type 0} (hash : E → ℕ) (t n i j : ℕ) (olds : List (Shelf E)) (a : Shelf E) (news : List (Shelf E)) (b : Shelf E) : Type 0 where
   pub same : news ≡ slice_set olds j (shelf_of news j)
   pub kept : shelf_entries (shelf_of news j) ≡ others_for hash t n i (shelf_entries (shelf_of olds j))
@@ -39,11 +40,12 @@ pub record IsWithinSources {E : Type 0} (hash : E → ℕ) (t n i first last : �
 pub record AreJoined {E : Type 0} (hash : E → ℕ) (t n i first last : ℕ) (olds : List (Shelf E)) : Type 0 where
   pub all : (j : ℕ) → first ≤ j → j < last → bound_for hash t n i (shelf_entries (shelf_of olds j)) ≡ shelf_entries (shelf_of olds j)
 
--- the two buckets between which the entries of one old bucket are parted where the array doubles
+-- i and k are the two buckets that share an old bucket when the array doubles
 abbrev pub AreSiblings : ℕ → ℕ → Type 0
 AreSiblings i k = (j : ℕ) × (((i ≡ 2 * j) × (k ≡ 2 * j + 1)) ⊎ ((i ≡ 2 * j + 1) × (k ≡ 2 * j)))
 
--- the entries of all old buckets that belong to bucket i of n moved to the end of a, which is b then; the others stay in their order
+-- the entries of all old buckets that belong to bucket i of n have moved to the end of bucket a, which becomes b; the
+-- others keep their order
 pub record Drains {E : Type 0} (hash : E → ℕ) (t n i : ℕ) (olds : List (Shelf E)) (a : Shelf E) (news : List (Shelf E)) (b : Shelf E) : Type 0 where
   pub count : length news ≡ length olds
   pub kept : (j : ℕ) → j < length olds → shelf_entries (shelf_of news j) ≡ others_for hash t n i (shelf_entries (shelf_of olds j))
@@ -51,7 +53,8 @@ pub record Drains {E : Type 0} (hash : E → ℕ) (t n i : ℕ) (olds : List (Sh
   pub overflow : (j : ℕ) → length (shelf_of news j).overflow ≤ length (shelf_of olds j).overflow
   pub moved : Extends hash a b (bound_for hash t n i (flat_map shelf_entries olds))
 
--- the n entries of the old array that belong to bucket i are the list of that bucket, in order; the old array keeps the others, in order
+-- the n entries of the old array that belong to bucket i have become its list, in order; the old array keeps the
+-- others, in order
 pub record TakesOver {E S : Type 0} (hash : E → ℕ) (i n : ℕ) (c : Contents E S) (olds : List (Shelf E)) (d : Contents E S) (news : List (Shelf E)) : Type 0 where
   pub lists : lists_of d ≡ slice_set (lists_of c) i (bound_for hash (settings_of c).skipped (bucket_count c) i (flat_map shelf_entries olds))
   pub moved : n ≡ length (bound_for hash (settings_of c).skipped (bucket_count c) i (flat_map shelf_entries olds))

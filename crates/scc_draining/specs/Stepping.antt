@@ -6,11 +6,12 @@ use Rattle.scc_array.specs.Shelf.{Shelf, shelf_entries}
 use Rattle.scc_buckets.specs.Pour.{bound_for}
 use Rattle.scc_contents.specs.Routing.{bucket_number}
 
--- the entries of the old array before number s of bucket j, in the order of the buckets
+-- the entries of the old array before slot s of bucket j, in the order of the buckets
 abbrev pub entries_before : {E : Type 0} → List (Shelf E) → ℕ → ℕ → List E
 entries_before olds j s = flat_map shelf_entries (take j olds) ++ take s (shelf_entries (shelf_of olds j))
 
--- an entry of bucket i of n stands at number s of old bucket j, and as many of that bucket before it as before number b of bucket a
+-- slot s of old bucket j has an entry of bucket i of n, and the entries of bucket i before it are those before slot b
+-- of old bucket a
 pub record StandsNext {E : Type 0} (hash : E → ℕ) (t n i : ℕ) (olds : List (Shelf E)) (a b j s : ℕ) : Type 0 where
   pub entry : E
   pub within : j < length olds

@@ -1,4 +1,4 @@
-//! How many entries of a bucket belong to a bucket of another array, and the limit of overflow lists.
+//! Counts of the entries of a bucket that belong to a bucket of another array, and the limit of overflow lists.
 ghost use Rattle.scc_buckets.specs.Pour.{bound_for};
 ghost use Rattle.scc_contents.specs.Contents.{bucket_count, key_hash, list_of};
 ghost use Rattle.std.specs.Prelude.{◌≡◌, ◌<◌, ◌≤◌, length, take, ◌+◌, ◌-◌, ◌^◌, ◌⊎◌, IsTrue};
@@ -8,7 +8,7 @@ use scc_buckets::{Buckets, Place};
 use scc_common::Keyed;
 use std::hash::{BuildHasher, Hash};
 
-/// How many of the first entries of a bucket belong to the target among so many buckets.
+/// Returns how many of the first `first` entries of `bucket` belong to the bucket `target` of `count`.
 pub fn count_bound<E: Keyed, H: BuildHasher>(
     table: &Buckets<E, H>,
     bucket: usize,
@@ -36,10 +36,10 @@ where
     found
 }
 
-/// How many entries may lie in the overflow lists of both arrays: fewer than this.
+/// The number of entries in the overflow lists of both arrays is always less than this.
 const OVERFLOW_LIMIT: usize = 1 << 62;
 
-/// How many entries more may lie in overflow lists.
+/// Returns how many more entries may stand in overflow lists, if `overflowing` and `aside` entries stand there.
 pub(crate) fn left_of(overflowing: usize, aside: usize) -> usize
     requires { overflowing + aside < 2 ^ 62 }
     ensures { overflowing + aside + result + 1 ≡ 2 ^ 62 }
@@ -47,8 +47,8 @@ pub(crate) fn left_of(overflowing: usize, aside: usize) -> usize
     OVERFLOW_LIMIT - 1 - overflowing - aside
 }
 
-/// Whether a bucket that holds so many entries can't take one more, since so many lie in overflow lists of the two
-/// arrays.
+/// Returns whether a bucket of `listed` entries can't take one more: its slots are full, and the overflow lists of the
+/// two arrays hold the most entries allowed, `spilled` and `aside`.
 pub fn is_overflow_full(listed: usize, spilled: usize, aside: usize) -> bool
     requires { spilled + aside < 2 ^ 62 }
     ensures full { IsTrue result → 32 ≤ listed }

@@ -1,5 +1,5 @@
-//! How the entries of one bucket come out of an old array, for the table of two arrays: the moves below a relocation,
-//! the steps from entry to entry there, and a new array whose buckets wait.
+//! The moves of the entries of one bucket from an old array to a new one, for the table of two arrays: the moves below
+//! a relocation, the steps from entry to entry in an old array, and new arrays whose buckets wait.
 #![tactic(auto)]
 
 mod count;

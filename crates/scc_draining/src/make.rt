@@ -11,7 +11,7 @@ use scc_common::{Keyed, MakeError};
 use std::alloc::{AllocError, Global};
 use std::hash::{BuildHasher, Hash};
 
-/// So many empty buckets, and a flag for each that is up.
+/// Makes an array of `count` empty buckets, and a flag for each bucket, which says that it waits.
 pub fn fresh_waiting<E>(alloc: Global, count: usize) -> Result<(Array<E>, Vec<bool>), AllocError>
     requires { count ≤ 2 ^ 58 }
     ensures buckets { IfOk result (λ r. r.0 ≡ replicate count empty_shelf) }
@@ -27,7 +27,7 @@ pub fn fresh_waiting<E>(alloc: Global, count: usize) -> Result<(Array<E>, Vec<bo
     }
 }
 
-/// Puts in a clone of each entry of those buckets, with no resize.
+/// Inserts a clone of each entry of the array `old` into `table`, without a resize.
 pub fn insert_clones_of<E: Keyed + Clone, H: BuildHasher>(
     table: &mut Buckets<E, H>,
     old: &Array<E>,

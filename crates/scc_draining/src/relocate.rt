@@ -1,4 +1,4 @@
-//! How the entries of one bucket of the new array come out of the old one.
+//! The moves of the entries of one bucket of the new array out of the old one.
 ghost use Rattle.scc_array.specs.Shelf.{empty_shelf, shelf_entries};
 ghost use Rattle.scc_array.specs.Shelves.{shelf_of};
 ghost use Rattle.scc_array.specs.Sifts.{ups};
@@ -20,8 +20,9 @@ use scc_common::Keyed;
 use std::alloc::AllocError;
 use std::hash::{BuildHasher, Hash};
 
-/// What one relocation moves: the entries of the target, which lie in the old buckets from `first` up to before `last`,
-/// and no others do where `whole`. `skipped` bits of each hash are left out.
+/// One relocation: the entries that belong to the bucket `target` of the new array stand in the old buckets from
+/// `first` up to before `last`. If `whole`, these old buckets hold no other entries. `skipped` bits of each hash are
+/// skipped.
 #[derive(Clone, Copy)]
 struct Relocation {
     target: usize,
@@ -31,8 +32,8 @@ struct Relocation {
     skipped: u32,
 }
 
-/// Sets the flag of each place of an old bucket to 1 where its entry belongs to the target, and to 0 where it doesn't.
-/// `table` has the hasher.
+/// Sets the flag of each slot of the old bucket `source` to 1 if its entry belongs to the target, or else to 0. `table`
+/// supplies the hasher.
 #[inline(always)]
 fn flags_of<E: Keyed, H: BuildHasher>(
     old: &Array<E>,
@@ -57,7 +58,8 @@ where
     }
 }
 
-/// The same, entry by entry, for buckets with entries past their places.
+/// As `pull`, but moves entry by entry: for an old bucket with entries in its overflow list, and for a target whose
+/// free slots may not suffice.
 #[cold]
 fn pull_each<E: Keyed, H: BuildHasher>(
     into: &mut Array<E>,
@@ -98,9 +100,9 @@ where
     }
 }
 
-/// Moves the entries of one old bucket that belong to the target to the end of the bucket of that number, in order. It
-/// has room for them, so no memory is taken. The others stay in their order. Where the bucket holds no others
-/// (`whole`), none is hashed. `table` has the hasher.
+/// Moves the entries of the old bucket `source` that belong to the target to the end of the target, in order. The
+/// target must have room for them, so nothing is allocated. The others keep their order. If `whole`, the old bucket
+/// holds no others, and its entries aren't hashed unless `pull_each` moves them. `table` supplies the hasher.
 fn pull<E: Keyed, H: BuildHasher>(
     into: &mut Array<E>,
     old: &mut Array<E>,
@@ -148,9 +150,8 @@ where
     pull_each(into, old, source, task, table, count);
 }
 
-/// Moves the entries of all old buckets that belong to the target to the end of the bucket of that number, in order,
-/// where only the old buckets from `first` up to before `last` hold such entries, and no others if `whole`. It has room
-/// for them. The others stay in their order.
+/// Moves the entries of all old buckets that belong to the target to the end of the target, in order. The target must
+/// have room for them. The others keep their order.
 fn drain<E: Keyed, H: BuildHasher>(
     into: &mut Array<E>,
     old: &mut Array<E>,
@@ -183,7 +184,8 @@ where
     }
 }
 
-/// Makes room in an empty bucket for so many entries, at most `left` of them past its places.
+/// Makes room for `coming` entries in an empty bucket. Fails if memory is refused, or if more than `left` of them would
+/// stand in its overflow list.
 fn make_room_for<E>(
     into: &mut Array<E>,
     bucket: usize,
@@ -207,9 +209,9 @@ fn make_room_for<E>(
     into.reserve_overflow(bucket, coming - 32)
 }
 
-/// Moves the entries of all old buckets that belong to the target into the bucket of that number, which is empty, in
-/// order. `coming` is how many they are, at least; at most `left` of them may lie past its places. Where memory is
-/// refused, all stays.
+/// Moves the entries of all old buckets that belong to the target into the target, in order. The target must be empty,
+/// and the entries at most `coming`. Fails if memory is refused, or if more than `left` of `coming` entries would stand
+/// in the overflow list; then all entries stay.
 fn fill<E: Keyed, H: BuildHasher>(
     into: &mut Array<E>,
     coming: usize,
@@ -242,9 +244,10 @@ where
     Ok(())
 }
 
-/// Moves the entries of all old buckets that belong to the target into the table's bucket of that number, which is
-/// empty, in order, and answers how many they are. `coming` is no less; `aside` entries are counted as if they lay in
-/// overflow lists too. Where memory is refused, all stays.
+/// Moves the entries of all old buckets that belong to the target into this bucket of `current`, in order, and returns
+/// their number. The bucket must be empty, and the entries at most `coming`. `aside` entries count as if they stood in
+/// overflow lists of `current`. Fails if memory is refused, or if the overflow lists would hold too many entries; then
+/// all stays.
 fn move_in<E: Keyed, H: BuildHasher>(
     current: &mut Buckets<E, H>,
     old: &mut Array<E>,
@@ -290,9 +293,9 @@ where
     }
 }
 
-/// The old buckets in which entries of the target lie: from the first answer up to before the second. Where there are
-/// fewer buckets than before, they hold no others; where there are twice as many, it is one old bucket, which two
-/// targets have in common.
+/// Returns the range of old buckets in which the entries of `target` stand: from the first number up to before the
+/// second. If the array shrinks, from `old` buckets to `count`, these old buckets hold no other entries. If it doubles,
+/// the range is one old bucket, which two targets share.
 pub fn sources(old: usize, count: usize, target: usize) -> (usize, usize)
     requires some { 0 < old }
     requires most { old ≤ 2 ^ 58 }
@@ -319,7 +322,7 @@ pub fn sources(old: usize, count: usize, target: usize) -> (usize, usize)
     (target * spread, target * spread + spread)
 }
 
-/// The other one of the two targets that have an old bucket in common where the array doubles.
+/// Returns the other target that shares the old bucket of `target` when the array doubles.
 fn sibling(target: usize) -> usize
     requires { target + 1 < 2 ^ 64 }
     ensures { AreSiblings target result }
@@ -330,8 +333,8 @@ fn sibling(target: usize) -> usize
     target - 1
 }
 
-/// Whether the old buckets that hold entries of the target hold no others: there are fewer buckets than before, or
-/// twice as many, and the target's sibling no longer waits.
+/// Returns whether the old buckets that hold the entries of `target` hold no others. That is so if the array shrinks,
+/// or if it doubles and the sibling of `target` doesn't wait.
 fn is_whole(old: usize, count: usize, target: usize, waiting: &[bool]) -> bool
     requires most { old ≤ 2 ^ 58 }
     requires target { target < count }
@@ -345,7 +348,7 @@ fn is_whole(old: usize, count: usize, target: usize, waiting: &[bool]) -> bool
     count < old
 }
 
-/// How many entries of one old bucket belong to the target.
+/// Returns how many entries of the old bucket `source` belong to `target`.
 fn count_in<E: Keyed, H: BuildHasher>(
     old: &Array<E>,
     source: usize,
@@ -373,8 +376,8 @@ where
     found
 }
 
-/// How many entries of all old buckets belong to the target, where only those from `first` up to before `last` hold
-/// such entries.
+/// Returns how many entries of all old buckets belong to `target`. Only the old buckets from `first` up to before
+/// `last` may hold such entries.
 pub fn count_all<E: Keyed, H: BuildHasher>(
     old: &Array<E>,
     first: usize,
@@ -403,7 +406,7 @@ where
     found
 }
 
-/// How many entries the old buckets from `first` up to before `last` hold.
+/// Returns how many entries the old buckets from `first` up to before `last` hold.
 fn len_between<E>(old: &Array<E>, first: usize, last: usize) -> usize
     requires order { first ≤ last }
     requires within { last ≤ length old.now }
@@ -419,9 +422,8 @@ fn len_between<E>(old: &Array<E>, first: usize, last: usize) -> usize
     entry_count
 }
 
-/// No fewer than the entries of all old buckets that belong to the target, and just as many where it is more than 32.
-/// One old bucket that holds no more isn't looked through, and where the old ones hold no others (`whole`), none is
-/// hashed.
+/// Returns at least the number of entries of all old buckets that belong to the target. A result greater than 32 is
+/// exact. Hashes no entry if these entries stand in one old bucket of at most 32 entries, or if `whole`.
 fn count_coming<E: Keyed, H: BuildHasher>(
     old: &Array<E>,
     task: Relocation,
@@ -461,10 +463,11 @@ where
     )
 }
 
-/// Moves the entries of all old buckets that belong to the target into the table's bucket of that number, which is
-/// empty, in order, and answers how many they are. `aside` entries, no fewer than lie in the overflow lists of the old
-/// array, are counted as if they lay in overflow lists too. `waiting` has the flags of the buckets: the old array holds
-/// no entries of one whose flag is down. Where memory is refused, all stays.
+/// Moves the entries of all old buckets that belong to `target` into this bucket of `current`, in order, and returns
+/// their number. The bucket must be empty. `aside` entries, at least those in the overflow lists of `old`, count as if
+/// they stood in overflow lists of `current`. `waiting` must have a flag for each bucket of `current`, and `old` must
+/// hold no entry of a bucket whose flag is down. Fails if memory is refused, or if the overflow lists would hold too
+/// many entries; then all stays.
 pub fn move_target<E: Keyed, H: BuildHasher>(
     current: &mut Buckets<E, H>,
     old: &mut Array<E>,

@@ -13,7 +13,7 @@ use scc_buckets::place::bucket_index;
 use scc_common::Keyed;
 use std::hash::{BuildHasher, Hash};
 
-/// The end of a range, or the number after `first` where it would end before.
+/// Returns `end`, or `first + 1` if that is greater.
 pub fn end_past(end: usize, first: usize) -> usize
     requires { first < 2 ^ 58 }
     ensures least { end ≤ result }
@@ -23,8 +23,8 @@ pub fn end_past(end: usize, first: usize) -> usize
     if first < end { end } else { first + 1 }
 }
 
-/// The number of the first entry of one old bucket, from number `slot` on, that belongs to the target. `table` has the
-/// hasher.
+/// Returns the slot of the first entry of the old bucket `source`, from `slot` on, that belongs to `target`, or `None`.
+/// `table` supplies the hasher.
 fn slot_from<E: Keyed, H: BuildHasher>(
     old: &Array<E>,
     source: usize,
@@ -56,8 +56,8 @@ where
     None
 }
 
-/// The old bucket, and the number in it, of the first entry from number `slot` of bucket `first` on, up to before
-/// bucket `last`, that belongs to the target.
+/// Returns the old bucket and the slot of the first entry that belongs to `target`, from `slot` of the bucket `first`
+/// on, up to before the bucket `last`, or `None`.
 pub fn spot_from<E: Keyed, H: BuildHasher>(
     old: &Array<E>,
     first: usize,

@@ -11,22 +11,22 @@ use denote.Sharing.{nothing, said, beside}
 use denote.RawPtr.{Ptr, block_ptr, null_ptr}
 
 module _ (R : RattleType) (b : ℕ) where
-  -- an entry o bytes into the block, or the room for one
+  -- owns one cell, o bytes into the block: its entry, or its free memory
   abbrev pub cell_owns : ℕ → Option R.Denot → Fml
   cell_owns o None = froom (raw (lone R.mir)) b o
   cell_owns o (Some x) = part_at R full_share x b o
 
-  -- the same of each cell of a list, one after another
+  -- owns each cell of a list, one after another, the first o bytes into the block
   abbrev pub cells_own : ℕ → List (Option R.Denot) → Fml
   cells_own o [] = ftrue
   cells_own o (c ∷ cs) = fsep (cell_owns o c) (cells_own (o + type_size R) cs)
 
-  -- what a cell shows while it is lent to be read
+  -- what one cell shows while it is lent to be read
   abbrev pub cell_shows : ℕ → Option R.Denot → Lft → Fml
   cell_shows o None = nothing
   cell_shows o (Some x) = shared_of R x b o
 
-  -- what cells in a row show while they are lent to be read
+  -- what each cell of a list shows while the cells are lent to be read
   abbrev pub cells_show : ℕ → List (Option R.Denot) → Lft → Fml
   cells_show o [] = nothing
   cells_show o (c ∷ cs) = beside (cell_shows o c) (cells_show (o + type_size R) cs)
@@ -36,7 +36,7 @@ module _ (R : RattleType) where
   abbrev pub bounded : List (Option R.Denot) → Fml
   bounded cs = flt (length cs * type_size R) (2 ^ 63)
 
-  -- a row owns its cells; no cell lies nowhere
+  -- what a row owns: its cells; at the null pointer there are none
   abbrev pub row_owns : Ptr → List (Option R.Denot) → Fml
   row_owns null_ptr [] = ftrue
   row_owns null_ptr (c ∷ cs) = ffalse
@@ -48,7 +48,7 @@ module _ (R : RattleType) where
   row_shows null_ptr (c ∷ cs) = said ffalse
   row_shows (block_ptr b o) cs = beside (cells_show R b o cs) (said (bounded cs))
 
-  -- what lets the block of n cells go back
+  -- what the right owns: the token to release the block of n cells
   abbrev pub right_owns : (Ty → Ptr → Fml) → Ptr → ℕ → Fml
   right_owns token null_ptr n = ffalse
   right_owns token (block_ptr b o) n = token (raw (ty_array (lone R.mir) n)) (block_ptr b o)

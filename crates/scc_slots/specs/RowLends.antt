@@ -8,6 +8,6 @@ use Rattle.scc_slots.specs.contracts.row.Row.{the_row}
 abbrev pub with_cells : {X : Type 0} → Row X → List (Option X) → Row X
 with_cells row cs = record { of = row.of; start = row.start; cells = cs }
 
--- the entry at cell i of a row is lent: once it is given back, the cell holds what was written
+-- the entry of cell i of a row is lent: when the loan ends, the cell holds what was written
 abbrev pub lends_place : (R : RattleType) → MutBor (Row R.Denot) → ℕ → MutBor R.Denot → Fml
 lends_place R row i entry = Lends (the_row R) R row entry (λ w. with_cells row.now (slice_set row.now.cells i (Some w)))

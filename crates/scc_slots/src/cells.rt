@@ -1,4 +1,4 @@
-//! Places for entries as their owner sees them: a list with an entry or nothing for each cell.
+//! `Cells`: one block of cells, seen as a list with an entry or nothing for each cell.
 ghost use Rattle.scc_slots.specs.CellWords.{IsFilled, IsEmptyCell, IsDrained};
 ghost use Rattle.std.specs.Borrow.{sem};
 ghost use Rattle.std.specs.Prelude.{◌≡◌, ◌^◌, ◌<◌, [], List, Option, Some, None, length, replicate, slice_index_or, slice_set, IfOk};
@@ -9,8 +9,8 @@ use std::marker::Model;
 use std::mem;
 use std_alloc::room::may_hold;
 
-/// Places for entries, in one block of memory; what has no cells has none. It drops no entry: all cells have to be
-/// free before it is given back.
+/// A block of cells. Without cells, there is no block. `Cells` drops no entry: all cells must be free before the block
+/// is released.
 pub struct Cells<E> {
     start: Start<E>,
     count: usize,
@@ -36,7 +36,7 @@ impl<E> Model for Cells<E> {
 impl<E> Cells<E> {
     ghost use Rattle.scc_slots.specs.SlotsLends.{lends_cell};
 
-    /// No cells, for which no memory is asked.
+    /// Returns no cells. Allocates nothing.
     pub fn none(alloc: Global) -> Cells<E>
         ensures { result ≡ [] }
     {
@@ -49,7 +49,7 @@ impl<E> Cells<E> {
         }
     }
 
-    /// Asks for `count` cells and writes to none of them.
+    /// Allocates `count` cells, and writes to none of them.
     pub fn with_cells(alloc: Global, count: usize) -> Result<Cells<E>, AllocError>
         ensures { IfOk result (λ s. s ≡ replicate count None) }
     {
@@ -66,7 +66,7 @@ impl<E> Cells<E> {
         })
     }
 
-    /// The number of cells.
+    /// Returns the number of cells.
     #[inline(always)]
     pub fn cells(&self) -> usize
         ensures count { result ≡ length self.now }
@@ -75,7 +75,7 @@ impl<E> Cells<E> {
         self.count
     }
 
-    /// Fills a free cell.
+    /// Puts `entry` into the free cell `cell`.
     #[inline(always)]
     pub fn put(&mut self, cell: usize, entry: E)
         requires { IsEmptyCell self.old cell }
@@ -84,7 +84,7 @@ impl<E> Cells<E> {
         self.row.put(self.start, cell, entry);
     }
 
-    /// Takes the entry of a cell, which is free then.
+    /// Takes the entry out of `cell`, and returns it. The cell is free then.
     #[inline(always)]
     pub fn take(&mut self, cell: usize) -> E
         requires { IsFilled self.old cell }
@@ -94,7 +94,7 @@ impl<E> Cells<E> {
         self.row.take(self.start, cell)
     }
 
-    /// The entry of a cell.
+    /// Returns the entry of `cell`.
     #[inline(always)]
     pub fn get(&self, cell: usize) -> &E
         requires { IsFilled self.now cell }
@@ -103,7 +103,7 @@ impl<E> Cells<E> {
         self.row.get(self.start, cell)
     }
 
-    /// The entry of a cell, to write to.
+    /// Returns the entry of `cell`, to write to.
     #[inline(always)]
     pub fn get_mut(&mut self, cell: usize) -> &mut E
         requires { IsFilled self.old cell }
@@ -113,7 +113,7 @@ impl<E> Cells<E> {
         self.row.get_mut(self.start, cell)
     }
 
-    /// Writes over the entry of a cell, and answers what was there.
+    /// Writes `entry` over the entry of `cell`, and returns the old entry.
     #[inline(always)]
     pub fn replace(&mut self, cell: usize, entry: E) -> E
         requires { IsFilled self.old cell }
@@ -123,7 +123,7 @@ impl<E> Cells<E> {
         mem::replace(self.row.get_mut(self.start, cell), entry)
     }
 
-    /// Moves the entry at `from` to the free cell `to`.
+    /// Moves the entry of the cell `from` to the free cell `to`.
     #[inline(always)]
     pub fn move_cell(&mut self, from: usize, to: usize)
         requires from { IsFilled self.old from }
@@ -134,7 +134,7 @@ impl<E> Cells<E> {
         self.row.put(self.start, to, entry);
     }
 
-    /// Gives the block back. All its cells have to be free.
+    /// Releases the block. All its cells must be free.
     pub fn destroy_empty(self)
         requires { IsDrained self }
     {

@@ -1,5 +1,5 @@
-//! One block of cells for entries, seen as a list of options. A cell doesn't say whether it is in use: its owner has
-//! to know.
+//! One block of cells for entries, seen as a list of options. A cell doesn't say whether it holds an entry: its owner
+//! has to know.
 #![tactic(auto)]
 
 mod cells;

@@ -1,5 +1,5 @@
-//! The cells themselves, behind a pointer, and the right to give their block back. The only code of the containers
-//! that goes by a raw pointer.
+//! The cells behind a pointer, and the right to release their block: the only code of the containers that uses a raw
+//! pointer.
 ghost use Rattle.scc_slots.specs.Owned.{row_owns, row_shows, right_owns};
 ghost use Rattle.scc_slots.specs.CellWords.{IsFilled, IsEmptyCell};
 ghost use Rattle.std.specs.Borrow.{sem};
@@ -13,7 +13,7 @@ use std::marker::{Model, PhantomData, Send, Sync};
 use std::mem::{align_of, size_of};
 use std::ptr::null_mut;
 
-/// Where a row begins. It owns nothing.
+/// The address of the first cell of a row. It owns nothing.
 pub struct Start<E> {
     first: *mut E,
 }
@@ -34,7 +34,7 @@ unsafe impl<E> Send for Start<E> {}
 
 unsafe impl<E> Sync for Start<E> {}
 
-/// The owner of each entry that lies in a cell, and of the room of each cell that is free. It has no bytes.
+/// The owner of the entry of each filled cell, and of the memory of each free cell. It has no bytes.
 pub struct Row<E> {
     of: PhantomData<*const E>,
     ghost start: { Ptr },
@@ -67,10 +67,10 @@ impl<E, A: Allocator> Model for Right<E, A> {
 
 unsafe impl<E, A: Allocator + Send> Send for Right<E, A> {}
 
-// Nothing is reached through a `&` to it.
+// A `&Right` gives access to nothing.
 unsafe impl<E, A: Allocator> Sync for Right<E, A> {}
 
-/// Asks for `count` cells and writes none of them.
+/// Allocates `count` cells, and writes to none of them.
 pub(crate) fn obtain<E, A: Allocator>(
     alloc: &A,
     count: usize,
@@ -90,28 +90,28 @@ pub(crate) fn obtain<E, A: Allocator>(
     }
 }
 
-/// The start of no cells, which lie nowhere.
+/// Returns the start of a row without cells: a null pointer.
 pub(crate) fn nowhere<E>() -> Start<E>
     ensures { result.first ≡ null_ptr }
 {
     Start { first: null_mut() }
 }
 
-/// The row of no cells.
+/// Returns a row without cells.
 pub(crate) fn no_cells<E>() -> Row<E>
     ensures { (result.start ≡ null_ptr) × (result.cells ≡ []) }
 {
     Row { of: PhantomData }
 }
 
-/// Ends a row of no cells.
+/// Ends a row without cells.
 pub(crate) fn end_row<E>(row: Row<E>)
     requires { row.cells ≡ [] }
 {
     let Row { of: _ } = row;
 }
 
-/// Gives the block of `count` free cells back.
+/// Releases the block of `count` free cells.
 pub(crate) fn give_back<E, A: Allocator>(
     alloc: &A,
     start: Start<E>,
@@ -136,7 +136,7 @@ pub(crate) fn give_back<E, A: Allocator>(
 impl<E> Row<E> {
     ghost use Rattle.scc_slots.specs.RowLends.{lends_place};
 
-    /// Fills a free cell.
+    /// Puts `entry` into the free cell `cell`.
     pub(crate) fn put(&mut self, start: Start<E>, cell: usize, entry: E)
         requires { (start.first ≡ self.old.start) × IsEmptyCell self.old.cells cell }
         ensures { (self.new.start ≡ self.old.start) × (self.new.cells ≡ slice_set self.old.cells cell (Some entry)) }
@@ -144,7 +144,7 @@ impl<E> Row<E> {
         unsafe { start.first.add(cell).write(entry) }
     }
 
-    /// Takes the entry of a cell, which is free then.
+    /// Takes the entry out of `cell`, and returns it. The cell is free then.
     pub(crate) fn take(&mut self, start: Start<E>, cell: usize) -> E
         requires { (start.first ≡ self.old.start) × IsFilled self.old.cells cell }
         ensures entry { slice_index_or self.old.cells cell None ≡ Some result }
@@ -153,7 +153,7 @@ impl<E> Row<E> {
         unsafe { start.first.add(cell).read() }
     }
 
-    /// The entry of a cell.
+    /// Returns the entry of `cell`.
     pub(crate) fn get(&self, start: Start<E>, cell: usize) -> &E
         requires { (start.first ≡ self.now.start) × IsFilled self.now.cells cell }
         ensures { slice_index_or self.now.cells cell None ≡ Some result.now }
@@ -161,7 +161,7 @@ impl<E> Row<E> {
         unsafe { &*start.first.add(cell) }
     }
 
-    /// The entry of a cell, to write to.
+    /// Returns the entry of `cell`, to write to.
     pub(crate) fn get_mut(&mut self, start: Start<E>, cell: usize) -> &mut E
         requires { (start.first ≡ self.old.start) × IsFilled self.old.cells cell }
         ensures* writes_back { sem 𝓛 (lends_place E.row self.entry cell result) }

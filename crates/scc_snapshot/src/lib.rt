@@ -1,4 +1,4 @@
-//! A snapshot of an index: the versions that it had, whatever becomes of it.
+//! `Iter`: a snapshot of an index, a list of all versions that it had.
 #![tactic(auto)]
 
 ghost use Rattle.std.specs.Prelude.{◌≡◌, IfOk, map};
@@ -10,8 +10,8 @@ use std::iter::FusedIterator;
 use std::marker::Model;
 use std::sync::Arc;
 
-/// The versions of a snapshot that are still to come. It owns a share of each, so they stay what they were. A contract
-/// sees their pairs, in the order in which they come.
+/// The versions of a snapshot that are still to come. `Iter` is an owner of each version, so they stay when the index
+/// changes. A contract sees their pairs, in the order in which they come.
 #[derive(Drop)]
 pub struct Iter<K, V> {
     versions: Vec<Arc<Version<K, V>>>,
@@ -33,7 +33,7 @@ impl<K: Drop, V: Drop> Iterator for Iter<K, V> {
 
     ghost remaining = { item_count (λ s. s) };
 
-    /// The next version, and None once each came. It takes no memory.
+    /// Returns the next version, or `None` after the last. Allocates nothing.
     fn next(&mut self) -> Option<Arc<Version<K, V>>> {
         self.versions.pop()
     }
@@ -42,7 +42,7 @@ impl<K: Drop, V: Drop> Iterator for Iter<K, V> {
 impl<K: Drop, V: Drop> FusedIterator for Iter<K, V> {}
 
 impl<K: Drop, V: Drop> Iter<K, V> {
-    /// A snapshot that gives the versions of a list in their order.
+    /// Makes a snapshot that returns `versions` in their order.
     pub fn of(versions: Vec<Arc<Version<K, V>>>) -> Self
         ensures { result ≡ map arc_value versions.items }
     {
@@ -51,7 +51,8 @@ impl<K: Drop, V: Drop> Iter<K, V> {
         Iter { versions }
     }
 
-    /// The same versions once more. It is refused for want of memory, and where a version has 2^63 - 1 owners.
+    /// Makes a snapshot of the versions that are still to come. Fails if memory is refused, or if a version has 2^63 -
+    /// 1 owners.
     pub fn try_clone(&self) -> Result<Iter<K, V>, MakeError>
         ensures { IfOk result (λ s. s ≡ self.now) }
     {

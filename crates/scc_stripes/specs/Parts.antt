@@ -1,4 +1,4 @@
--- What the parts are that will be stripes.
+-- What the parts hold that will be stripes.
 use Rattle.std.specs.Prelude.{ℕ, List, vec_len}
 use Rattle.std.specs.Arc.{arc_value}
 use Rattle.std.specs.declared.alloc.Global.{Global}
@@ -14,7 +14,7 @@ module _ {O H : Type 0} where
   abbrev pub part_count : OpenStripes O H → ℕ
   part_count p = vec_len p.parts
 
-  -- the number of first bits of a hash that pick the part
+  -- how many first bits of a hash name the part
   abbrev pub part_bits : OpenStripes O H → ℕ
   part_bits p = p.bits
 

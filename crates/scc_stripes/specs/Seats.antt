@@ -1,4 +1,4 @@
--- Which of the stripes an entry holds.
+-- Which stripe an entry has locked.
 use Rattle.std.specs.Prelude.{◌≡◌, ◌<◌, ℕ, suc}
 use Rattle.std.specs.Hash.{HashWrites}
 use Rattle.std.specs.declared.hash.Hasher as hasher
@@ -13,11 +13,11 @@ module _ {O H : Type 0} where
   abbrev pub seat_stripe : Seat O H → ℕ
   seat_stripe s = s.stripe
 
-  -- the stripes of which it is one
+  -- the stripes to which a seat belongs
   abbrev pub seat_stripes : Seat O H → Striped O H
   seat_stripes s = s.stripes.now
 
-  -- s is the seat of the stripe with that number, which is one of those stripes
+  -- s is the seat of the stripe `number` of `stripes`
   pub record IsSeatIn (stripes : Striped O H) (number : ℕ) (s : Seat O H) : Type 0 where
     pub among : seat_stripes s ≡ stripes
     pub stripe : seat_stripe s ≡ number
@@ -36,6 +36,6 @@ module _ {O H : Type 0} where
     pub within : seat_stripe t < stripe_count (seat_stripes t)
 
 module _ {O H T K : Type 0} (build : builder.Ghosts H T) (feed : hasher.Ghosts T) (input : K → HashWrites) where
-  -- s is the seat of the stripe that routing names for the key
+  -- s is the seat of the stripe of k
   abbrev pub IsSeatOfKey : Striped O H → K → Seat O H → Type 0
   IsSeatOfKey stripes k s = IsSeatIn stripes (stripe_of build feed input (stripes_hasher stripes) (stripe_count stripes) k) s

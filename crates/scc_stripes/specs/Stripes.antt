@@ -1,4 +1,4 @@
--- What stripes are, and what each gets.
+-- What stripes hold, and the share of each.
 use Rattle.std.specs.Prelude.{ℕ, ◌+◌, ◌-◌, ◌/◌, ◌^◌, vec_len}
 use Rattle.std.specs.Arc.{arc_value}
 use Rattle.scc_stripes.specs.declared.shares.BookReservation.{BookReservation}
@@ -9,7 +9,7 @@ module _ {O H : Type 0} where
   abbrev pub stripe_count : Striped O H → ℕ
   stripe_count s = vec_len s.locks
 
-  -- the number of first bits of a hash that pick the stripe
+  -- how many first bits of a hash name the stripe
   abbrev pub stripe_bits : Striped O H → ℕ
   stripe_bits s = s.bits
 
@@ -17,7 +17,7 @@ module _ {O H : Type 0} where
   abbrev pub stripes_hasher : Striped O H → H
   stripes_hasher s = arc_value s.hasher
 
--- the number of slots that were added
+-- the number of slots of a reservation
 abbrev pub reservation_slots : BookReservation → ℕ
 reservation_slots a = a.additional
 

@@ -1,5 +1,5 @@
-//! What the four containers that threads share have in common: stripes behind locks, the number of a key's stripe, and
-//! the book of what is reserved.
+//! `Striped`: what the four containers that threads share have in common. Stripes behind locks, the stripe of a key,
+//! and the book of reserved slots.
 #![tactic(auto)]
 
 ghost use Rattle.scc_contents.specs.Hashing.{hash_of};
@@ -22,23 +22,24 @@ use std::hash::{BuildHasher, Hash};
 use std::hint::spin_loop;
 use std::sync::{Arc, RwLock, RwLockReadGuard, RwLockWriteGuard, Wait};
 
-/// A container that keeps its share of what all stripes together are to keep at least.
+/// A container that keeps its share of the minimum of all stripes.
 pub trait Follow {
-    /// How many elements it has.
+    /// Returns the number of elements.
     fn count(&self) -> usize;
 
-    /// How many slots its array has; 0 without an array.
+    /// Returns the number of slots of the array, 0 without an array.
     fn slots(&self) -> usize;
 
-    /// Keeps so many slots at least from now on.
+    /// Makes `share` the minimum of the container, unless more slots were asked for when it was made. A cache ignores
+    /// it.
     fn follow(&mut self, share: usize)
         requires { share ≤ 2 ^ 63 };
 }
 
 /// A container that can be made as one of several parts.
 pub trait Part<H>: Sized {
-    /// An empty container that skips so many bits of each hash and hashes as each other part of that hasher does, for
-    /// so many slots; `maximum` counts for a cache alone.
+    /// Makes an empty container for `slots` slots, which skips `skipped` bits of each hash, and hashes as every other
+    /// part of the hasher of `owner`. Only a cache uses `maximum`.
     fn make_part(
         alloc: Global,
         skipped: u32,
@@ -51,11 +52,11 @@ pub trait Part<H>: Sized {
         requires { skipped ≤ 4 };
 }
 
-/// How often a call looks again at a lock that is taken, before it waits.
+/// How often a call tries a taken lock again before it waits.
 const LOOKS: u32 = 200;
 
-/// A fixed number of containers, each behind a lock, under one hasher, and the book of what they keep at least. Threads
-/// share it by reference.
+/// A fixed number of containers, each behind a lock, under one hasher, and the book of their minimum. Threads share it
+/// by reference.
 #[derive(Drop)]
 pub struct Striped<O, H> {
     pub(crate) locks: Vec<RwLock<O>>,
@@ -69,7 +70,7 @@ pub struct Striped<O, H> {
 impl<O, H> Striped<O, H> {
     ghost use Rattle.scc_stripes.specs.Stripes.{reservation_slots, stripe_bits, stripe_count, stripes_hasher};
 
-    /// As many empty containers as so many bits can number, each with its share of the slots and of the maximum.
+    /// Makes 2^`bits` empty containers, each with its share of `slots` and of `maximum`, and locks around them.
     pub fn make(
         alloc: Global,
         bits: u32,
@@ -89,7 +90,7 @@ impl<O, H> Striped<O, H> {
         OpenStripes::make(alloc, bits, slots, maximum, hasher)?.lock(alloc)
     }
 
-    /// One more owner of the hasher.
+    /// Returns one more owner of the hasher.
     pub fn owner(&self) -> Result<Arc<H>, MakeError>
         ensures { IfOk result (λ h. arc_value h ≡ stripes_hasher self.now) }
     {
@@ -99,14 +100,14 @@ impl<O, H> Striped<O, H> {
         }
     }
 
-    /// How many containers there are.
+    /// Returns the number of stripes.
     pub fn stripes(&self) -> usize
         ensures { result ≡ stripe_count self.now }
     {
         self.locks.len()
     }
 
-    /// How many first bits of a hash pick the stripe.
+    /// Returns how many first bits of a hash name the stripe.
     pub fn bits(&self) -> u32
         ensures value { result ≡ stripe_bits self.now }
         ensures few { result ≤ 4 }
@@ -114,7 +115,7 @@ impl<O, H> Striped<O, H> {
         self.bits
     }
 
-    /// The number of the stripe of a key: the one that routing names.
+    /// Returns the number of the stripe of the key `k`.
     #[inline(always)]
     pub fn route<K: Hash>(&self, k: &K) -> usize
     where
@@ -126,7 +127,7 @@ impl<O, H> Striped<O, H> {
         bucket_index(self.hasher.hash_one(k), 0, self.locks.len())
     }
 
-    /// The hash of a key.
+    /// Returns the hash of the key `k`.
     #[inline(always)]
     pub fn hash<K: Hash>(&self, k: &K) -> u64
     where
@@ -136,7 +137,7 @@ impl<O, H> Striped<O, H> {
         self.hasher.hash_one(k)
     }
 
-    /// The number of the stripe of a hash.
+    /// Returns the number of the stripe of `hash`.
     #[inline(always)]
     pub fn route_hash(&self, hash: u64) -> usize
         ensures value { result ≡ stripe_number (stripe_count self.now) hash }
@@ -145,7 +146,7 @@ impl<O, H> Striped<O, H> {
         bucket_index(hash, 0, self.locks.len())
     }
 
-    /// Waits until nobody writes into the stripe, and keeps writers out.
+    /// Locks the stripe for reading. Waits until no caller writes to it.
     #[inline(always)]
     pub fn read(&self, rt: &impl Wait, stripe: usize) -> RwLockReadGuard<'_, O>
         requires { stripe < stripe_count self.now }
@@ -157,14 +158,14 @@ impl<O, H> Striped<O, H> {
         }
     }
 
-    /// Keeps writers out of the stripe; None where one has it or waits for it. It waits for nobody.
+    /// Locks the stripe for reading, without waiting. Returns `None` if a writer has the lock or waits for it.
     pub fn try_read(&self, stripe: usize) -> Option<RwLockReadGuard<'_, O>>
         requires { stripe < stripe_count self.now }
     {
         self.locks[stripe].try_read()
     }
 
-    /// Waits until nobody has the stripe, and keeps all others out.
+    /// Locks the stripe for writing. Waits until no other caller has the lock.
     #[inline(always)]
     pub fn write(&self, rt: &impl Wait, stripe: usize) -> RwLockWriteGuard<'_, O>
         requires { stripe < stripe_count self.now }
@@ -176,7 +177,7 @@ impl<O, H> Striped<O, H> {
         }
     }
 
-    /// The same for a call that may insert: where the stripe has no array, it gets its share of the minimum first.
+    /// As `write`, for a call that may insert: first gives a stripe without an array its share of the minimum.
     #[inline(always)]
     pub fn write_to_insert(&self, rt: &impl Wait, stripe: usize) -> RwLockWriteGuard<'_, O>
     where
@@ -190,7 +191,7 @@ impl<O, H> Striped<O, H> {
         guard
     }
 
-    /// Gives a container its share of the minimum as it is now.
+    /// Gives `container` its share of the current minimum.
     #[inline(always)]
     pub fn follow(&self, container: &mut O)
     where
@@ -199,21 +200,22 @@ impl<O, H> Striped<O, H> {
         container.follow(self.share());
     }
 
-    /// The share of one stripe of the minimum as it is now, rounded up.
+    /// Returns the share of one stripe of the current minimum, rounded up.
     pub fn share(&self) -> usize
         ensures { result ≤ 2 ^ 63 }
     {
         share(self.bits, self.book.minimum())
     }
 
-    /// The minimum as it is now, cut at the greatest capacity.
+    /// Returns the current minimum, or the greatest capacity if that is less.
     pub fn minimum(&self) -> usize
         ensures { result ≤ 2 ^ 63 }
     {
         self.book.minimum()
     }
 
-    /// The number of elements of all stripes, looked at one after another, at most the greatest number.
+    /// Returns the number of elements of all stripes, or the greatest `usize` if that is less. Locks one stripe after
+    /// another.
     pub fn count(&self, rt: &impl Wait) -> usize
     where
         O: Follow,
@@ -225,7 +227,7 @@ impl<O, H> Striped<O, H> {
         sum
     }
 
-    /// Whether no stripe has an element, as each is looked at.
+    /// Returns whether no stripe had an element when it was locked. Locks one stripe after another.
     pub fn is_empty(&self, rt: &impl Wait) -> bool
     where
         O: Follow,
@@ -238,8 +240,8 @@ impl<O, H> Striped<O, H> {
         true
     }
 
-    /// The slots of all stripes, one after another, at most the greatest number. Each gets its share of the minimum as
-    /// it is then.
+    /// Returns the number of slots of all stripes, or the greatest `usize` if that is less. Locks one stripe after
+    /// another, and first gives each its share of the current minimum.
     pub fn slots(&self, rt: &impl Wait) -> usize
     where
         O: Follow,
@@ -253,8 +255,8 @@ impl<O, H> Striped<O, H> {
         sum
     }
 
-    /// Adds so many slots to the minimum, and lets the stripes follow one after another; None for 0, and where the
-    /// minimum would pass the greatest capacity.
+    /// Adds `additional` slots to the minimum, and gives one stripe after another its share. Returns `None` if
+    /// `additional` is 0, or if the minimum would exceed the greatest capacity.
     pub fn reserve(&self, rt: &impl Wait, additional: usize) -> Option<BookReservation<'_>>
     where
         O: Follow,
@@ -269,8 +271,8 @@ impl<O, H> Striped<O, H> {
     }
 }
 
-/// Looks often at a lock that was taken, and then waits until nobody writes. It stands apart, so that where the first
-/// look gets the lock the guard is an address that is known before: loads through it needn't wait for the exchange.
+/// Tries a taken lock `LOOKS` times, and then waits until no caller writes. It isn't in line: if the first try gets the
+/// lock, the address of the guard is then known beforehand, and loads through it needn't wait for the atomic exchange.
 #[cold]
 fn wait_to_read<'a, O>(rt: &impl Wait, lock: &'a RwLock<O>) -> RwLockReadGuard<'a, O> {
     for _ in 0..LOOKS {
@@ -282,7 +284,7 @@ fn wait_to_read<'a, O>(rt: &impl Wait, lock: &'a RwLock<O>) -> RwLockReadGuard<'
     lock.read(rt)
 }
 
-/// The same until nobody has the lock.
+/// As `wait_to_read`, but waits until no caller has the lock.
 #[cold]
 fn wait_to_write<'a, O>(rt: &impl Wait, lock: &'a RwLock<O>) -> RwLockWriteGuard<'a, O> {
     for _ in 0..LOOKS {

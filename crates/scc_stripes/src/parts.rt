@@ -1,4 +1,4 @@
-//! Containers that will be stripes, before a lock is round any of them.
+//! `OpenStripes`: the containers that will be stripes, before they have locks.
 ghost use Rattle.scc_contents.specs.Routing.{stripe_of};
 ghost use Rattle.std.specs.Arc.{arc_value};
 ghost use Rattle.std.specs.Fn.{FnOnceReturnsAtMut};
@@ -12,8 +12,7 @@ use std::alloc::Global;
 use std::hash::{BuildHasher, Hash};
 use std::sync::{Arc, RwLock};
 
-/// As many containers as so many bits can number, under one hasher. No lock is round them yet, and whoever has them can
-/// fill them without waiting.
+/// A power of two of containers under one hasher, without locks. Their owner can fill them without waiting.
 #[derive(Drop)]
 pub struct OpenStripes<O, H> {
     parts: Vec<O>,
@@ -28,7 +27,7 @@ impl<O, H> OpenStripes<O, H> {
     ghost use Rattle.scc_stripes.specs.Parts.{part_bits, part_count, part_slots, parts_hasher, parts_of, parts_owner};
     ghost use Rattle.scc_stripes.specs.Stripes.{stripe_bits, stripes_hasher};
 
-    /// As many empty containers as so many bits can number, each with its share of the slots and of the maximum.
+    /// Makes 2^`bits` empty containers, each with its share of `slots` and of `maximum`.
     pub fn make(
         alloc: Global,
         bits: u32,
@@ -66,7 +65,7 @@ impl<O, H> OpenStripes<O, H> {
         })
     }
 
-    /// The number of the part of a key: that of the stripe that routing names.
+    /// Returns the number of the part of the key `k`, which will be the number of its stripe.
     pub fn route<K: Hash>(&self, k: &K) -> usize
     where
         H: BuildHasher,
@@ -77,7 +76,7 @@ impl<O, H> OpenStripes<O, H> {
         bucket_index(self.hasher.hash_one(k), 0, self.parts.len())
     }
 
-    /// Lends the part of that number to `f`, and answers what `f` answered.
+    /// Calls `f` with the part of the number `part`, and returns the result of `f`.
     pub fn change<R, F: FnOnce(&mut O) -> R>(&mut self, part: usize, f: F) -> R
         requires part { part < part_count self.old }
         requires callable { F.IsAlwaysCallable f }
@@ -90,7 +89,7 @@ impl<O, H> OpenStripes<O, H> {
         f(&mut self.parts[part])
     }
 
-    /// Puts a lock round each part.
+    /// Puts a lock around each part.
     pub fn lock(self, alloc: Global) -> Result<Striped<O, H>, MakeError>
     where
         O: Drop,

@@ -1,4 +1,4 @@
-//! The stripe that an entry holds. A seat is made beside the guard of its stripe, and nowhere else.
+//! `Seat`: the stripe that an entry has locked. A seat is made only together with the guard of its stripe.
 ghost use Rattle.scc_stripes.specs.Seats.{seat_stripe, seat_stripes, IsNextSeat, IsSeatIn};
 ghost use Rattle.scc_stripes.specs.Stripes.{stripe_count};
 ghost use Rattle.std.specs.Prelude.{◌≤◌, ◌<◌, suc, IfNone, IfSome};
@@ -7,7 +7,7 @@ use crate::{Follow, Striped};
 use std::sync::{RwLockWriteGuard, Wait};
 
 impl<O, H> Striped<O, H> {
-    /// Waits as `write` does, and answers the seat of the stripe beside its container.
+    /// Locks the stripe as `write` does, and returns its guard and its seat.
     pub fn hold(&self, rt: &impl Wait, stripe: usize) -> (RwLockWriteGuard<'_, O>, Seat<'_, O, H>)
         requires { stripe < stripe_count self.now }
         ensures seat { IsSeatIn self.now stripe result.1 }
@@ -16,7 +16,7 @@ impl<O, H> Striped<O, H> {
         (self.write(rt, stripe), Seat { stripes, stripe })
     }
 
-    /// Waits as `write_to_insert` does, and answers the seat of the stripe beside its container.
+    /// Locks the stripe as `write_to_insert` does, and returns its guard and its seat.
     pub fn hold_to_insert(
         &self,
         rt: &impl Wait,
@@ -32,7 +32,7 @@ impl<O, H> Striped<O, H> {
     }
 }
 
-/// Which of the stripes is held, for those who go on to the later ones.
+/// The number of a locked stripe, with the way to the later stripes.
 #[derive(Drop)]
 pub struct Seat<'a, O, H> {
     stripes: &'a Striped<O, H>,
@@ -40,7 +40,7 @@ pub struct Seat<'a, O, H> {
 }
 
 impl<'a, O, H> Seat<'a, O, H> {
-    /// The stripe after this one, held for writing; None where this is the last.
+    /// Locks the next stripe for writing, and returns its guard and its seat, or `None` if this stripe is the last.
     pub fn later(self, rt: &impl Wait) -> Option<(RwLockWriteGuard<'a, O>, Self)>
         ensures next { IfSome result (λ r. IsNextSeat self.entry r.1) }
         ensures last { IfNone result (stripe_count (seat_stripes self.entry) ≤ suc (seat_stripe self.entry)) }
@@ -52,7 +52,7 @@ impl<'a, O, H> Seat<'a, O, H> {
         Some(stripes.hold(rt, stripe + 1))
     }
 
-    /// Gives the container that is held its share of the minimum as it is now.
+    /// Gives `container`, that of the locked stripe, its share of the current minimum.
     pub fn follow(&self, container: &mut O)
     where
         O: Follow,

@@ -1,4 +1,4 @@
-//! What each stripe gets, and the slots that callers of a shared container have reserved.
+//! The shares of the stripes, and the slots that callers of a shared container have reserved.
 ghost use Rattle.scc_stripes.specs.Stripes.{share_of, reservation_slots};
 ghost use Rattle.std.specs.Prelude.{◌≡◌, ◌≤◌, ◌<◌, ◌+◌, ◌*◌, ◌^◌, ◌⊎◌, IfSome};
 
@@ -6,8 +6,8 @@ use scc_buckets::sizes::GREATEST_CAPACITY;
 use std::sync::atomic::{AtomicU64, Ordering};
 use std::sync::{Mutex, Wait};
 
-/// How many first bits of a hash pick a stripe where all stripes together have at least so many slots: as many stripes
-/// as are left 64 slots each, 16 at most.
+/// Returns how many first bits of a hash name a stripe, if all stripes together have `slots` slots: the greatest number
+/// of bits, at most 4, that leaves each stripe 64 slots, or 0.
 pub fn bits_for(slots: usize) -> u32
     ensures few { result ≤ 4 }
     ensures room { 64 ≤ slots → 64 * 2 ^ result ≤ slots }
@@ -26,7 +26,7 @@ pub fn bits_for(slots: usize) -> u32
     }
 }
 
-/// The share of one of 2^bits stripes, rounded up.
+/// Returns the share of one of 2^`bits` stripes, rounded up.
 pub fn share(bits: u32, slots: usize) -> usize
     requires bits { bits ≤ 4 }
     requires most { slots ≤ 2 ^ 63 }
@@ -37,7 +37,8 @@ pub fn share(bits: u32, slots: usize) -> usize
     (slots + (stripes - 1)) / stripes
 }
 
-/// The least number of slots: those asked for at making, and those reserved. It is one word that any thread may load.
+/// The minimum of all stripes together: the slots asked for at making, and the slots reserved. It is one word, which
+/// any thread may load.
 #[derive(Drop)]
 pub struct ReserveBook {
     minimum: AtomicU64,
@@ -45,7 +46,7 @@ pub struct ReserveBook {
 }
 
 impl ReserveBook {
-    /// A book in which nothing is reserved.
+    /// Makes a book in which nothing is reserved.
     pub fn new(asked: usize) -> ReserveBook {
         ReserveBook {
             minimum: AtomicU64::new(asked as u64),
@@ -53,14 +54,15 @@ impl ReserveBook {
         }
     }
 
-    /// The minimum that was loaded, cut at the greatest capacity.
+    /// Returns the minimum, or the greatest capacity if that is less.
     pub fn minimum(&self) -> usize
         ensures { result ≤ 2 ^ 63 }
     {
         (self.minimum.load(Ordering::SeqCst) as usize).min(GREATEST_CAPACITY)
     }
 
-    /// Adds so many slots, unless that is 0 or the sum would be above the greatest capacity. One caller adds at a time.
+    /// Adds `additional` slots to the minimum, and returns a reservation of them. Returns `None` if `additional` is 0,
+    /// or if the minimum would exceed the greatest capacity. One caller adds at a time.
     pub fn add(&self, rt: &impl Wait, additional: usize) -> Option<BookReservation<'_>>
         ensures { IfSome result (λ r. (reservation_slots r ≡ additional) × (0 < additional) × (additional ≤ 2 ^ 63)) }
     {
@@ -76,14 +78,14 @@ impl ReserveBook {
     }
 }
 
-/// Slots that were added, and are given back when this is dropped. The drop waits for nobody.
+/// A reservation of slots in a book. A drop gives the slots back, and waits for no other caller.
 pub struct BookReservation<'h> {
     book: &'h ReserveBook,
     additional: usize,
 }
 
 impl<'h> BookReservation<'h> {
-    /// How many slots they are.
+    /// Returns the number of slots reserved.
     pub fn additional_capacity(&self) -> usize
         ensures { result ≡ reservation_slots self.now }
     {

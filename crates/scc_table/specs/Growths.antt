@@ -1,4 +1,4 @@
--- What a growth of the array does to a table of two arrays, in one word a call.
+-- What a growth does to a table of two arrays, one word a call.
 use Rattle.std.specs.Prelude.{◌≡◌, ◌≢◌, ◌≤◌, ◌<◌, ◌+◌, ◌*◌, ◌^◌, ◌⊎◌, ℕ, [], Bool, false, true, length, replicate, slice_get, Result, IfOk, IsTrue}
 use Rattle.std.specs.List.{range_with_len}
 use Rattle.std.specs.List.Sorted.{IsPermutation}
@@ -17,229 +17,235 @@ use Rattle.scc_table.specs.TwoArrays.{pending_targets, waits_at}
 
 module _ {E K S : Type 0} (eq : K → K → Bool) (key : E → K) where
   module _ (hash_of : K → ℕ) where
-    -- the number of buckets is doubled where at least half as many entries as slots are held, unless memory is refused
+    -- the array doubles if the table has at least half as many entries as slots, unless memory is refused
     pub record GrowsHalfFull (c d : Contents E S) : Type 0 where
-      -- nothing changed but for one resize
+      -- nothing changes, or one resize is made
       pub rests : Rests c d
       -- the number of buckets changes only by a doubling
       pub growth : Grows c d
-      -- it is doubled where that is due, unless the note of refused memory is up
+      -- if a doubling is due and the note is down afterwards, the array has doubled
       pub due : 32 * bucket_count c ≤ 2 * length (entries c) → 32 * bucket_count c < 2 ^ 63 → (refused_of d).0 ≡ false → bucket_count d ≡ 2 * bucket_count c
-      -- the note goes up only where that is due
+      -- the note rises only if a doubling is due
       pub raised : (refused_of c).0 ≡ false → (refused_of d).0 ≡ true → (32 * bucket_count c ≤ 2 * length (entries c)) × (32 * bucket_count c < 2 ^ 63)
-      -- it goes down only by a doubling
+      -- the note falls only by a doubling
       pub lowered : (refused_of c).0 ≡ true → (refused_of d).0 ≡ false → bucket_count d ≢ bucket_count c
-      -- and is down after one
+      -- after a doubling, the note is down
       pub down : bucket_count d ≢ bucket_count c → (refused_of d).0 ≡ false
-      -- of the same array each list stays
+      -- without a doubling, each list stays
       pub stays : bucket_count d ≡ bucket_count c → lists_of d ≡ lists_of c
-      -- and the same buckets wait
+      -- without a doubling, the waiting buckets stay
       pub waiting : bucket_count d ≡ bucket_count c → waiting_of d ≡ waiting_of c
-      -- of a larger one every bucket waits
+      -- after a doubling, every bucket waits
       pub all : bucket_count d ≢ bucket_count c → waiting_of d ≡ replicate (bucket_count d) true
-      -- and the entries stand in the lists of its buckets
+      -- after a doubling, each list has the entries that belong to it
       pub lists : bucket_count d ≢ bucket_count c → IsRegrouped (λ e. hash_of (key e)) (bucket_count d) c d
       -- there is an array
       pub array : 0 < bucket_count d
-      -- a growth that is marked as tried isn't tried again
+      -- a growth that is marked isn't tried
       pub once : (refused_of c).1 ≡ true → bucket_count d ≡ bucket_count c
-      -- none is marked where it was due
+      -- if a doubling is due, no growth is marked afterwards
       pub unmarked : 32 * bucket_count c ≤ 2 * length (entries c) → 32 * bucket_count c < 2 ^ 63 → (refused_of d).1 ≡ false
-      -- nothing is noted or marked where it wasn't due
+      -- if no doubling is due, the note and the mark stay
       pub noted : ((32 * bucket_count c ≤ 2 * length (entries c)) × (32 * bucket_count c < 2 ^ 63) → ⊥) → refused_of d ≡ refused_of c
-      -- none is marked that wasn't
+      -- a growth is marked only if it was, and the note stays then
       pub marked : (refused_of d).1 ≡ true → refused_of d ≡ refused_of c
       -- no two keys are equal
       pub unique : IsUniqueBy eq key d
 
-    -- the array grows as a new key of that hash wants, and its bucket is answered
+    -- the array is made or grows as an insertion of a new key with the hash `hash` needs, and the result is the bucket
+    -- of `hash`
     pub record FindsBucketForNew {X : Type 0} (c : Contents E S) (hash : ℕ) (result : Result ℕ X) (d : Contents E S) : Type 0 where
-      -- nothing changed but for one resize
+      -- nothing changes, or one resize is made
       pub rests : Rests c d
-      -- the number of buckets changes only by a first array or a doubling
+      -- the number of buckets changes only by the first array or a doubling
       pub growth : Grows c d
-      -- there is such a bucket
+      -- on success, the result is below the number of buckets
       pub within : IfOk result (λ i. i < bucket_count d)
-      -- it is the one of the hash
+      -- on success, the result is the bucket of `hash`
       pub routed : IfOk result (λ i. i ≡ bucket_number (settings_of d).skipped (bucket_count d) hash)
-      -- nothing changes where the hash's bucket has room
+      -- if the bucket of `hash` has room, nothing changes
       pub still : HasRoomAt hash_of key c hash → d ≡ c
-      -- the number of buckets is doubled where that is due, unless the note of refused memory is up
+      -- if a doubling is due and the note is down afterwards, the array has doubled
       pub due : 0 < bucket_count c → pending_of c ≡ 0 → (HasRoomAt hash_of key c hash → ⊥) → 32 * bucket_count c ≤ 2 * length (entries c) → 32 * bucket_count c < 2 ^ 63 → (refused_of d).0 ≡ false → bucket_count d ≡ 2 * bucket_count c
-      -- the note goes up only where that is due
+      -- the note rises only if a doubling is due
       pub raised : (refused_of c).0 ≡ false → (refused_of d).0 ≡ true → (0 < bucket_count c) × (HasRoomAt hash_of key c hash → ⊥) × (32 * bucket_count c ≤ 2 * length (entries c)) × (32 * bucket_count c < 2 ^ 63)
-      -- it goes down only by a doubling
+      -- the note falls only by a doubling
       pub lowered : (refused_of c).0 ≡ true → (refused_of d).0 ≡ false → (0 < bucket_count c) × (bucket_count d ≢ bucket_count c)
-      -- and is down after one
+      -- after a doubling, the note is down
       pub down : 0 < bucket_count c → bucket_count d ≢ bucket_count c → (refused_of d).0 ≡ false
-      -- the first array has the size of the minimum
+      -- on success, the first array has the size of the minimum
       pub first : OnOk result (FirstArrayWhenDue c d)
-      -- where there was no array there is no entry
+      -- if there was no array, there is no entry
       pub bare : bucket_count c ≡ 0 → entries d ≡ []
-      -- and no bucket waits
+      -- if there was no array, no bucket waits
       pub not_waiting : bucket_count c ≡ 0 → waiting_of d ≡ []
-      -- of the same array each list stays
+      -- without a resize, each list stays
       pub stays : 0 < bucket_count c → bucket_count d ≡ bucket_count c → lists_of d ≡ lists_of c
-      -- and the same buckets wait
+      -- without a resize, the waiting buckets stay
       pub waiting : 0 < bucket_count c → bucket_count d ≡ bucket_count c → waiting_of d ≡ waiting_of c
-      -- of a larger one every bucket waits
+      -- after a doubling, every bucket waits
       pub all : 0 < bucket_count c → bucket_count d ≢ bucket_count c → waiting_of d ≡ replicate (bucket_count d) true
-      -- and the entries stand in the lists of its buckets
+      -- after a doubling, each list has the entries that belong to it
       pub lists : 0 < bucket_count c → bucket_count d ≢ bucket_count c → IsRegrouped (λ e. hash_of (key e)) (bucket_count d) c d
-      -- no growth is made where a bucket waits or one is marked as tried
+      -- if a bucket waits or a growth is marked, the array doesn't double
       pub once : 0 < bucket_count c → (0 < pending_of c) ⊎ ((refused_of c).1 ≡ true) → bucket_count d ≡ bucket_count c
-      -- none is marked where it was due
+      -- if a doubling is due, no growth is marked afterwards
       pub unmarked : 0 < bucket_count c → pending_of c ≡ 0 → (HasRoomAt hash_of key c hash → ⊥) → 32 * bucket_count c ≤ 2 * length (entries c) → 32 * bucket_count c < 2 ^ 63 → (refused_of d).1 ≡ false
-      -- it is refused only where there is no array
+      -- the call fails only if there is no array
       pub none : OnErr result (bucket_count c ≡ 0)
-      -- a refusal changes no entry, bucket or setting
+      -- on failure, entries, buckets and settings stay
       pub refused : OnErr result (IsUnchanged c d)
-      -- nor anything else
+      -- on failure, all stays
       pub same : OnErr result (d ≡ c)
-      -- nothing is noted or marked where no growth is due
+      -- if no growth is due, the note and the mark stay
       pub noted : (IsGrowthDue hash_of key c hash → ⊥) → refused_of d ≡ refused_of c
-      -- no growth is marked that wasn't
+      -- a growth is marked only if it was, and the note stays then
       pub marked : (refused_of d).1 ≡ true → refused_of d ≡ refused_of c
       -- no two keys are equal
       pub unique : IsUniqueBy eq key d
 
-    -- twice as many buckets take the place of the present ones, where no bucket waits, and the entry at the place, of that hash, stands at the answer then
+    -- if no bucket waits, the array doubles, unless memory is refused; the entry at `place`, whose key has the hash
+    -- `hash`, stands at `result` afterwards
     pub record DoublesAround (c : Contents E S) (place : Place) (hash : ℕ) (result : Place) (d : Contents E S) : Type 0 where
-      -- nothing changed but for one resize
+      -- nothing changes, or one resize is made
       pub rests : Rests c d
       -- the number of buckets changes only by a doubling
       pub doubled : bucket_count d ≢ bucket_count c → bucket_count d ≡ 2 * bucket_count c
-      -- it is doubled unless the note of refused memory is up
+      -- if the note is down afterwards, the array has doubled
       pub due : (refused_of d).0 ≡ false → bucket_count d ≢ bucket_count c
-      -- the note is down after a doubling
+      -- after a doubling, the note is down
       pub down : bucket_count d ≢ bucket_count c → (refused_of d).0 ≡ false
-      -- no growth is marked as tried
+      -- no growth is marked
       pub unmarked : (refused_of d).1 ≡ false
-      -- there is such a bucket
+      -- the bucket of the result is below the number of buckets
       pub within : result.bucket < bucket_count d
-      -- the entry stands there
+      -- the entry of `place` stands at the result
       pub here : slice_get (list_of d result.bucket) result.slot ≡ slice_get (list_of c place.bucket) place.slot
-      -- the bucket is the one of the hash
+      -- the bucket of the result is the bucket of `hash`
       pub routed : result.bucket ≡ bucket_number (settings_of c).skipped (bucket_count d) hash
-      -- it doesn't wait
+      -- the bucket of the result doesn't wait
       pub not_waiting : waits_at (waiting_of d) result.bucket ≡ false
-      -- of the same array none waits
+      -- without a doubling, no bucket waits
       pub none : bucket_count d ≡ bucket_count c → pending_of d ≡ 0
-      -- of a larger one all wait but two at most
+      -- after a doubling, all buckets but at most two wait
       pub most : bucket_count d ≢ bucket_count c → bucket_count d ≤ pending_of d + 2
-      -- that bucket and the first ones don't, two in all, where none but that one is long
+      -- after a doubling, if no other bucket would hold more than 32 entries, exactly the bucket of the result and the
+      -- first other bucket don't wait
       pub spread : bucket_count d ≢ bucket_count c → AreShortBut (λ e. hash_of (key e)) (bucket_count d) result.bucket c → pending_targets d ≡ left_after result.bucket (range_with_len 0 (bucket_count d))
-      -- that bucket and the first ones took their entries over
+      -- after a doubling, the bucket of the result and the first other bucket are relocated, unless memory is refused
       pub drained : bucket_count d ≢ bucket_count c → AreMovedBeside result.bucket (range_with_len 0 (bucket_count d)) d
       -- no two keys are equal
       pub unique : IsUniqueBy eq key d
 
-    -- the new entry e, whose key has that hash, is put into so many new buckets that take the place of the present ones
+    -- an array of `count` buckets is installed, and the new entry e, whose key has the hash `hash`, is inserted
     pub record InsertsGrown (c : Contents E S) (count hash : ℕ) (e : E) (result : Place) (d : Contents E S) : Type 0 where
-      -- the entry is put in, and the place is its place
+      -- e is inserted, and the result is its place
       pub ok : IsInsertedAt c e d result
-      -- there are so many buckets then
+      -- there are `count` buckets
       pub buckets : bucket_count d ≡ count
       -- no refused memory is noted
       pub down : (refused_of d).0 ≡ false
-      -- no growth is marked as tried
+      -- no growth is marked
       pub unmarked : (refused_of d).1 ≡ false
-      -- all buckets wait but two at most
+      -- all buckets but at most two wait
       pub most : count ≤ pending_of d + 2
-      -- the key's bucket and the first ones don't, two in all, where no new bucket is long
+      -- if no bucket would hold more than 32 entries, exactly the bucket of the key and the first other bucket don't
+      -- wait
       pub spread : AreShortAmong (λ f. hash_of (key f)) count c → pending_targets d ≡ left_after (bucket_number (settings_of c).skipped count hash) (range_with_len 0 count)
-      -- the key's bucket and the first ones took their entries over
+      -- the bucket of the key and the first other bucket are relocated, unless memory is refused
       pub drained : AreMovedBeside (bucket_number (settings_of c).skipped count hash) (range_with_len 0 count) d
-      -- the key's bucket doesn't wait
+      -- the bucket of the key doesn't wait
       pub not_waiting : waits_at (waiting_of d) (bucket_number (settings_of c).skipped count hash) ≡ false
       -- no two keys are equal
       pub unique : IsUniqueBy eq key d
 
   module _ (hash_in : Contents E S → K → ℕ) where
-    -- the number of buckets is doubled where that is due for arrays of fewer slots than `most`, unless memory is refused, and it is answered whether it was
+    -- the array doubles if a doubling is due, for arrays of fewer slots than `most`, unless memory is refused; the
+    -- result says whether a due doubling wasn't made
     pub record DoublesWithin (most : ℕ) (c : Contents E S) (result : Bool) (d : Contents E S) : Type 0 where
-      -- it is doubled where that is due and wasn't refused just before
+      -- the array doubles if a doubling is due and no growth is marked
       pub doubles : DoublesBelow (λ e. hash_in c (key e)) most c d
-      -- the entries are the same in some order
+      -- the entries stay, in some order
       pub same : IsPermutation (entries c) (entries d)
       -- the settings stay
       pub settings : settings_of d ≡ settings_of c
-      -- each entry stands in the list of its hash
+      -- each entry stands in the bucket of its hash, and no list has more than 32
       pub listed : IsListed (λ e. hash_in d (key e)) d
       -- there is an array
       pub array : 0 < bucket_count d
-      -- of the same array the same buckets wait
+      -- without a doubling, the waiting buckets stay
       pub waiting : bucket_count d ≡ bucket_count c → waiting_of d ≡ waiting_of c
-      -- of a larger one every bucket does
+      -- after a doubling, every bucket waits
       pub all : bucket_count d ≢ bucket_count c → pending_of d ≡ bucket_count d
-      -- true says that it was due and each list stayed
+      -- if the result is true, a doubling was due, and each list stays
       pub refused : IsTrue result → IsDoublingDue most c × HasListsOf c d
-      -- after false none is due
+      -- if the result is false, no doubling is due afterwards
       pub made : (IsTrue result → ⊥) → IsDoublingDue most d → ⊥
-      -- a growth is marked as tried only where nothing changed
+      -- a growth is marked only if nothing changed
       pub marked : (refused_of d).1 ≡ true → d ≡ c
       -- no two keys are equal
       pub unique : IsUniqueBy eq key d
 
-    -- the array grows as a new key of that hash wants where arrays of fewer slots than `most` may grow, and its bucket is answered
+    -- the array is made or grows as a put of a new key with the hash `hash` needs, for arrays of fewer slots than
+    -- `most`, and the result is the bucket of `hash`
     pub record FindsBucketWithin {X : Type 0} (most : ℕ) (c : Contents E S) (hash : ℕ) (result : Result ℕ X) (d : Contents E S) : Type 0 where
-      -- the first array is made, or the buckets are doubled where that is due
+      -- on success, the first array is made, or the array doubles if a doubling is due
       pub grows : IfOk result (λ _. GrowsBelow (λ e. hash_in c (key e)) most (bucket_number (settings_of c).skipped (bucket_count c) hash) c d)
-      -- the entries are the same in some order
+      -- the entries stay, in some order
       pub same : IsPermutation (entries c) (entries d)
       -- the settings stay
       pub settings : settings_of d ≡ settings_of c
-      -- each entry stands in the list of its hash
+      -- each entry stands in the bucket of its hash, and no list has more than 32
       pub listed : IsListed (λ e. hash_in d (key e)) d
-      -- there is such a bucket
+      -- on success, the result is below the number of buckets
       pub within : IfOk result (λ i. i < bucket_count d)
-      -- it is the one of the hash
+      -- on success, the result is the bucket of `hash`
       pub routed : IfOk result (λ i. i ≡ bucket_number (settings_of d).skipped (bucket_count d) hash)
-      -- it is refused only where there is no array, and nothing changed then
+      -- the call fails only if there is no array; then nothing changes
       pub none : OnErr result ((bucket_count c ≡ 0) × (d ≡ c))
-      -- of a first array no bucket waits
+      -- if there was no array, no bucket waits
       pub first : bucket_count c ≡ 0 → waiting_of d ≡ []
-      -- of the same array the same buckets wait
+      -- without a resize, the waiting buckets stay
       pub waiting : 0 < bucket_count c → bucket_count d ≡ bucket_count c → waiting_of d ≡ waiting_of c
-      -- of a larger one every bucket does
+      -- after a doubling, every bucket waits
       pub all : 0 < bucket_count c → bucket_count d ≢ bucket_count c → pending_of d ≡ bucket_count d
       -- no two keys are equal
       pub unique : IsUniqueBy eq key d
 
-    -- all is made that a put of a new key of that hash wants where arrays of fewer slots than `most` may grow
+    -- a put of a new key with the hash `hash` is prepared, for arrays of fewer slots than `most`
     pub record PreparesWithin {X : Type 0} (most : ℕ) (c : Contents E S) (hash : ℕ) (result : Result (Unit {0}) X) (d : Contents E S) : Type 0 where
-      -- the first array is made, or the buckets are doubled where that is due
+      -- on success, the first array is made, or the array doubles if a doubling is due
       pub grows : OnOk result (GrowsBelow (λ e. hash_in c (key e)) most (bucket_number (settings_of c).skipped (bucket_count c) hash) c d)
-      -- the put wants nothing more then
+      -- on success, the put is prepared
       pub ready : OnOk result (IsPreparedBelow most (bucket_number (settings_of d).skipped (bucket_count d) hash) d)
-      -- a growth is marked as tried only where it was before, or where it is noted as refused
+      -- a growth is marked only if it was, or if refused memory is noted
       pub marked : (refused_of d).1 ≡ true → ((refused_of c).1 ≡ true) ⊎ ((refused_of d).0 ≡ true)
       -- the settings stay
       pub settings : settings_of d ≡ settings_of c
-      -- each entry stands in the list of its hash
+      -- each entry stands in the bucket of its hash, and no list has more than 32
       pub listed : IsListed (λ e. hash_in d (key e)) d
-      -- it is refused only where there is no array, and nothing changed then
+      -- the call fails only if there is no array; then nothing changes
       pub none : OnErr result ((bucket_count c ≡ 0) × (d ≡ c))
-      -- of a first array no bucket waits
+      -- if there was no array, no bucket waits
       pub first : bucket_count c ≡ 0 → waiting_of d ≡ []
-      -- of the same array the same buckets wait
+      -- without a resize, the waiting buckets stay
       pub waiting : 0 < bucket_count c → bucket_count d ≡ bucket_count c → waiting_of d ≡ waiting_of c
-      -- of a larger one every bucket does
+      -- after a doubling, every bucket waits
       pub all : 0 < bucket_count c → bucket_count d ≢ bucket_count c → pending_of d ≡ bucket_count d
       -- no two keys are equal
       pub unique : IsUniqueBy eq key d
 
-    -- the mark of a growth that was tried is taken away, and nothing else changed
+    -- the mark is taken away, and nothing else changes
     pub record DropsMarkWithin (c d : Contents E S) : Type 0 where
       -- each list stays
       pub lists : lists_of d ≡ lists_of c
       -- the settings stay
       pub settings : settings_of d ≡ settings_of c
-      -- the note of refused memory stays, and no growth is marked as tried
+      -- the note stays, and no growth is marked
       pub noted : refused_of d ≡ ((refused_of c).0, false)
-      -- the same buckets wait
+      -- the waiting buckets stay
       pub waiting : waiting_of d ≡ waiting_of c
-      -- each entry stands in the list of its hash
+      -- each entry stands in the bucket of its hash, and no list has more than 32
       pub listed : IsListed (λ e. hash_in d (key e)) d
       -- no two keys are equal
       pub unique : IsUniqueBy eq key d

@@ -1,4 +1,5 @@
--- What the calls do to a table of two arrays that make an array, put a new one in the place of the present one, or set a note alone.
+-- What the calls do to a table of two arrays that make an array, install one, or set the note, the mark or the reserved
+-- slots alone.
 use Rattle.std.specs.Prelude.{◌≡◌, ◌≤◌, ◌<◌, ℕ, Bool, true, false, [], replicate, Result}
 use Rattle.std.specs.List.Sorted.{IsPermutation}
 use Rattle.std.specs.Result.{OnOk, OnErr}
@@ -10,149 +11,151 @@ use Rattle.scc_table.specs.Relocates.{AreShort}
 use Rattle.scc_table.specs.TwoArrays.{cleared, IsWaiting}
 
 module _ {E S : Type 0} where
-  -- every bucket of a new array of so many buckets waits, and nothing else changed
+  -- a new array of `count` buckets is installed, every bucket waits, and nothing else changes
   pub record Installs (hash : E → ℕ) (count : ℕ) (c d : Contents E S) : Type 0 where
-    -- the entries stand in the lists of the new buckets
+    -- each list has the entries that belong to it
     pub lists : IsRegrouped hash count c d
-    -- they are the same in some order
+    -- the entries stay, in some order
     pub same : IsPermutation (entries c) (entries d)
     -- every bucket waits
     pub waiting : waiting_of d ≡ replicate count true
-    -- that is so many
+    -- `count` buckets wait
     pub pending : pending_of d ≡ count
-    -- the note of refused memory stays
+    -- the note and the mark stay
     pub noted : refused_of d ≡ refused_of c
-    -- short overflow lists stay short
+    -- empty overflow lists stay empty
     pub bounded : IsBounded c → IsBounded d
 
-  -- only the number of reserved slots changed
+  -- the number of reserved slots is set, and nothing else changes
   pub record SetsReserved (reserved : ℕ) (c d : Contents E S) : Type 0 where
     -- the entries stay
     pub entries : entries d ≡ entries c
     -- the number of buckets stays
     pub buckets : bucket_count d ≡ bucket_count c
-    -- so many slots are reserved now
+    -- `reserved` slots are reserved
     pub settings : settings_of d ≡ record (settings_of c) { reserved = reserved }
-    -- the note of refused memory stays
+    -- the note and the mark stay
     pub noted : refused_of d ≡ refused_of c
     -- each list stays
     pub lists : lists_of d ≡ lists_of c
-    -- the same buckets wait
+    -- the waiting buckets stay
     pub waiting : waiting_of d ≡ waiting_of c
-    -- the old array stays
+    -- what the old array owes stays
     pub owed : owed_of d ≡ owed_of c
 
 module _ {E K S : Type 0} (eq : K → K → Bool) (key : E → K) where
-  -- only the note of refused memory changed, and it is that one now
+  -- the note and the mark are set to `note`, and nothing else changes
   pub record Notes (note : Bool × Bool) (c d : Contents E S) : Type 0 where
     -- each list stays
     pub lists : lists_of d ≡ lists_of c
     -- the settings stay
     pub settings : settings_of d ≡ settings_of c
-    -- the note is that one
+    -- the note and the mark are `note`
     pub noted : refused_of d ≡ note
-    -- as many entries lie in overflow lists
+    -- the number of entries in overflow lists stays
     pub spilled : overflow_of d ≡ overflow_of c
-    -- the same buckets wait
+    -- the waiting buckets stay
     pub waiting : waiting_of d ≡ waiting_of c
-    -- the old array stays
+    -- what the old array owes stays
     pub owed : owed_of d ≡ owed_of c
     -- no two keys are equal
     pub unique : IsUniqueBy eq key d
 
   module _ {X : Type 0} (hash : E → ℕ) where
-    -- the first array was made, of the size of the minimum, or memory for it was refused
+    -- the first array is made, with the size of the minimum, or memory for it is refused
     pub record InstallsFirst (c : Contents E S) (result : Result (Unit {0}) X) (d : Contents E S) : Type 0 where
-      -- nothing changed but for one resize
+      -- nothing changes, or one resize is made
       pub rests : Rests c d
       -- the number of buckets changes only by the first array
       pub growth : Grows c d
-      -- the note of refused memory stays
+      -- the note and the mark stay
       pub noted : refused_of d ≡ refused_of c
-      -- the array has the size of the minimum
+      -- on success, the array has the size of the minimum
       pub first : OnOk result (FirstArrayWhenDue c d)
-      -- there is one then
+      -- on success, there is an array
       pub array : OnOk result (0 < bucket_count d)
       -- there is no entry
       pub bare : entries d ≡ []
       -- no bucket waits
       pub waiting : waiting_of d ≡ []
-      -- a refusal changes no entry, bucket or setting
+      -- on failure, entries, buckets and settings stay
       pub refused : OnErr result (IsUnchanged c d)
-      -- the array is a resized one
+      -- on success, the array is of a lawful size, and its overflow lists are empty
       pub resized : OnOk result (IsResized hash c d)
-      -- a refusal changes nothing
+      -- on failure, all stays
       pub same : OnErr result (d ≡ c)
       -- no two keys are equal
       pub unique : IsUniqueBy eq key d
 
-    -- where no bucket waited, every bucket of a new array of so many buckets waits, or memory was refused
+    -- if no bucket waits, a new array of `count` buckets is installed, and all of them wait; or memory is refused
     pub record InstallsFresh (count : ℕ) (c : Contents E S) (result : Result (Unit {0}) X) (d : Contents E S) : Type 0 where
-      -- the entries stand in the lists of the new buckets
+      -- on success, each list has the entries that belong to it
       pub lists : OnOk result (IsRegrouped hash count c d)
-      -- they are the same in some order
+      -- on success, the entries stay, in some order
       pub same : OnOk result (IsPermutation (entries c) (entries d))
-      -- every bucket waits
+      -- on success, every bucket waits
       pub waiting : OnOk result (waiting_of d ≡ replicate count true)
-      -- that is so many
+      -- on success, `count` buckets wait
       pub pending : OnOk result (pending_of d ≡ count)
-      -- no refused memory is noted
+      -- on success, no refused memory is noted
       pub down : OnOk result ((refused_of d).0 ≡ false)
-      -- a refusal changes no list
+      -- on failure, each list stays
       pub err : OnErr result (lists_of d ≡ lists_of c)
       -- the settings stay
       pub settings : settings_of d ≡ settings_of c
-      -- a refusal leaves the same buckets waiting
+      -- on failure, the waiting buckets stay
       pub stays : OnErr result (waiting_of d ≡ waiting_of c)
-      -- short overflow lists stay short
+      -- empty overflow lists stay empty
       pub bounded : IsBounded c → IsBounded d
-      -- a refusal is noted
+      -- on failure, the refused memory is noted
       pub up : OnErr result ((refused_of d).0 ≡ true)
-      -- no growth is marked as tried
+      -- no growth is marked
       pub unmarked : (refused_of d).1 ≡ false
       -- no two keys are equal
       pub unique : IsUniqueBy eq key d
 
-    -- the buckets that waited took their entries over and then every bucket of a new array of so many waits, or memory was refused
+    -- all waiting buckets are relocated, and a new array of `count` buckets is installed, and all of them wait; or
+    -- memory is refused
     pub record ResizesArray (count : ℕ) (c : Contents E S) (result : Result (Unit {0}) X) (d : Contents E S) : Type 0 where
-      -- the entries stand in the lists of the new buckets
+      -- on success, each list has the entries that belong to it
       pub lists : OnOk result (IsRegrouped hash count c d)
-      -- they are the same in some order
+      -- on success, the entries stay, in some order
       pub same : OnOk result (IsPermutation (entries c) (entries d))
-      -- every bucket waits
+      -- on success, every bucket waits
       pub waiting : OnOk result (waiting_of d ≡ replicate count true)
-      -- that is so many
+      -- on success, `count` buckets wait
       pub pending : OnOk result (pending_of d ≡ count)
-      -- no refused memory is noted
+      -- on success, no refused memory is noted
       pub down : OnOk result ((refused_of d).0 ≡ false)
-      -- a refusal changes no entry, bucket or setting
+      -- on failure, entries, buckets and settings stay
       pub err : OnErr result (IsUnchanged c d)
-      -- none waits then that didn't
+      -- on failure, no bucket starts to wait
       pub fewer : OnErr result ((i : ℕ) → IsWaiting d i → IsWaiting c i)
-      -- and no more than before
+      -- on failure, the number of waiting buckets doesn't rise
       pub less : OnErr result (pending_of d ≤ pending_of c)
-      -- each list is as it was
+      -- on failure, each list stays
       pub still : OnErr result (lists_of d ≡ lists_of c)
       -- the settings stay
       pub settings : settings_of d ≡ settings_of c
-      -- short overflow lists stay short where no bucket that waits is long
+      -- empty overflow lists stay empty, if no waiting bucket holds more than 32 entries
       pub bounded : IsBounded c → AreShort c → IsBounded d
-      -- a refusal is noted
+      -- on failure, the refused memory is noted
       pub up : OnErr result ((refused_of d).0 ≡ true)
       -- no two keys are equal
       pub unique : IsUniqueBy eq key d
 
-    -- every bucket of a new array of so many buckets waits but that one, or memory was refused
+    -- a new array of `count` buckets is installed, bucket `bucket` is relocated, and all others wait; or memory is
+    -- refused
     pub record InstallsRelocating (count bucket : ℕ) (c : Contents E S) (result : Result (Unit {0}) X) (d : Contents E S) : Type 0 where
-      -- the entries stand in the lists of the new buckets
+      -- on success, each list has the entries that belong to it
       pub lists : OnOk result (IsRegrouped hash count c d)
-      -- they are the same in some order
+      -- on success, the entries stay, in some order
       pub same : OnOk result (IsPermutation (entries c) (entries d))
-      -- every bucket waits but that one
+      -- on success, every bucket but `bucket` waits
       pub waiting : OnOk result (waiting_of d ≡ cleared (replicate count true) bucket)
-      -- the note of refused memory stays
+      -- on success, the note and the mark stay
       pub noted : OnOk result (refused_of d ≡ refused_of c)
-      -- a refusal changes nothing
+      -- on failure, all stays
       pub err : OnErr result (d ≡ c)
       -- no two keys are equal
       pub unique : IsUniqueBy eq key d

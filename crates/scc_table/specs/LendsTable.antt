@@ -10,10 +10,10 @@ use Rattle.scc_table.specs.Places.{with_write_at}
 use Rattle.scc_table.specs.contracts.Table.{the_row}
 
 module _ (E H K T V : RattleType) (by : keyed.Ghosts E.Denot K.Denot) (key : HashMembers K.Denot) (build : builder.Ghosts H.Denot T.Denot) (feed : hasher.Ghosts T.Denot) (put : E.Denot → V.Denot → E.Denot) where
-  -- the type of the table of two arrays, as the logic holds it
+  -- the type of the table, as the logic holds it
   abbrev pub table_row : RattleType
   table_row = the_row E H K T by build feed (record { eq = key.eq }) (record { hash_input = key.hash_input })
 
-  -- the entry at the place has the last value written through r
+  -- when the loan r ends, the entry at p has the last value written through r
   abbrev pub lends_value : MutBor (Contents E.Denot H.Denot) → Place → MutBor V.Denot → Fml
   lends_value m p r = Lends table_row V m r (with_write_at put m.now p)

@@ -1,4 +1,5 @@
--- What an insertion of an entry that is made first does to a table of two arrays, in one word a call. A refusal hands the parts back.
+-- What an insertion of an entry that is made of its parts does to a table of two arrays, one word a call. A failure
+-- hands the parts x back.
 use Rattle.std.specs.Prelude.{◌≡◌, ◌≢◌, ◌≤◌, ◌<◌, ◌+◌, ◌-◌, ◌*◌, ◌^◌, ℕ, [], Bool, false, true, length, Result, IfOk, IfErr}
 use Rattle.std.specs.List.{range_with_len}
 use Rattle.std.specs.Result.{OnOk, OnErr}
@@ -11,191 +12,201 @@ use Rattle.scc_table.specs.Relocates.{left_after, AreMovedBeside, AreShort, AreS
 use Rattle.scc_table.specs.TwoArrays.{IsWaiting, pending_targets, waits_at}
 
 module _ {E K S X : Type 0} (eq : K → K → Bool) (key : E → K) where
-  -- the new entry e is put into the first array, which is made for it
+  -- the new entry e is inserted into the first array, which is made for it
   pub record InsertsMadeFirst (c : Contents E S) (e : E) (x : X) (result : Result Place X) (d : Contents E S) : Type 0 where
-    -- the entry is put in, and the place is its place
+    -- on success, e is inserted, and the result is its place
     pub ok : IfOk result (IsInsertedAt c e d)
-    -- refused, the parts come back and nothing changed
+    -- on failure, x is handed back and nothing changes
     pub err : IfErr result (λ y. (y ≡ x) × IsUnchanged c d)
     -- the number of buckets changes only by the first array
     pub growth : Grows c d
-    -- the note of refused memory stays
+    -- the note and the mark stay
     pub noted : refused_of d ≡ refused_of c
-    -- the array has the size of the minimum
+    -- on success, the array has the size of the minimum
     pub first : OnOk result (FirstArrayWhenDue c d)
     -- no bucket waits
     pub waiting : waiting_of d ≡ []
     -- no two keys are equal
     pub unique : IsUniqueBy eq key d
 
-  -- the new entry e is put into bucket i of the present array, where memory for another was refused
+  -- the new entry e is inserted into bucket i of the current array, after memory for another array was refused
   pub record InsertsMadeNoted (c : Contents E S) (i : ℕ) (e : E) (x : X) (result : Result Place X) (d : Contents E S) : Type 0 where
-    -- the entry is put in, and the place is its place
+    -- on success, e is inserted, and the result is its place
     pub ok : IfOk result (IsInsertedAt c e d)
-    -- refused, the parts come back and nothing changed
+    -- on failure, x is handed back and nothing changes
     pub err : IfErr result (λ y. (y ≡ x) × IsUnchanged c d)
     -- the number of buckets stays
     pub buckets : bucket_count d ≡ bucket_count c
     -- the refused memory is noted
     pub up : (refused_of d).0 ≡ true
-    -- no growth is marked as tried
+    -- no growth is marked
     pub unmarked : (refused_of d).1 ≡ false
-    -- none waits that didn't
+    -- no bucket starts to wait
     pub fewer : (j : ℕ) → IsWaiting d j → IsWaiting c j
-    -- no more wait than before
+    -- the number of waiting buckets doesn't rise
     pub less : pending_of d ≤ pending_of c
-    -- the bucket itself doesn't wait
+    -- on success, bucket i doesn't wait
     pub not_waiting : OnOk result (waits_at (waiting_of d) i ≡ false)
     -- no two keys are equal
     pub unique : IsUniqueBy eq key d
 
   module _ (hash_of : K → ℕ) where
-    -- what an insertion of the new entry e does, whose key has that hash
+    -- the new entry e, whose key has the hash `hash`, is inserted
     pub record InsertsMade (c : Contents E S) (hash : ℕ) (e : E) (x : X) (result : Result Place X) (d : Contents E S) : Type 0 where
-      -- the entry is put in, and the place is its place
+      -- on success, e is inserted, and the result is its place
       pub ok : IfOk result (IsInsertedAt c e d)
-      -- refused, the parts come back and nothing changed
+      -- on failure, x is handed back and nothing changes
       pub err : IfErr result (λ y. (y ≡ x) × IsUnchanged c d)
-      -- the number of buckets changes only by a first array or a doubling
+      -- the number of buckets changes only by the first array or a doubling
       pub growth : Grows c d
-      -- it is doubled where a growth is due, unless memory for that was refused
+      -- on success, the array doubles if a growth is due, unless memory is refused
       pub due : OnOk result (GrowsWhenDue hash_of key c (key e) d)
-      -- a refusal notes refused memory only where a growth was due
+      -- on failure, the note rises only if a growth is due
       pub raised : OnErr result (RaisesWhenDue hash_of key c (key e) d)
-      -- and otherwise leaves the note as one that grows does
+      -- on failure, the rules of a growth hold as on success
       pub undone : OnErr result (GrowsWhenDue hash_of key c (key e) d)
-      -- the first array has the size of the minimum
+      -- on success, the first array has the size of the minimum
       pub first : OnOk result (FirstArrayWhenDue c d)
-      -- the number of buckets stays where the key's bucket has room
+      -- if the bucket of the key has room, the number of buckets stays
       pub kept : HasRoomBy hash_of key c (key e) → bucket_count d ≡ bucket_count c
-      -- and where room was made before
+      -- if the insertion is prepared, the number of buckets stays
       pub once : IsPreparedFor hash_of key c (key e) → bucket_count d ≡ bucket_count c
-      -- of the same array none waits that didn't
+      -- without a resize, no bucket starts to wait
       pub fewer : 0 < bucket_count c → bucket_count d ≡ bucket_count c → (i : ℕ) → IsWaiting d i → IsWaiting c i
-      -- no more wait than before
+      -- without a resize, the number of waiting buckets doesn't rise
       pub less : 0 < bucket_count c → bucket_count d ≡ bucket_count c → pending_of d ≤ pending_of c
-      -- and two at most wait no more
+      -- without a resize, at most two buckets stop waiting
       pub most : 0 < bucket_count c → bucket_count d ≡ bucket_count c → pending_of c ≤ pending_of d + 2
-      -- of a larger array all wait but two at most
+      -- after a doubling, all buckets but at most two wait
       pub grown : 0 < bucket_count c → bucket_count d ≢ bucket_count c → bucket_count d ≤ pending_of d + 2
-      -- of a first array none does
+      -- if there was no array, no bucket waits
       pub array : bucket_count c ≡ 0 → pending_of d ≡ 0
-      -- the key's bucket doesn't wait
+      -- on success, the bucket of the key doesn't wait
       pub not_waiting : OnOk result (waits_at (waiting_of d) (bucket_number (settings_of c).skipped (bucket_count d) hash) ≡ false)
-      -- of the same array that one and then the first ones wait no more, two in all, where none of them is long
+      -- on success, without a resize, if no waiting bucket holds more than 32 entries, the bucket of the key, if it
+      -- waits, and then the first ones are relocated: exactly two, or all if fewer wait
       pub exact : OnOk result (0 < bucket_count c → bucket_count d ≡ bucket_count c → AreShort c → pending_targets d ≡ left_after (bucket_number (settings_of c).skipped (bucket_count c) hash) (pending_targets c))
-      -- of a larger array that one and the first ones don't wait, two in all, where none of its buckets is long
+      -- on success, after a doubling, if no bucket would hold more than 32 entries, exactly the bucket of the key and
+      -- the first other bucket don't wait
       pub spread : OnOk result (0 < bucket_count c → bucket_count d ≢ bucket_count c → AreShortAmong (λ f. hash_of (key f)) (bucket_count d) c → pending_targets d ≡ left_after (bucket_number (settings_of c).skipped (bucket_count d) hash) (range_with_len 0 (bucket_count d)))
-      -- all of its buckets but two wait then
+      -- on success, after a doubling, if no bucket would hold more than 32 entries, all buckets but two wait
       pub all_but_two : OnOk result (0 < bucket_count c → bucket_count d ≢ bucket_count c → AreShortAmong (λ f. hash_of (key f)) (bucket_count d) c → pending_of d + 2 ≡ bucket_count d)
-      -- of the same array two fewer wait, where none of them is long
+      -- on success, without a resize, if no waiting bucket holds more than 32 entries, the number of waiting buckets
+      -- falls by two, or to 0
       pub by_two : OnOk result (0 < bucket_count c → bucket_count d ≡ bucket_count c → AreShort c → pending_of d ≡ pending_of c - 2)
-      -- of the same array the key's bucket and the first ones took their entries over
+      -- on success, without a resize, the bucket of the key, if it waits, and the first ones are relocated, two in all,
+      -- unless memory is refused
       pub moved : OnOk result (0 < bucket_count c → bucket_count d ≡ bucket_count c → AreMovedBeside (bucket_number (settings_of c).skipped (bucket_count c) hash) (pending_targets c) d)
-      -- and of a larger one
+      -- on success, after a doubling, the bucket of the key and the first other bucket are relocated, unless memory is
+      -- refused
       pub drained : OnOk result (0 < bucket_count c → bucket_count d ≢ bucket_count c → AreMovedBeside (bucket_number (settings_of c).skipped (bucket_count d) hash) (range_with_len 0 (bucket_count d)) d)
       -- no two keys are equal
       pub unique : IsUniqueBy eq key d
 
-    -- the same where no bucket waits and that of the key holds 32 entries or more
+    -- as `InsertsMade`, if no bucket waits and the bucket of the key holds 32 entries or more
     pub record InsertsMadeFull (c : Contents E S) (hash : ℕ) (e : E) (x : X) (result : Result Place X) (d : Contents E S) : Type 0 where
-      -- the entry is put in, and the place is its place
+      -- on success, e is inserted, and the result is its place
       pub ok : IfOk result (IsInsertedAt c e d)
-      -- refused, the parts come back and nothing changed
+      -- on failure, x is handed back and nothing changes
       pub err : IfErr result (λ y. (y ≡ x) × IsUnchanged c d)
       -- the number of buckets changes only by a doubling
       pub growth : Grows c d
-      -- it is doubled where that is due, unless the note of refused memory is up
+      -- if a doubling is due and the note is down afterwards, the array has doubled
       pub due : 32 * bucket_count c ≤ 2 * length (entries c) → 32 * bucket_count c < 2 ^ 63 → (refused_of d).0 ≡ false → bucket_count d ≡ 2 * bucket_count c
-      -- the note goes up only where that is due
+      -- the note rises only if a doubling is due
       pub raised : (refused_of c).0 ≡ false → (refused_of d).0 ≡ true → (32 * bucket_count c ≤ 2 * length (entries c)) × (32 * bucket_count c < 2 ^ 63)
-      -- it goes down only by a doubling
+      -- the note falls only by a doubling
       pub lowered : (refused_of c).0 ≡ true → (refused_of d).0 ≡ false → bucket_count d ≢ bucket_count c
-      -- and is down after one
+      -- after a doubling, the note is down
       pub down : bucket_count d ≢ bucket_count c → (refused_of d).0 ≡ false
-      -- a growth that is marked as tried isn't tried again
+      -- a growth that is marked isn't tried
       pub once : (refused_of c).1 ≡ true → bucket_count d ≡ bucket_count c
-      -- none is marked where it was due
+      -- if a doubling is due, no growth is marked afterwards
       pub unmarked : 32 * bucket_count c ≤ 2 * length (entries c) → 32 * bucket_count c < 2 ^ 63 → (refused_of d).1 ≡ false
-      -- of the same array none waits that didn't
+      -- without a doubling, no bucket starts to wait
       pub fewer : bucket_count d ≡ bucket_count c → (i : ℕ) → IsWaiting d i → IsWaiting c i
-      -- no more wait than before
+      -- without a doubling, the number of waiting buckets doesn't rise
       pub less : bucket_count d ≡ bucket_count c → pending_of d ≤ pending_of c
-      -- of a larger array all wait but two at most
+      -- after a doubling, all buckets but at most two wait
       pub grown : bucket_count d ≢ bucket_count c → bucket_count d ≤ pending_of d + 2
-      -- of a larger array the key's bucket and the first ones don't wait, two in all, where none of its buckets is long
+      -- on success, after a doubling, if no bucket would hold more than 32 entries, exactly the bucket of the key and
+      -- the first other bucket don't wait
       pub spread : OnOk result (bucket_count d ≢ bucket_count c → AreShortAmong (λ f. hash_of (key f)) (bucket_count d) c → pending_targets d ≡ left_after (bucket_number (settings_of c).skipped (bucket_count d) hash) (range_with_len 0 (bucket_count d)))
-      -- of a larger array the key's bucket and the first ones took their entries over
+      -- on success, after a doubling, the bucket of the key and the first other bucket are relocated, unless memory is
+      -- refused
       pub drained : OnOk result (bucket_count d ≢ bucket_count c → AreMovedBeside (bucket_number (settings_of c).skipped (bucket_count d) hash) (range_with_len 0 (bucket_count d)) d)
-      -- the key's bucket doesn't wait
+      -- on success, the bucket of the key doesn't wait
       pub not_waiting : OnOk result (waits_at (waiting_of d) (bucket_number (settings_of c).skipped (bucket_count d) hash) ≡ false)
       -- no two keys are equal
       pub unique : IsUniqueBy eq key d
 
-    -- the same where so many new buckets take the place of the present ones before the entry is put in
+    -- as `InsertsMadeFull`, and an array of `count` buckets is installed before e is inserted
     pub record InsertsMadeGrown (c : Contents E S) (count hash : ℕ) (e : E) (x : X) (result : Result Place X) (d : Contents E S) : Type 0 where
-      -- the entry is put in, and the place is its place
+      -- on success, e is inserted, and the result is its place
       pub ok : IfOk result (IsInsertedAt c e d)
-      -- there are so many buckets then
+      -- on success, there are `count` buckets
       pub buckets : OnOk result (bucket_count d ≡ count)
-      -- and no refused memory is noted
+      -- on success, no refused memory is noted
       pub down : OnOk result ((refused_of d).0 ≡ false)
-      -- the number of buckets changes only to that one
+      -- the number of buckets changes only to `count`
       pub doubled : bucket_count d ≢ bucket_count c → bucket_count d ≡ count
-      -- and does unless the note of refused memory is up
+      -- if the note is down afterwards, there are `count` buckets
       pub due : (refused_of d).0 ≡ false → bucket_count d ≡ count
-      -- of the same array the same buckets wait
+      -- without a resize, the waiting buckets stay
       pub same : bucket_count d ≡ bucket_count c → waiting_of d ≡ waiting_of c
-      -- of the other one all wait but two at most
+      -- after a resize, all buckets but at most two wait
       pub grown : bucket_count d ≢ bucket_count c → count ≤ pending_of d + 2
-      -- the note goes down only by another array
+      -- the note falls only by a resize
       pub lowered : (refused_of c).0 ≡ true → (refused_of d).0 ≡ false → bucket_count d ≢ bucket_count c
-      -- and is down after one
+      -- after a resize, the note is down
       pub fallen : bucket_count d ≢ bucket_count c → (refused_of d).0 ≡ false
-      -- no growth is marked as tried
+      -- no growth is marked
       pub unmarked : (refused_of d).1 ≡ false
-      -- all but two at most wait where the entry is put in
+      -- on success, all buckets but at most two wait
       pub most : OnOk result (count ≤ pending_of d + 2)
-      -- the key's bucket and the first ones don't, two in all, where no new bucket is long
+      -- on success, if no bucket would hold more than 32 entries, exactly the bucket of the key and the first other
+      -- bucket don't wait
       pub spread : OnOk result (AreShortAmong (λ f. hash_of (key f)) count c → pending_targets d ≡ left_after (bucket_number (settings_of c).skipped count hash) (range_with_len 0 count))
-      -- the key's bucket and the first ones took their entries over
+      -- on success, the bucket of the key and the first other bucket are relocated, unless memory is refused
       pub drained : OnOk result (AreMovedBeside (bucket_number (settings_of c).skipped count hash) (range_with_len 0 count) d)
-      -- the key's bucket doesn't wait
+      -- on success, the bucket of the key doesn't wait
       pub not_waiting : OnOk result (waits_at (waiting_of d) (bucket_number (settings_of c).skipped count hash) ≡ false)
-      -- refused, the parts come back and nothing changed
+      -- on failure, x is handed back and nothing changes
       pub err : IfErr result (λ y. (y ≡ x) × IsUnchanged c d)
-      -- a refusal is noted
+      -- on failure, refused memory is noted
       pub up : OnErr result ((refused_of d).0 ≡ true)
       -- no two keys are equal
       pub unique : IsUniqueBy eq key d
 
-    -- the same where twice as many buckets take the place of the present ones after the entry is put in
+    -- as `InsertsMadeFull`, and an array of twice as many buckets is installed after e is inserted
     pub record InsertsMadeCrowded (c : Contents E S) (hash : ℕ) (e : E) (x : X) (result : Result Place X) (d : Contents E S) : Type 0 where
-      -- the entry is put in, and the place is its place
+      -- on success, e is inserted, and the result is its place
       pub ok : IfOk result (IsInsertedAt c e d)
-      -- refused, the parts come back and nothing changed
+      -- on failure, x is handed back and nothing changes
       pub err : IfErr result (λ y. (y ≡ x) × IsUnchanged c d)
-      -- a refusal is noted
+      -- on failure, refused memory is noted
       pub up : OnErr result ((refused_of d).0 ≡ true)
       -- the number of buckets changes only by a doubling
       pub doubled : bucket_count d ≢ bucket_count c → bucket_count d ≡ 2 * bucket_count c
-      -- it is doubled unless the note of refused memory is up
+      -- if the note is down afterwards, the array has doubled
       pub due : (refused_of d).0 ≡ false → bucket_count d ≡ 2 * bucket_count c
-      -- the note goes down only by a doubling
+      -- the note falls only by a doubling
       pub lowered : (refused_of c).0 ≡ true → (refused_of d).0 ≡ false → bucket_count d ≢ bucket_count c
-      -- and is down after one
+      -- after a doubling, the note is down
       pub fallen : bucket_count d ≢ bucket_count c → (refused_of d).0 ≡ false
-      -- no growth is marked as tried
+      -- no growth is marked
       pub unmarked : (refused_of d).1 ≡ false
-      -- of the same array none waits
+      -- without a doubling, no bucket waits
       pub none : bucket_count d ≡ bucket_count c → pending_of d ≡ 0
-      -- of a larger one all wait but two at most
+      -- after a doubling, all buckets but at most two wait
       pub most : bucket_count d ≢ bucket_count c → bucket_count d ≤ pending_of d + 2
-      -- of a larger array the key's bucket and the first ones don't wait, two in all, where none of its buckets is long
+      -- on success, after a doubling, if no bucket would hold more than 32 entries, exactly the bucket of the key and
+      -- the first other bucket don't wait
       pub spread : OnOk result (bucket_count d ≢ bucket_count c → AreShortAmong (λ f. hash_of (key f)) (bucket_count d) c → pending_targets d ≡ left_after (bucket_number (settings_of c).skipped (bucket_count d) hash) (range_with_len 0 (bucket_count d)))
-      -- of a larger array the key's bucket and the first ones took their entries over
+      -- on success, after a doubling, the bucket of the key and the first other bucket are relocated, unless memory is
+      -- refused
       pub drained : OnOk result (bucket_count d ≢ bucket_count c → AreMovedBeside (bucket_number (settings_of c).skipped (bucket_count d) hash) (range_with_len 0 (bucket_count d)) d)
-      -- the key's bucket doesn't wait
+      -- on success, the bucket of the key doesn't wait
       pub not_waiting : OnOk result (waits_at (waiting_of d) (bucket_number (settings_of c).skipped (bucket_count d) hash) ≡ false)
       -- no two keys are equal
       pub unique : IsUniqueBy eq key d

@@ -1,4 +1,4 @@
--- What a change of the minimum does to a table of two arrays, in one word a call.
+-- What a change of the minimum does to a table of two arrays, one word a call.
 use Rattle.std.specs.Prelude.{◌≡◌, ◌≢◌, ◌≤◌, ◌<◌, ◌+◌, ◌*◌, ◌^◌, ◌↔◌, ℕ, Bool, Option, IfNone, IfSome, IsSome, IsTrue, OnSome}
 use Rattle.scc_contents.specs.Contents.{Contents, bucket_count, minimum_of, refused_of, settings_of, waiting_of, IsUniqueBy}
 use Rattle.scc_contents.specs.Sizes.{IsArraySize}
@@ -6,76 +6,76 @@ use Rattle.scc_contents.specs.Steps.{IsUnchanged, ReachesMinimumWhenDue, Release
 use Rattle.scc_table.specs.Relocates.{IsBelowMinimum, IsShrinkDue, Spreads}
 
 module _ {E K S : Type 0} (eq : K → K → Bool) (key : E → K) where
-  -- the minimum is raised by so many slots, and a token that stands for them is answered
+  -- the minimum is raised by `additional` slots, and the result is a token for them
   pub record ReservesSlots (additional : ℕ) (c : Contents E S) (result : Option ℕ) (d : Contents E S) : Type 0 where
-    -- there is one where some slots were asked for and the minimum can be raised by them
+    -- there is a token exactly if `additional` isn't 0 and the minimum stays within the greatest capacity
     pub answer : IsSome result ↔ ((0 < additional) × (minimum_of c + additional ≤ 2 ^ 63))
-    -- it stands for so many
+    -- the token stands for `additional` slots
     pub token : IfSome result (λ r. r ≡ additional)
-    -- with it, the minimum is raised
+    -- with a token, the minimum is raised
     pub yes : OnSome result (Reserves additional c d)
-    -- the array reaches it, unless memory is refused
+    -- with a token, the array grows to the minimum, unless memory is refused
     pub due : OnSome result (ReachesMinimumWhenDue c d)
-    -- and every bucket of a larger one waits
+    -- with a token, every bucket of a larger array waits
     pub spreads : OnSome result (Spreads (IsBelowMinimum (minimum_of d) c) c d)
-    -- without, no entry, bucket or setting changed
+    -- without a token, entries, buckets and settings stay
     pub no : IfNone result (IsUnchanged c d)
-    -- nor the note of refused memory
+    -- without a token, the note and the mark stay
     pub noted : IfNone result (refused_of d ≡ refused_of c)
-    -- nor what waits
+    -- without a token, the waiting buckets stay
     pub waiting : IfNone result (waiting_of d ≡ waiting_of c)
     -- no two keys are equal
     pub unique : IsUniqueBy eq key d
 
-  -- the minimum is raised by so many slots, which is answered
+  -- the minimum is raised by `additional` slots, and the result says whether it is
   pub record RaisesMinimum (additional : ℕ) (c : Contents E S) (result : Bool) (d : Contents E S) : Type 0 where
-    -- it is where some slots were asked for and it can be raised by them
+    -- the result is true exactly if `additional` isn't 0 and the minimum stays within the greatest capacity
     pub answer : IsTrue result ↔ ((0 < additional) × (minimum_of c + additional ≤ 2 ^ 63))
-    -- after true the minimum is raised
+    -- if the result is true, the minimum is raised
     pub yes : IsTrue result → Reserves additional c d
-    -- the array reaches it, unless memory is refused
+    -- if the result is true, the array grows to the minimum, unless memory is refused
     pub due : IsTrue result → ReachesMinimumWhenDue c d
-    -- and every bucket of a larger one waits
+    -- if the result is true, every bucket of a larger array waits
     pub spreads : IsTrue result → Spreads (IsBelowMinimum (minimum_of d) c) c d
-    -- after false no entry, bucket or setting changed
+    -- if the result is false, entries, buckets and settings stay
     pub no : (IsTrue result → ⊥) → IsUnchanged c d
-    -- nor the note of refused memory
+    -- if the result is false, the note and the mark stay
     pub noted : (IsTrue result → ⊥) → refused_of d ≡ refused_of c
-    -- nor what waits
+    -- if the result is false, the waiting buckets stay
     pub waiting : (IsTrue result → ⊥) → waiting_of d ≡ waiting_of c
     -- no two keys are equal
     pub unique : IsUniqueBy eq key d
 
-  -- the minimum is lowered by so many reserved slots, which is answered
+  -- the minimum is lowered by `additional` reserved slots, and the result says whether it is
   pub record LowersMinimum (additional : ℕ) (c : Contents E S) (result : Bool) (d : Contents E S) : Type 0 where
-    -- it is where as many are reserved
+    -- the result is true exactly if at least `additional` slots are reserved
     pub answer : IsTrue result ↔ (additional ≤ (settings_of c).reserved)
-    -- after true they are given back
+    -- if the result is true, the slots are given back
     pub yes : IsTrue result → Releases additional c d
-    -- the array becomes smaller where that is due, unless memory is refused
+    -- if the result is true, the array shrinks if a shrink is due, unless memory is refused
     pub due : IsTrue result → ShrinksWhenDue c d
-    -- and every bucket of a smaller one waits
+    -- if the result is true, every bucket of a smaller array waits
     pub spreads : IsTrue result → Spreads (IsShrinkDue (minimum_of d) c) c d
-    -- after false no entry, bucket or setting changed
+    -- if the result is false, entries, buckets and settings stay
     pub no : (IsTrue result → ⊥) → IsUnchanged c d
-    -- nor the note of refused memory
+    -- if the result is false, the note and the mark stay
     pub noted : (IsTrue result → ⊥) → refused_of d ≡ refused_of c
-    -- nor what waits
+    -- if the result is false, the waiting buckets stay
     pub waiting : (IsTrue result → ⊥) → waiting_of d ≡ waiting_of c
     -- no two keys are equal
     pub unique : IsUniqueBy eq key d
 
-  -- an array of fewer slots than the minimum grows to it, unless memory is refused
+  -- an array with fewer slots than the minimum grows to it, unless memory is refused
   pub record GrowsToMinimum (c d : Contents E S) : Type 0 where
-    -- nothing changed but for one resize
+    -- the entries stay, and one resize may be made
     pub resizes : Resizes c d
-    -- there are no fewer buckets than before
+    -- the number of buckets doesn't fall
     pub more : bucket_count c ≤ bucket_count d
-    -- another array takes the place of one, and has the size of the minimum
+    -- if the number of buckets changes, there was an array, and the new one has the size of the minimum
     pub size : bucket_count d ≢ bucket_count c → (0 < bucket_count c) × IsArraySize (minimum_of c) (32 * bucket_count d)
-    -- the array reaches the minimum, unless memory is refused
+    -- the array grows to the minimum, unless memory is refused
     pub due : ReachesMinimumWhenDue c d
-    -- every bucket of a larger one waits
+    -- every bucket of a larger array waits
     pub spreads : Spreads (IsBelowMinimum (minimum_of c) c) c d
     -- no two keys are equal
     pub unique : IsUniqueBy eq key d

@@ -1,4 +1,4 @@
--- What a call does to the buckets that wait.
+-- What a call does to the waiting buckets.
 use Rattle.std.specs.Prelude.{◌≡◌, ◌≢◌, ◌==◌, ℕ, ◌+◌, ◌-◌, ◌*◌, ◌<◌, ◌≤◌, ◌⊎◌, List, [], length, drop, not, slice_index_or}
 use Rattle.std.specs.List.{filter}
 use Rattle.scc_contents.specs.Contents.{Contents, entries, bucket_count, list_of, settings_of, waiting_of, owed_of, pending_of}
@@ -6,7 +6,7 @@ use Rattle.scc_buckets.specs.Pour.{bound_for}
 use Rattle.scc_contents.specs.Sizes.{IsArraySize, IsSmaller}
 use Rattle.scc_table.specs.TwoArrays.{pending_targets, IsWaiting}
 
--- the numbers of the buckets that wait, once that bucket, where it waited, and then the first ones took their entries over, two in all
+-- the waiting buckets ts after two relocations: bucket i, if it is among them, and then the first ones
 abbrev pub left_after : ℕ → List ℕ → List ℕ
 left_after i ts = drop (length (filter (λ t. not (t == i)) ts) + 2 - length ts) (filter (λ t. not (t == i)) ts)
 
@@ -16,12 +16,13 @@ module _ {E S : Type 0} where
     pub array : 0 < bucket_count c
     pub fewer : (slots : ℕ) → IsArraySize minimum slots → 32 * bucket_count c < slots
 
-  -- the entries let the array become smaller, down to the minimum
+  -- a shrink is due, for the minimum `minimum`
   pub record IsShrinkDue (minimum : ℕ) (c : Contents E S) : Type 0 where
     pub buckets : ℕ
     pub smaller : IsSmaller minimum (length (entries c)) (bucket_count c) buckets
 
-  -- every bucket of another array waits; of the same array none waits that didn't, and where no resize is due the same wait for the same entries
+  -- after a resize, every bucket waits; without one, no bucket starts to wait, and if no resize is due, the waiting
+  -- buckets stay, and so does what the old array owes
   pub record Spreads (due : Type 0) (c d : Contents E S) : Type 0 where
     pub all : bucket_count d ≢ bucket_count c → pending_of d ≡ bucket_count d
     pub fewer : bucket_count d ≡ bucket_count c → (i : ℕ) → IsWaiting d i → IsWaiting c i
@@ -29,29 +30,30 @@ module _ {E S : Type 0} where
     pub waiting : (due → ⊥) → waiting_of d ≡ waiting_of c
     pub owed : (due → ⊥) → owed_of d ≡ owed_of c
 
-  -- of the buckets ts the first ones took their entries over, so many at most, and the others wait; where it were fewer, none waits, or memory was refused for one of them or for the next, to which more than 32 entries come
+  -- the first buckets of ts are relocated, at most n, and the others wait; if fewer than n are relocated, no bucket
+  -- waits, or memory was refused for one of these or the next, which holds more than 32 entries
   pub record AreMovedFrom (ts : List ℕ) (n : ℕ) (d : Contents E S) : Type 0 where
     pub count : ℕ
     pub most : count ≤ n
     pub left : pending_targets d ≡ drop count ts
     pub stopped : count < n → (pending_targets d ≡ []) ⊎ ((k : ℕ) × (k ≤ count) × (k < length ts) × (32 < length (list_of d (slice_index_or ts k 0))))
 
-  -- of the buckets that waited the first ones took their entries over, so many at most
+  -- the first buckets that waited are relocated, at most n
   abbrev pub IsMovedUpTo : ℕ → Contents E S → Contents E S → Type 0
   IsMovedUpTo n c d = AreMovedFrom (pending_targets c) n d
 
-  -- that bucket, where it was among the buckets ts, and then the first ones took their entries over, two in all at most
+  -- bucket i, if it is among ts, and then the first buckets of ts are relocated, at most two in all
   abbrev pub AreMovedBeside : ℕ → List ℕ → Contents E S → Type 0
   AreMovedBeside i ts d = AreMovedFrom (filter (λ t. not (t == i)) ts) (length (filter (λ t. not (t == i)) ts) + 2 - length ts) d
 
-  -- no bucket that waits holds more than 32 entries
+  -- no waiting bucket holds more than 32 entries
   pub record AreShort (c : Contents E S) : Type 0 where
     pub short : (i : ℕ) → IsWaiting c i → length (list_of c i) ≤ 32
 
-  -- no bucket among n would hold more than 32 of the entries
+  -- no bucket of n would hold more than 32 of the entries
   pub record AreShortAmong (hash : E → ℕ) (n : ℕ) (c : Contents E S) : Type 0 where
     pub short : (i : ℕ) → i < n → length (bound_for hash (settings_of c).skipped n i (entries c)) ≤ 32
 
-  -- none but bucket k would
+  -- no bucket of n but bucket k would hold more than 32 of the entries
   pub record AreShortBut (hash : E → ℕ) (n k : ℕ) (c : Contents E S) : Type 0 where
     pub short : (i : ℕ) → i < n → i ≢ k → length (bound_for hash (settings_of c).skipped n i (entries c)) ≤ 32

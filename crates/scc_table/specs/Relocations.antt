@@ -1,4 +1,4 @@
--- What calls do to the buckets that wait for their pairs to come from an old array.
+-- What calls do to the buckets that wait for their pairs in an old array.
 use Rattle.std.specs.Prelude.{◌≡◌, ◌≢◌, ℕ, ◌+◌, ◌<◌, ◌≤◌, false, [], drop, length, Result}
 use Rattle.std.specs.List.{range_with_len}
 use Rattle.std.specs.Result.{OnOk, OnErr}
@@ -10,7 +10,8 @@ use Rattle.scc_table.specs.Relocates.{AreMovedBeside, AreShort, IsMovedUpTo, lef
 use Rattle.scc_table.specs.TwoArrays.{IsFirstWaiting, IsWaiting, pending_targets, waits_at}
 
 module _ {E S : Type 0} where
-  -- an insertion of a new key, also a refused one: of the same array none waits that didn't, and two at most do no more; of a larger array all wait but two at most; of a first one none does
+  -- what an insertion of a new key does, also if it fails: without a resize, no bucket starts to wait, and at most two
+  -- stop; after a doubling, all buckets but at most two wait; of the first array none waits
   pub record Relocates (c d : Contents E S) : Type 0 where
     pub fewer : 0 < bucket_count c → bucket_count d ≡ bucket_count c → (i : ℕ) → IsWaiting d i → IsWaiting c i
     pub less : 0 < bucket_count c → bucket_count d ≡ bucket_count c → pending_of d ≤ pending_of c
@@ -18,61 +19,67 @@ module _ {E S : Type 0} where
     pub grown : 0 < bucket_count c → bucket_count d ≢ bucket_count c → bucket_count d ≤ pending_of d + 2
     pub array : bucket_count c ≡ 0 → pending_of d ≡ 0
 
-  -- a new key of that hash is in: its bucket doesn't wait; that one, where it waited, and then the first ones took their entries over, two in all, and fewer only where none waits or memory was refused for one of them or the next, to which more than 32 entries come
+  -- what a successful insertion of a new key with the hash `hash` does: its bucket, if it waits, and then the first
+  -- waiting buckets are relocated, two in all. Fewer are only if no bucket waits any more, or memory was refused for
+  -- one of these or the next, which holds more than 32 entries
   pub record RelocatesTwo (hash : ℕ) (c d : Contents E S) : Type 0 where
-    -- the key's bucket doesn't wait
+    -- the bucket of the key doesn't wait
     pub not_waiting : waits_at (waiting_of d) (bucket_number (settings_of c).skipped (bucket_count d) hash) ≡ false
-    -- of the same array that one and then the first ones wait no more, two in all, where none of them is long
+    -- without a resize, if no waiting bucket holds more than 32 entries, the bucket of the key, if it waits, and then
+    -- the first ones are relocated: exactly two, or all if fewer wait
     pub exact : 0 < bucket_count c → bucket_count d ≡ bucket_count c → AreShort c → pending_targets d ≡ left_after (bucket_number (settings_of c).skipped (bucket_count c) hash) (pending_targets c)
-    -- of the same array that one and then the first ones took their entries over, whatever was refused
+    -- without a resize, the bucket of the key, if it waits, and the first ones are relocated, two in all, unless memory
+    -- is refused
     pub moved : 0 < bucket_count c → bucket_count d ≡ bucket_count c → AreMovedBeside (bucket_number (settings_of c).skipped (bucket_count c) hash) (pending_targets c) d
-    -- and of a larger one, all of whose buckets waited
+    -- after a doubling, the bucket of the key and the first other bucket are relocated, unless memory is refused
     pub drained : 0 < bucket_count c → bucket_count d ≢ bucket_count c → AreMovedBeside (bucket_number (settings_of c).skipped (bucket_count d) hash) (range_with_len 0 (bucket_count d)) d
 
-  -- a removal, which relocates nothing: of a smaller array all wait; where none was due, the same wait as before
+  -- what a removal does, which relocates nothing: after a shrink, every bucket waits; if no shrink is due, the waiting
+  -- buckets stay
   pub record RelocatesNone (c d : Contents E S) : Type 0 where
     pub all : bucket_count d ≢ bucket_count c → pending_of d ≡ bucket_count d
     pub less : bucket_count d ≡ bucket_count c → pending_of d ≤ pending_of c
     pub waiting : ((n : ℕ) → IsSmaller (minimum_of c) (length (entries d)) (bucket_count c) n → ⊥) → waiting_of d ≡ waiting_of c
 
-  -- of the buckets that waited the first ones took their entries over, so many at most; one whose memory was refused counts among them, and still waits
+  -- the first buckets that waited are relocated, at most `count`; a try whose memory is refused counts, and its bucket
+  -- still waits
   pub record RelocatesUpTo (count : ℕ) (c d : Contents E S) : Type 0 where
     -- each list stays
     pub lists : lists_of d ≡ lists_of c
     -- the settings stay
     pub settings : settings_of d ≡ settings_of c
-    -- the note of refused memory stays
+    -- the note and the mark stay
     pub noted : refused_of d ≡ refused_of c
-    -- none waits that didn't
+    -- no bucket starts to wait
     pub fewer : (i : ℕ) → IsWaiting d i → IsWaiting c i
-    -- no more wait than before
+    -- the number of waiting buckets doesn't rise
     pub less : pending_of d ≤ pending_of c
-    -- and so many at most wait no more
+    -- at most `count` buckets stop waiting
     pub most : pending_of c ≤ pending_of d + count
-    -- they are the first ones, and fewer only where none waits or memory was refused
+    -- the relocated buckets are the first ones, and fewer than `count` only if no bucket waits or memory was refused
     pub moved : IsMovedUpTo count c d
-    -- they are just so many where none that waits is long
+    -- if no waiting bucket holds more than 32 entries, exactly the first `count` are relocated
     pub exact : AreShort c → pending_targets d ≡ drop count (pending_targets c)
-    -- short overflow lists stay short where no bucket that waits is long
+    -- empty overflow lists stay empty, if no waiting bucket holds more than 32 entries
     pub bounded : IsBounded c → AreShort c → IsBounded d
 
-  -- all buckets that waited took their entries over, or memory was refused for one, and it and those after it still wait
+  -- all waiting buckets are relocated, or memory is refused for one, which still waits with those after it
   pub record RelocatesAll {X : Type 0} (c : Contents E S) (result : Result (Unit {0}) X) (d : Contents E S) : Type 0 where
     -- each list stays
     pub lists : lists_of d ≡ lists_of c
     -- the settings stay
     pub settings : settings_of d ≡ settings_of c
-    -- the note of refused memory stays
+    -- the note and the mark stay
     pub noted : refused_of d ≡ refused_of c
-    -- none waits that didn't
+    -- no bucket starts to wait
     pub fewer : (i : ℕ) → IsWaiting d i → IsWaiting c i
-    -- no more wait than before
+    -- the number of waiting buckets doesn't rise
     pub less : pending_of d ≤ pending_of c
-    -- none waits where no memory was refused
+    -- on success, no bucket waits
     pub ok : OnOk result (waiting_of d ≡ [])
-    -- it is refused only for the first that waits, to which more than 32 entries come
+    -- on failure, the first waiting bucket holds more than 32 entries
     pub refused : OnErr result ((i : ℕ) × (IsFirstWaiting d i) × (32 < length (list_of d i)))
-    -- the first ones took theirs over
+    -- the relocated buckets are the first ones
     pub moved : IsMovedUpTo (pending_of c) c d
-    -- short overflow lists stay short where no bucket that waits is long
+    -- empty overflow lists stay empty, if no waiting bucket holds more than 32 entries
     pub bounded : IsBounded c → AreShort c → IsBounded d

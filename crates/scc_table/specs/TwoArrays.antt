@@ -1,4 +1,5 @@
--- Two arrays beside each other: the entries of an old one wait there until their bucket of the new one takes them over.
+-- Two arrays beside each other: the entries of the old array stay there until their bucket of the current array is
+-- relocated.
 use Rattle.std.specs.Prelude.{◌≡◌, ◌==◌, ℕ, suc, ◌+◌, ◌^◌, ◌<◌, ◌≤◌, ◌⊎◌, Bool, true, false, cond, List, [], ◌∷◌, length, map, not, count_by, slice_index_or, slice_set}
 use Rattle.std.specs.List.{filter, flat_map, range_with_len, sum_by, IsDistinct}
 use Rattle.scc_table.specs.declared.Draining as code
@@ -14,23 +15,24 @@ use Rattle.scc_draining.specs.Moves.{AreMultiples, AreOwn}
 abbrev pub waits_at : List Bool → ℕ → Bool
 waits_at w i = slice_index_or w i false
 
--- the lists of the buckets from number i on: where a bucket waits, the entries of the old array that belong to it, else its own list
+-- the lists of the buckets from number i on: of a waiting bucket, the entries of the old array that belong to it; of
+-- another, its own list
 abbrev pub joined : {E : Type 0} → (E → ℕ) → ℕ → List Bool → List (List E) → List E → List (List E)
 joined target i [] ls es = ls
 joined target i (w ∷ ws) [] es = []
 joined target i (w ∷ ws) (l ∷ ls) es = cond w (filter (λ e. target e == i) es) l ∷ joined target (suc i) ws ls es
 
--- of each old bucket the buckets that its entries belong to; nothing where none waits
+-- for each old bucket, the buckets that its entries belong to; empty if there are no flags
 abbrev pub owed_in : {E : Type 0} → (E → ℕ) → List Bool → List (Shelf E) → List (List ℕ)
 owed_in target [] olds = []
 owed_in target (w ∷ ws) olds = map (λ b. map target (shelf_entries b)) olds
 
 module _ {E S : Type 0} where
-  -- the bucket of the new array that an entry belongs to
+  -- the bucket of the current array that an entry belongs to
   abbrev pub target_by : (E → ℕ) → Contents E S → E → ℕ
   target_by hash c e = bucket_number (settings_of c).skipped (bucket_count c) (hash e)
 
-  -- what is seen of both arrays: the new one has the contents c, and the flags tell which of its buckets wait
+  -- the contents of both arrays: c is those of the current array, and the flags ws say which of its buckets wait
   abbrev pub together : (E → ℕ) → Contents E S → List Bool → List (Shelf E) → Contents E S
   together hash c ws olds = record {
     lists = joined (target_by hash c) 0 ws (lists_of c) (flat_map shelf_entries olds);
@@ -41,7 +43,8 @@ module _ {E S : Type 0} where
     owed = owed_in (target_by hash c) ws olds;
   }
 
-  -- an entry lies in the old array, in the bucket of its hash there, only where its bucket of the new one waits; that one is empty then
+  -- the old array holds an entry, in the bucket of its hash there, only if its bucket of the current array waits; a
+  -- waiting bucket has no entries of its own
   pub record TwoArrays (hash : E → ℕ) (c : Contents E S) (ws : List Bool) (olds : List (Shelf E)) : Type 0 where
     pub flags : (ws ≡ []) ⊎ (length ws ≡ bucket_count c)
     pub multiples : (ws ≡ []) ⊎ AreMultiples (length olds) (bucket_count c)
@@ -50,29 +53,29 @@ module _ {E S : Type 0} where
     pub not_waiting : (i : ℕ) → waits_at ws i ≡ false → bound_for hash (settings_of c).skipped (bucket_count c) i (flat_map shelf_entries olds) ≡ []
     pub bare : (i : ℕ) → waits_at ws i ≡ true → list_of c i ≡ []
 
-  -- bucket i waits for its entries to come from the old array
+  -- bucket i waits
   abbrev pub IsWaiting : Contents E S → ℕ → Type 0
   IsWaiting c i = waits_at (waiting_of c) i ≡ true
 
-  -- bucket i is the first that waits
+  -- bucket i is the first waiting bucket
   pub record IsFirstWaiting (c : Contents E S) (i : ℕ) : Type 0 where
     pub waits : IsWaiting c i
     pub below : (j : ℕ) → j < i → waits_at (waiting_of c) j ≡ false
 
-  -- the numbers of the buckets that wait, in rising order
+  -- the numbers of the waiting buckets, in rising order
   abbrev pub pending_targets : Contents E S → List ℕ
   pending_targets c = filter (waits_at (waiting_of c)) (range_with_len 0 (length (waiting_of c)))
 
--- the flags once bucket i doesn't wait any more; none where no other does
+-- the flags after bucket i has stopped waiting; empty if no other bucket waits
 abbrev pub cleared : List Bool → ℕ → List Bool
 cleared ws i = cond (count_by (λ w. w) (slice_set ws i false) == 0) [] (slice_set ws i false)
 
--- the annotations without bucket i; none where no bucket waits
+-- what the old array owes without the entries of bucket i; empty if there are no flags
 abbrev pub owed_without : List Bool → ℕ → List (List ℕ) → List (List ℕ)
 owed_without [] i hs = []
 owed_without (w ∷ ws) i hs = map (λ ts. filter (λ t. not (t == i)) ts) hs
 
--- the entries of bucket i, which waited, came from the old array, and nothing else changed: no list did
+-- bucket i, which waited, is relocated, and no list changes
 pub record IsRelocated {E S : Type 0} (i : ℕ) (c d : Contents E S) : Type 0 where
   pub lists : lists_of d ≡ lists_of c
   pub settings : settings_of d ≡ settings_of c
@@ -81,26 +84,26 @@ pub record IsRelocated {E S : Type 0} (i : ℕ) (c d : Contents E S) : Type 0 wh
   pub owed : owed_of d ≡ owed_without (waiting_of d) i (owed_of c)
   pub pending : pending_of c ≡ pending_of d + 1
 
--- what drains of a table: the old array, and which buckets of the new one wait for its entries
+-- the old array, and the flags of the buckets that wait for its entries
 pub record Draining (E : Type 0) : Type 0 where
   -- the buckets of the old array
   pub array : List (Shelf E)
-  -- of each bucket of the new array whether it waits; nothing where none does
+  -- a flag for each bucket of the current array, which says whether it waits; empty if none waits
   pub waiting : List Bool
   -- how many buckets wait
   pub pending : ℕ
-  -- no bucket before this one waits
+  -- no bucket before this number waits
   pub next : ℕ
   -- how many entries the old array holds
   pub left : ℕ
-  -- its overflow lists hold at most so many of them
+  -- its overflow lists hold at most this many of them
   pub left_overflow : ℕ
 
--- the same of a value of the program
+-- the `Draining` of the program as that of the logic
 abbrev pub draining_of : {E : Type 0} → code.Draining E → Draining E
 draining_of o = record { array = o.array; waiting = o.waiting.items; pending = o.pending; next = o.next; left = o.left; left_overflow = o.left_overflow }
 
--- of all fields of a table of two arrays. Where no bucket waits, there is no old array
+-- what holds of all fields of a table of two arrays; if no bucket waits, there is no old array
 pub record IsTable {E K S : Type 0} (eq : K → K → Bool) (key : E → K) (hash : K → ℕ) (c : Contents E S) (drain : Draining E) (skipped : ℕ) : Type 0 where
   pub arrays : TwoArrays (λ e. hash (key e)) c drain.waiting drain.array
   pub skips : skipped ≡ (settings_of c).skipped

@@ -1,4 +1,4 @@
--- What a call with a closure at the entry of a key answers and leaves.
+-- What a call with a closure at the entry of a key returns and leaves.
 use Rattle.std.specs.Prelude.{◌≡◌, Bool, Option, None, Some, slice_get}
 use Rattle.std.specs.Borrow.{Bor, MutBor}
 use Rattle.std.specs.Fn.{Once}
@@ -9,7 +9,7 @@ use Rattle.scc_buckets.specs.declared.place.Place.{Place}
 use Rattle.scc_table.specs.Places.{IsFoundAt, index_of, with_write_at}
 
 module _ {F E K V R S : Type 0} (g : Once F (Bor K × (MutBor V × Unit {0})) (R × (MutBor V × Unit {0}))) (f : F) (key_of : E → K) (value_of : E → V) (put : E → V → E) (p : E → Bool) (c d : Contents E S) where
-  -- f was called at the first entry that passes p, and what it left is the value there; where none passes, nothing changed
+  -- f is called at the first entry that passes p, whose value is what f left; if no entry passes, nothing changes
   abbrev pub UpdatesFirst : Option R → Type 0
   UpdatesFirst None = (position p (entries c) ≡ None) × (d ≡ c)
   UpdatesFirst (Some r) = (q : Place) × (e : E) × (w : V) × IsFoundAt p c q × (slice_get (entries c) (index_of c q) ≡ Some e) × WritesInto g f key_of value_of e r w × (d ≡ with_write_at put c q w)

@@ -1,4 +1,4 @@
-//! What a cache asks for: lists of 32 entries at most, in order.
+//! The calls of a cache: lists of at most 32 entries, in order.
 
 mod prepare;
 mod put;

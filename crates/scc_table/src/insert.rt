@@ -1,4 +1,4 @@
-//! How new keys get into a table of two arrays.
+//! Insertions of new keys into a table of two arrays.
 
 mod ladder;
 mod prepare;

@@ -1,4 +1,4 @@
-//! How an entry gets into a table of two arrays that is made when it is put in.
+//! Insertions of an entry that the insertion makes of its parts.
 
 mod double;
 mod ladder;

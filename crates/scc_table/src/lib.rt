@@ -1,5 +1,5 @@
-//! The table of the hash containers whose resizes are spread over insertions: the entries of an old array wait there
-//! until their bucket in the new one takes them over.
+//! `Table`: the table of the hash containers, whose resizes are spread over insertions. The entries of an old array
+//! stay there until their bucket of the current array is relocated.
 #![tactic(auto)]
 
 ghost use Rattle.scc_contents.specs.Contents.{bucket_count, pending_of, refused_of, IsUniqueBy};
@@ -23,8 +23,8 @@ use scc_common::Keyed;
 use std::hash::{BuildHasher, Hash};
 use std::marker::Model;
 
-/// Entries with distinct keys, in the buckets of an array, or of an old one where their bucket waits for them. A
-/// container sees one list for each bucket, wherever its entries lie.
+/// Entries with distinct keys, in the buckets of the current array, or in the old array if their bucket waits. A
+/// contract sees one list for each bucket, whichever array holds its entries.
 #[derive(Drop)]
 pub struct Table<E: Keyed, H: BuildHasher>
 where
@@ -35,8 +35,8 @@ where
     current: Buckets<E, H>,
 }
 
-/// The old array, and which buckets of the present one wait for its entries: so many, none of them before `next`. It
-/// holds `left` entries, at most `left_overflow` of them in its overflow lists.
+/// The old array, and the flags of the buckets of the current array that wait for its entries. `pending` buckets wait,
+/// none of them before `next`. The old array holds `left` entries, at most `left_overflow` of them in overflow lists.
 #[derive(Drop)]
 struct Draining<E> {
     array: Array<E>,
@@ -69,7 +69,7 @@ impl<E: Keyed, H: BuildHasher> Table<E, H>
 where
     E::Key: Eq + Hash,
 {
-    /// The number of buckets, 0 where there is no array.
+    /// Returns the number of buckets, 0 if there is no array.
     #[inline(always)]
     pub fn bucket_count(&self) -> usize
         ensures count { result ≡ bucket_count self.now }
@@ -80,7 +80,7 @@ where
         self.current.bucket_count()
     }
 
-    /// How many buckets wait for their entries to come from the old array.
+    /// Returns the number of waiting buckets.
     #[inline(always)]
     pub fn pending(&self) -> usize
         ensures { result ≡ pending_of self.now }
@@ -88,7 +88,7 @@ where
         self.draining.pending
     }
 
-    /// Whether memory was refused for the last resize that was due.
+    /// Returns whether memory was refused for the last resize that was due.
     #[inline(always)]
     pub fn is_resize_refused(&self) -> bool
         ensures { result ≡ (refused_of self.now).0 }
@@ -96,7 +96,8 @@ where
         self.current.is_resize_refused()
     }
 
-    /// Whether the next insertion is not to try the growth that is due: it was refused just before.
+    /// Returns whether the growth is marked: memory for it was refused just before, and the next insertion doesn't try
+    /// it.
     #[inline(always)]
     pub fn is_marked(&self) -> bool
         ensures { result ≡ (refused_of self.now).1 }
@@ -104,7 +105,7 @@ where
         self.current.is_marked()
     }
 
-    /// Whether the bucket waits for its entries to come from the old array.
+    /// Returns whether `bucket` waits.
     #[inline(always)]
     pub fn is_waiting(&self, bucket: usize) -> bool
         requires { bucket < bucket_count self.now }

@@ -1,4 +1,4 @@
-//! How a table of two arrays is made: with one, empty or with clones.
+//! Makes tables with a current array alone: empty ones, and clones.
 ghost use Rattle.scc_buckets.specs.Making.{AreNewBuckets, MakesBuckets};
 ghost use Rattle.scc_contents.specs.Clones.{HasClones};
 ghost use Rattle.scc_contents.specs.Contents.{key_hash, lists_of, refused_of, settings_of, overflow_of, waiting_of};
@@ -18,8 +18,8 @@ impl<E: Keyed, H: BuildHasher> Table<E, H>
 where
     E::Key: Eq + Hash,
 {
-    /// An empty table without an array, that skips so many bits of each hash. No resize of it was refused, and nothing
-    /// waits.
+    /// Makes an empty table without an array, which skips `skipped` bits of each hash. No refused memory is noted, and
+    /// no bucket waits. Allocates nothing.
     pub fn new(alloc: Global, skipped: u32, hasher: H) -> Table<E, H>
         requires { skipped ≤ 4 }
         ensures { AreNewBuckets E.key_of (key_hash H.BuildHasher H.Hasher.Hasher E.Key.hash_input) hasher skipped
@@ -28,8 +28,8 @@ where
         Table::over(skipped, Buckets::new(alloc, skipped, hasher))
     }
 
-    /// An empty table with an array of the size of so many slots, which are then the slots asked for; without an array
-    /// for 0. A size that can't be had is refused.
+    /// Makes an empty table with an array of the size for `slots`, whose slots are the slots asked for. If `slots` is
+    /// 0, there is no array, and nothing is allocated. Fails if memory is refused.
     pub fn with_capacity(
         alloc: Global,
         skipped: u32,
@@ -48,7 +48,7 @@ where
         }
     }
 
-    /// That table, with no old array.
+    /// Makes a table of `current`, without an old array.
     pub(crate) fn over(skipped: u32, current: Buckets<E, H>) -> Table<E, H>
         requires skips { skipped ≡ (settings_of current).skipped }
         requires few_bits { skipped ≤ 4 }
@@ -75,14 +75,14 @@ where
         }
     }
 
-    /// What the table takes its memory from.
+    /// Returns the allocator of the table.
     pub fn allocator(&self) -> Global {
         self.current.allocator()
     }
 
-    /// A table with clones of all entries under a clone of the hasher, where no bucket waits and no resize was refused.
-    /// It has as many buckets, and their slots are those that it was asked for. It is refused for want of memory, and
-    /// where a clone can't be had or equals another.
+    /// Makes a table with clones of all entries, under a clone of the hasher. The copy has the same number of buckets
+    /// as `self`, and all its slots count as asked for. No bucket of it waits, and no refused memory is noted. Fails if
+    /// memory is refused, if a clone fails, and if the clones of two keys are equal.
     pub fn try_clone(&self) -> Result<Table<E, H>, MakeError>
     where
         E: Clone,
@@ -101,8 +101,7 @@ impl<E: Keyed, H: BuildHasher> Table<E, Shared<H>>
 where
     E::Key: Eq + Hash,
 {
-    /// An empty part: it skips so many bits of each hash, and hashes as each other part of that hasher does. Else as
-    /// `with_capacity`.
+    /// As `with_capacity`, but makes a part, which hashes as every other part under `hasher`.
     pub fn part(
         alloc: Global,
         skipped: u32,

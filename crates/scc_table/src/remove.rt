@@ -1,4 +1,4 @@
-//! How entries get out of a table of two arrays.
+//! Removals from a table of two arrays.
 
 mod at_place;
 mod by_key;

@@ -1,4 +1,4 @@
-//! Resizes: another array takes the place of the current one, and buckets that wait take their entries over.
+//! Resizes: another array is installed, and waiting buckets are relocated.
 
 mod grow;
 mod install;

@@ -1,4 +1,4 @@
-//! Searches that lend the entry itself.
+//! Searches of the columns that return the entry itself.
 ghost use Rattle.scc_array.specs.Hints.{IsPassing};
 ghost use Rattle.scc_array.specs.Windows.{window_of, IsTagged};
 ghost use Rattle.std.specs.List.{find, position};
@@ -13,7 +13,8 @@ impl<E: Keyed> Columns<E>
 where
     E::Key: Eq,
 {
-    /// The first entry of the bucket with that key. Only places with the tag are compared, in rising order.
+    /// Returns the first entry of the bucket whose key equals `key`. Only entries whose tag is `tag` are compared, in
+    /// the order of their slots.
     #[inline(always)]
     pub(crate) fn find_entry(&self, bucket: usize, key: &E::Key, tag: u8) -> Option<&E>
         requires bucket { bucket < length self.now }
@@ -27,7 +28,8 @@ where
         }
     }
 
-    /// An entry of the bucket with that key. Where the answer is None and the tag is the key's, there is none.
+    /// Returns an entry of the bucket whose key equals `key`. If the result is `None` and `tag` is the tag of `key`,
+    /// the bucket has no such entry.
     #[inline(always)]
     pub(crate) fn find_hinted(&self, bucket: usize, key: &E::Key, tag: u8) -> Option<&E>
         requires bucket { bucket < length self.now }

@@ -1,4 +1,4 @@
-//! What buckets of versions can do beside: walk over the pairs.
+//! Walks over the pairs of versions, which call a closure with a key and a value.
 ghost use Rattle.scc_array.specs.Shelf.{shelf_entries};
 ghost use Rattle.scc_array.specs.Shelves.{shelf_of};
 ghost use Rattle.scc_contents.specs.Contents.{entries};
@@ -10,8 +10,8 @@ use scc_array::Array;
 use scc_common::SharedVersion;
 use std::hash::{BuildHasher, Hash};
 
-/// Calls `f` on the pairs of a bucket's versions past its places in turn, until its first false. The answer is false
-/// where it stopped.
+/// Calls `f` on the pairs of the versions in the overflow list of `bucket` in turn, until it returns false. Returns
+/// false if it stopped. `slots` must be the `slot_count` of the bucket.
 #[inline(always)]
 fn walk_list<K, V, F: FnMut(&K, &V) -> bool>(
     array: &Array<SharedVersion<K, V>>,
@@ -34,8 +34,8 @@ fn walk_list<K, V, F: FnMut(&K, &V) -> bool>(
     true
 }
 
-/// Calls `f` on the pairs of a bucket's versions in turn, until its first false. The answer is false where it stopped.
-/// The versions in places have a loop of their own, which asks for no list.
+/// Calls `f` on the pairs of the versions of `bucket` in turn, until it returns false. Returns false if it stopped. The
+/// versions in slots with a tag have a loop of their own, which reads no list.
 #[inline(always)]
 fn walk_bucket<K, V, F: FnMut(&K, &V) -> bool>(
     array: &Array<SharedVersion<K, V>>,
@@ -58,7 +58,7 @@ fn walk_bucket<K, V, F: FnMut(&K, &V) -> bool>(
 }
 
 impl<K: Eq + Hash, V, H: BuildHasher> Buckets<SharedVersion<K, V>, H> {
-    /// Calls `f` on all pairs in the order of the buckets, until its first false.
+    /// Calls `f` on all pairs in the order of the buckets, until it returns false. Returns false if it stopped.
     pub fn walk<F: FnMut(&K, &V) -> bool>(&self, mut f: F) -> bool
         requires { CallableWhile F.FnMut true f (entries self.now) }
         ensures { (last : F) × Walks (CalledOn F.FnMut) f (entries self.now) result last }

@@ -1,4 +1,4 @@
-//! What a put would have to make first, made before it.
+//! The preparation of a put.
 ghost use Rattle.scc_buckets.specs.Bounded.{IsListed};
 ghost use Rattle.scc_contents.specs.Contents.{bucket_count, key_hash};
 ghost use Rattle.scc_table.specs.Growths.{DropsMarkWithin, PreparesWithin};
@@ -13,9 +13,9 @@ impl<E: Keyed, H: BuildHasher> Table<E, H>
 where
     E::Key: Eq + Hash,
 {
-    /// Makes what a put of a new key of that hash wants, with no entry moved: the first array, or a doubling as
-    /// `bucket_within` makes it. A doubling that is refused is marked, so that the put doesn't try it again. Fails only
-    /// where the first array is refused.
+    /// Prepares a put of a new key with the hash `hash`: makes the first array, or doubles the array as `bucket_within`
+    /// does. Moves no entry. A doubling whose memory is refused is marked, so that the put doesn't try it again. Fails
+    /// only if memory for the first array is refused.
     pub fn prepare_within(&mut self, hash: u64, most: usize) -> Result<(), AllocError>
         requires listed { IsListed (λ e. key_hash H.BuildHasher H.Hasher.Hasher E.Key.hash_input self.old
             (E.key_of e)) self.old }
@@ -37,7 +37,7 @@ where
         Ok(())
     }
 
-    /// Takes the mark of a refused doubling away, so that the next put tries a doubling that is due.
+    /// Takes the mark away, so that the next put tries a doubling that is due.
     #[inline(always)]
     pub fn drop_mark_within(&mut self)
         requires { IsListed (λ e. key_hash H.BuildHasher H.Hasher.Hasher E.Key.hash_input self.old (E.key_of e))

@@ -1,4 +1,4 @@
-//! Entries that go in at the end of a list of 32 at most, and move there. None of it asks for memory.
+//! Puts of entries at the end of a list of at most 32, and moves to its end. None of these calls allocates.
 ghost use Rattle.scc_buckets.specs.Bounded.{IsListed, IsBounded};
 ghost use Rattle.scc_contents.specs.Contents.{entries, bucket_count, key_hash, settings_of, waiting_of, IsUniqueBy, list_of};
 ghost use Rattle.scc_contents.specs.Routing.{bucket_number};
@@ -16,7 +16,7 @@ impl<E: Keyed, H: BuildHasher> Table<E, H>
 where
     E::Key: Eq + Hash,
 {
-    /// Moves the entries of a bucket that waits to it, in their order. It takes no memory.
+    /// Relocates the waiting bucket `bucket`. Allocates nothing.
     #[cold]
     pub fn relocate_within(&mut self, bucket: usize)
         requires waits { IsWaiting self.old bucket }
@@ -35,9 +35,9 @@ where
         }
     }
 
-    /// Puts an entry whose key is new at the end of the list of its bucket. Where that holds 32, its first one goes and
-    /// is answered. Where the bucket waits, it takes its entries over first, and then the first ones that wait, two in
-    /// all. It takes no memory.
+    /// Puts `entry`, whose key is new, at the end of the list of `bucket`. If the list holds 32 entries, first takes
+    /// its first entry out, and returns it. Relocates two waiting buckets in all: `bucket` before the put, if it waits,
+    /// and the first waiting buckets after it. `bucket` must be the bucket of `hash`. Allocates nothing.
     #[inline(always)]
     pub fn put_within(&mut self, bucket: usize, hash: u64, entry: E) -> Option<E>
         requires within { bucket < bucket_count self.old }
@@ -55,7 +55,7 @@ where
         self.put_then_relocate(bucket, hash, entry, 2)
     }
 
-    /// The same where the bucket waits.
+    /// As `put_within`, if `bucket` waits.
     #[cold]
     fn put_after_relocation(&mut self, bucket: usize, hash: u64, entry: E) -> Option<E>
         requires within { bucket < bucket_count self.old }
@@ -72,7 +72,7 @@ where
         self.put_then_relocate(bucket, hash, entry, 1)
     }
 
-    /// The same where the bucket doesn't wait, and so many others take their entries over afterwards.
+    /// As `put_within`, if `bucket` doesn't wait, and relocates the first `most` waiting buckets after the put.
     #[inline(always)]
     fn put_then_relocate(&mut self, bucket: usize, hash: u64, entry: E, most: usize) -> Option<E>
         requires within { bucket < bucket_count self.old }
@@ -90,8 +90,9 @@ where
         first
     }
 
-    /// Puts an entry whose key is new at the end of the list of its bucket. Where that holds 32, its first one goes and
-    /// is answered. It takes no memory.
+    /// Puts `entry`, whose key is new, at the end of the list of `bucket`, which must not wait. If the list holds 32
+    /// entries, first takes its first entry out, and returns it. `bucket` must be the bucket of `hash`. Allocates
+    /// nothing.
     #[inline(always)]
     pub fn put_last(&mut self, bucket: usize, hash: u64, entry: E) -> Option<E>
         requires within { bucket < bucket_count self.old }
@@ -107,7 +108,8 @@ where
         self.current.put_last(bucket, hash, entry)
     }
 
-    /// Moves the entry to the end of the list of its bucket, the one of the hash, unless it stands there.
+    /// Moves the entry at `slot` to the end of the list of `bucket`, unless it is the last there. `hash` must be the
+    /// hash of its key.
     #[inline(always)]
     pub fn touch(&mut self, bucket: usize, slot: usize, hash: u64)
         requires within { bucket < bucket_count self.old }

@@ -1,4 +1,4 @@
-//! Arrays that grow and shrink so that no list gets longer than 32.
+//! Growths and shrinks after which no list holds more than 32 entries.
 ghost use Rattle.scc_buckets.specs.Bounded.{IsListed, MayShrinkWithin, ShrinksBounded};
 ghost use Rattle.scc_buckets.specs.Pour.{bound_for};
 ghost use Rattle.scc_contents.specs.Contents.{entries, bucket_count, key_hash, settings_of, IsUniqueBy};
@@ -18,10 +18,10 @@ impl<E: Keyed, H: BuildHasher> Table<E, H>
 where
     E::Key: Eq + Hash,
 {
-    /// The bucket for a new key of that hash. An array is made where there is none, and doubled where no bucket waits,
-    /// that one holds 32 entries, the table at least half as many entries as slots and fewer slots than `most`: then
-    /// every bucket of the new array waits. Where memory for the doubling is refused, or was just before, the array
-    /// stays.
+    /// Returns the bucket of `hash`, for a put of a new key. Makes the first array if there is none. Doubles the array
+    /// if no bucket waits, the bucket holds 32 entries, and the table has at least half as many entries as slots and
+    /// fewer slots than `most`; then every bucket of the new array waits. The array stays if memory for the doubling is
+    /// refused, or if the growth is marked. Fails only if memory for the first array is refused.
     #[inline(always)]
     pub fn bucket_within(&mut self, hash: u64, most: usize) -> Result<usize, AllocError>
         requires listed { IsListed (λ e. key_hash H.BuildHasher H.Hasher.Hasher E.Key.hash_input self.old
@@ -42,9 +42,9 @@ where
         Ok(self.bucket_at(hash))
     }
 
-    /// Doubles the number of buckets where no bucket waits, at least half as many entries as slots are held and fewer
-    /// slots than `most`, unless memory is refused or was just before: then every bucket of the new array waits.
-    /// Answers whether it was due and was not made. Takes time by the number of buckets.
+    /// Doubles the array if no bucket waits, and the table has at least half as many entries as slots and fewer slots
+    /// than `most`; then every bucket of the new array waits. The array stays if memory is refused, or if the growth is
+    /// marked. Returns whether a doubling was due and wasn't made. Takes time proportional to the number of buckets.
     #[cold]
     pub(crate) fn double_within(&mut self, most: usize) -> bool
         requires array { 0 < bucket_count self.old }
@@ -72,10 +72,10 @@ where
         }
     }
 
-    /// Makes the array smaller where at most an eighth as many entries as slots are held, a smaller array has enough
-    /// slots and each of its buckets gets at most 32 entries, unless memory is refused: the buckets that wait take
-    /// their entries over first, and then every bucket of the new array waits. Takes time by the number of buckets
-    /// where it tries, and of entries that waited, else none to speak of.
+    /// Shrinks the array if the table has at most an eighth as many entries as slots, a smaller array has enough slots,
+    /// and each of its buckets would hold at most 32 entries; the array stays if memory is refused. First relocates all
+    /// waiting buckets; then every bucket of the new array waits. If it tries, takes time proportional to the number of
+    /// buckets and of entries that waited; otherwise, takes constant time.
     #[inline(always)]
     pub fn shrink_within(&mut self)
         requires { IsListed (λ e. key_hash H.BuildHasher H.Hasher.Hasher E.Key.hash_input self.old (E.key_of e))
@@ -98,7 +98,7 @@ where
         self.shrink_sparse_within();
     }
 
-    /// The same where so few entries are held.
+    /// As `shrink_within`, if the table has at most an eighth as many entries as slots.
     #[cold]
     fn shrink_sparse_within(&mut self)
         requires listed { IsListed (λ e. key_hash H.BuildHasher H.Hasher.Hasher E.Key.hash_input self.old
@@ -128,7 +128,7 @@ where
         }
     }
 
-    /// Whether each of so many buckets, fewer than there are, would get at most 32 entries.
+    /// Returns whether each of `count` buckets, fewer than there are, would hold at most 32 entries.
     fn is_short_in(&self, count: usize) -> bool
         requires array { IsBucketCount count }
         requires fewer { count < bucket_count self.now }
@@ -147,8 +147,8 @@ where
         true
     }
 
-    /// How many entries belong to the target among `count` buckets, `spread` times fewer than there are: those of so
-    /// many present buckets in a row.
+    /// Returns how many entries would belong to the bucket `target` of `count`: the entries of `spread` buckets in a
+    /// row. `count * spread` must be the number of buckets.
     fn joined_len(&self, target: usize, count: usize, spread: usize) -> usize
         requires listed { IsListed (λ e. key_hash H.BuildHasher H.Hasher.Hasher E.Key.hash_input self.now
             (E.key_of e)) self.now }

@@ -16,7 +16,8 @@ impl<E: Keyed, H: BuildHasher> Table<E, H>
 where
     E::Key: Eq + Hash,
 {
-    /// The place in the list of the bucket, the one of the hash, of the entry with that key.
+    /// Returns the slot of the entry of `bucket` whose key equals `key`, or `None`. `bucket` must be the bucket of
+    /// `hash` and not wait, and `hash` must be the hash of `key`.
     #[inline(always)]
     pub fn search_in(&self, bucket: usize, hash: u64, key: &E::Key) -> Option<usize>
         requires within { bucket < bucket_count self.now }
@@ -30,7 +31,7 @@ where
         self.current.search_in(bucket, hash, key)
     }
 
-    /// Where the entry with that key stands in the list of its bucket. `hash` is the key's hash.
+    /// As `search`, but the contract speaks of the list of the bucket. `hash` must be the hash of `key`.
     #[inline(always)]
     pub fn search_place(&self, hash: u64, key: &E::Key) -> Option<Place>
         requires { hash ≡ key_hash H.BuildHasher H.Hasher.Hasher E.Key.hash_input self.now key.now }
@@ -43,7 +44,7 @@ where
         self.search(hash, key)
     }
 
-    /// The first entry of a bucket that holds some.
+    /// Returns the first entry of `bucket`, which must hold an entry.
     pub fn first_entry(&self, bucket: usize) -> &E
         requires within { bucket < bucket_count self.now }
         requires some { 0 < length (list_of self.now bucket) }

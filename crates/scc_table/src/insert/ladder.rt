@@ -1,4 +1,4 @@
-//! The insertion of an entry whose key is new, from the look for a growth down to the bucket.
+//! The insertion of an entry whose key is new, from the check for a growth down to the bucket.
 ghost use Rattle.scc_contents.specs.Contents.{entries, bucket_count, key_hash, settings_of, waiting_of, HasRoomBy};
 ghost use Rattle.scc_contents.specs.Routing.{bucket_number};
 ghost use Rattle.scc_table.specs.Insertions.{InsertsAndRelocates, InsertsThenRelocates, InsertsNew};
@@ -17,12 +17,12 @@ impl<E: Keyed, H: BuildHasher> Table<E, H>
 where
     E::Key: Eq + Hash,
 {
-    /// Puts in an entry whose key is new, and answers its place. Its bucket takes its own entries over first where it
-    /// waits, and then the first ones that wait do, two in all. Where no bucket waits, that one holds 32 entries or
-    /// more and the table at least half as many entries as slots, the number of buckets is doubled first, if memory can
-    /// be had: every bucket of the new array waits then. The entry is handed back where there is no array and none can
-    /// be had, where memory for its bucket's entries that waited is refused, or where its bucket is full and the
-    /// overflow list can't grow.
+    /// Inserts `entry`, whose key is new, and returns its place. Makes the first array if there is none. Doubles the
+    /// array if no bucket waits, the bucket of `hash` holds 32 entries or more, and the table has at least half as many
+    /// entries as slots; then every bucket of the new array waits. The array stays if memory for the doubling is
+    /// refused. Relocates two waiting buckets in all: the bucket of `hash` before the insertion, if it waits, and the
+    /// first waiting buckets after it. Fails if memory for the first array or to relocate the bucket of `hash` is
+    /// refused, or if the bucket is full and the overflow list can't grow; then `entry` is handed back.
     #[inline(always)]
     pub fn insert_new(&mut self, hash: u64, entry: E) -> Result<Place, E>
         requires hashed { hash ≡ key_hash H.BuildHasher H.Hasher.Hasher E.Key.hash_input self.old (E.key_of entry) }
@@ -39,7 +39,7 @@ where
         self.insert_after_growth(hash, entry)
     }
 
-    /// The same, with a look whether the array has to be made or to grow.
+    /// As `insert_new`, after a check whether the array has to be made or to grow.
     pub(crate) fn insert_after_growth(&mut self, hash: u64, entry: E) -> Result<Place, E>
         requires hashed { hash ≡ key_hash H.BuildHasher H.Hasher.Hasher E.Key.hash_input self.old (E.key_of entry) }
         requires absent { position (λ e. E.Key.eq (E.key_of entry) (E.key_of e)) (entries self.old) ≡ None }
@@ -52,9 +52,9 @@ where
         }
     }
 
-    /// Puts in an entry whose key is new, into that bucket, the one of the hash, and answers its place. Where that
-    /// bucket waits, it takes its entries over first, and then the first ones that wait, two in all. The entry is
-    /// handed back where memory for its own bucket is refused.
+    /// Inserts `entry`, whose key is new, into `bucket`, and returns its place. `bucket` must be the bucket of `hash`.
+    /// Relocates two waiting buckets in all: `bucket` before the insertion, if it waits, and the first waiting buckets
+    /// after it. Fails if memory for `bucket` is refused; then `entry` is handed back.
     #[inline(always)]
     pub(crate) fn insert_and_relocate(
         &mut self,
@@ -76,7 +76,7 @@ where
         self.insert_then_relocate(bucket, hash, entry, 2)
     }
 
-    /// The same where the bucket waits.
+    /// As `insert_and_relocate`, if `bucket` waits.
     #[cold]
     pub(crate) fn insert_after_relocation(
         &mut self,
@@ -100,7 +100,8 @@ where
         }
     }
 
-    /// The same where the bucket doesn't wait, and so many others take their entries over afterwards.
+    /// As `insert_and_relocate`, if `bucket` doesn't wait, and relocates the first `most` waiting buckets after the
+    /// insertion.
     #[inline(always)]
     pub(crate) fn insert_then_relocate(
         &mut self,
@@ -127,8 +128,8 @@ where
         }
     }
 
-    /// Puts in an entry whose key is new, into that bucket, the one of the hash, which doesn't wait. The entry is
-    /// handed back where the bucket is full and the overflow list can't grow.
+    /// Inserts `entry`, whose key is new, into `bucket`, and returns its place. `bucket` must be the bucket of `hash`,
+    /// and not wait. Fails if the bucket is full and the overflow list can't grow; then `entry` is handed back.
     #[inline(always)]
     pub fn insert_in(&mut self, bucket: usize, hash: u64, entry: E) -> Result<Place, E>
         requires within { bucket < bucket_count self.old }

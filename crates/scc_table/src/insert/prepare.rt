@@ -1,4 +1,4 @@
-//! What an insertion would have to make first, made before it.
+//! The preparation of an insertion.
 ghost use Rattle.scc_contents.specs.Contents.{bucket_count, key_hash, lists_of, refused_of, settings_of, waiting_of, IsUniqueBy};
 ghost use Rattle.scc_contents.specs.Steps.{IsUnchanged, Prepares};
 ghost use Rattle.scc_table.specs.Marks.{MarksPreparation};
@@ -14,9 +14,9 @@ impl<E: Keyed, H: BuildHasher> Table<E, H>
 where
     E::Key: Eq + Hash,
 {
-    /// Makes what an insertion of a new key of that hash wants: the first array, or twice as many buckets, all of which
-    /// wait then. A growth that is refused is noted, and marked: the insertion doesn't try it again. Fails only where
-    /// the first array is refused, and then nothing changes.
+    /// Prepares an insertion of a new key with the hash `hash`: makes the first array, or doubles the array; then every
+    /// bucket of the new array waits. A growth whose memory is refused is noted and marked: the insertion doesn't try
+    /// it again. Fails only if memory for the first array is refused; then nothing changes.
     pub fn prepare(&mut self, hash: u64) -> Result<(), AllocError>
         ensures ok { OnOk result (Prepares (key_hash H.BuildHasher H.Hasher.Hasher E.Key.hash_input self.old)
             E.key_of self.old hash self.new) }
@@ -46,7 +46,7 @@ where
         Ok(())
     }
 
-    /// The next insertion tries a growth that is due.
+    /// Takes the mark away, so that the next insertion tries a growth that is due.
     pub fn drop_mark(&mut self)
         ensures same { IsUnchanged self.old self.new }
         ensures lists { lists_of self.new ≡ lists_of self.old }

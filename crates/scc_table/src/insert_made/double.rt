@@ -1,4 +1,4 @@
-//! How an entry that is made gets into twice as many buckets.
+//! The insertion of an entry that is made, into an array that doubles.
 ghost use Rattle.scc_array.specs.Shelf.{empty_shelf};
 ghost use Rattle.scc_buckets.specs.Pour.{bound_for};
 ghost use Rattle.scc_contents.specs.Contents.{entries, bucket_count, key_hash, list_of, pending_of, settings_of, waiting_of};
@@ -22,8 +22,8 @@ impl<E: Keyed, H: BuildHasher> Table<E, H>
 where
     E::Key: Eq + Hash,
 {
-    /// Whether the bucket of the hash would hold 32 entries or more among twice as many buckets. That bucket is the one
-    /// of the hash now, and doesn't wait.
+    /// Returns whether the bucket of `hash` would hold 32 entries or more after a doubling. `bucket` must be the bucket
+    /// of `hash` in the current array, and not wait.
     pub(crate) fn is_crowded(&self, bucket: usize, hash: u64) -> bool
         requires within { bucket < bucket_count self.now }
         requires routed { bucket ≡ bucket_number (settings_of self.now).skipped (bucket_count self.now) hash }
@@ -48,9 +48,10 @@ where
         ) >= 32
     }
 
-    /// Puts twice as many empty buckets in the place of the present ones, and answers where the entry at the place
-    /// stands then, whose hash that is. Its bucket of the new array takes its entries over at once, then the first one
-    /// that waits does, and all others wait. Where memory for that bucket is refused, the buckets stay.
+    /// Installs `fresh`, an array of twice as many buckets, and returns the new place of the entry at `place`, whose
+    /// key must have the hash `hash`. Relocates the bucket of `hash` at once, and then the first waiting bucket; all
+    /// others wait. If memory for the bucket of `hash` is refused, that is noted, the array stays, and the result is
+    /// `place`.
     fn double_around(&mut self, place: Place, fresh: Array<E>, flags: Vec<bool>, hash: u64) -> Place
         requires within { place.bucket < bucket_count self.old }
         requires slot { place.slot < length (list_of self.old place.bucket) }
@@ -87,9 +88,9 @@ where
         }
     }
 
-    /// Puts an entry whose key is new into empty buckets that take the place of the present ones, which drain from then
-    /// on, and answers its place. Its bucket takes its own entries over, fewer than 32, and then the first one that
-    /// waits does.
+    /// Installs `fresh`, an array of `count` buckets, inserts `entry`, whose key is new, and returns its place.
+    /// Relocates the bucket of `hash`, which gets fewer than 32 entries, before the insertion, and the first waiting
+    /// bucket after it.
     fn insert_grown(
         &mut self,
         count: usize,
@@ -126,8 +127,8 @@ impl<E: Keyed + Made, H: BuildHasher> Table<E, H>
 where
     E::Key: Eq + Hash,
 {
-    /// The same with an entry of the parts, which is made first. Where it can't be, the parts are handed back, that the
-    /// growth wasn't made is noted, and nothing else changed.
+    /// As `insert_grown`, with an entry made of `parts` before the installation. If the entry can't be made, `parts`
+    /// are handed back, the growth is noted as refused, and nothing else changes.
     pub(crate) fn insert_made_grown(
         &mut self,
         count: usize,
@@ -162,9 +163,9 @@ where
         }
     }
 
-    /// The same into the present buckets, in whose place twice as many empty ones come afterwards: that bucket, the one
-    /// of the hash, has the entry first, and then the one of the hash among the new ones takes it over, where memory
-    /// isn't refused. Where the entry can't be put in, that the growth wasn't made is noted, and nothing else changed.
+    /// Inserts an entry made of `parts`, whose key is new, into `bucket`, and then doubles the array by
+    /// `double_around`. Returns the place of the entry. `bucket` must be the bucket of `hash`. If the entry can't be
+    /// inserted, `parts` are handed back, the growth is noted as refused, and nothing else changes.
     #[cold]
     pub(crate) fn insert_made_crowded(
         &mut self,

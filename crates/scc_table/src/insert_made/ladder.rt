@@ -1,4 +1,4 @@
-//! The insertion of an entry that is made when it is put in, down to the bucket.
+//! The insertion of an entry that is made of its parts, from the check for a growth down to the bucket.
 ghost use Rattle.scc_contents.specs.Contents.{entries, bucket_count, key_hash, pending_of, settings_of, waiting_of};
 ghost use Rattle.scc_contents.specs.Routing.{bucket_number};
 ghost use Rattle.scc_table.specs.Insertions.{InsertsAndRelocates, InsertsThenRelocates};
@@ -19,10 +19,10 @@ impl<E: Keyed + Made, H: BuildHasher> Table<E, H>
 where
     E::Key: Eq + Hash,
 {
-    /// Puts in an entry of the parts, whose key is new, and answers its place. The array grows as for `insert_new`.
-    /// Nothing that may refuse the call comes after the entry is made. The parts are handed back, and no list changed,
-    /// where there is no array and none can be had, where memory for the entries that its bucket waits for is refused,
-    /// where the bucket is full and the overflow list can't grow, and where the entry can't be made.
+    /// Inserts an entry made of `parts`, whose key is new, and returns its place. The array grows as for `insert_new`.
+    /// After the entry is made, the call can't fail. Fails if memory for the first array or to relocate the bucket of
+    /// `hash` is refused, if the bucket is full and the overflow list can't grow, or if the entry can't be made; then
+    /// `parts` are handed back, and each list stays.
     pub fn insert_made(&mut self, hash: u64, parts: E::Parts) -> Result<Place, E::Parts>
         requires hashed { hash ≡ key_hash H.BuildHasher H.Hasher.Hasher E.Key.hash_input self.old
             (E.key_of (E.made_of parts)) }
@@ -43,7 +43,7 @@ where
         self.insert_made_full(bucket, hash, parts)
     }
 
-    /// The same where there is no array: it is made, of the size of the minimum. None of its buckets waits.
+    /// As `insert_made`, if there is no array: makes it, with the size of the minimum. None of its buckets waits.
     #[cold]
     fn insert_made_first(&mut self, hash: u64, parts: E::Parts) -> Result<Place, E::Parts>
         requires none { bucket_count self.old ≡ 0 }
@@ -58,11 +58,10 @@ where
         placed
     }
 
-    /// The same where no bucket waits, and that bucket, the one of the hash, holds 32 entries or more. Where the table
-    /// holds at least half as many entries as slots, the number of buckets is doubled, unless the array is the
-    /// greatest, memory for that is refused, or it was refused just before. Memory for the new buckets is asked for
-    /// first, then the entry is made. Where a growth that is due isn't made, that is noted, whether the entry gets in
-    /// or not.
+    /// As `insert_made`, if no bucket waits and `bucket`, that of `hash`, holds 32 entries or more. If the table has at
+    /// least half as many entries as slots, doubles the array, unless it is the greatest, memory is refused, or the
+    /// growth is marked. Allocates the new array before it makes the entry. A growth that is due and isn't made is
+    /// noted, also if the call fails.
     #[cold]
     fn insert_made_full(
         &mut self,
@@ -98,7 +97,7 @@ where
         }
     }
 
-    /// The same into the present buckets, where memory for others was refused, which is noted.
+    /// As `insert_made_and_relocate`, but first notes that memory for a growth was refused.
     fn insert_made_noted(
         &mut self,
         bucket: usize,
@@ -117,9 +116,10 @@ where
         self.insert_made_and_relocate(bucket, hash, parts)
     }
 
-    /// Puts in an entry of the parts, whose key is new, into that bucket, the one of the hash, and answers its place.
-    /// Where that bucket waits, it takes its entries over first, and then the first ones that wait, two in all. The
-    /// parts are handed back where memory is refused: that of its own bucket, or that of the entry.
+    /// Inserts an entry made of `parts`, whose key is new, into `bucket`, and returns its place. `bucket` must be the
+    /// bucket of `hash`. Relocates two waiting buckets in all: `bucket` before the insertion, if it waits, and the
+    /// first waiting buckets after it. Fails if memory for `bucket` or for the entry is refused; then `parts` are
+    /// handed back.
     fn insert_made_and_relocate(
         &mut self,
         bucket: usize,
@@ -140,7 +140,7 @@ where
         self.insert_made_then_relocate(bucket, hash, parts, 2)
     }
 
-    /// The same where the bucket waits.
+    /// As `insert_made_and_relocate`, if `bucket` waits.
     #[cold]
     fn insert_made_after_relocation(
         &mut self,
@@ -164,7 +164,8 @@ where
         }
     }
 
-    /// The same where the bucket doesn't wait, and so many others take their entries over afterwards.
+    /// As `insert_made_and_relocate`, if `bucket` doesn't wait, and relocates the first `most` waiting buckets after
+    /// the insertion.
     #[inline(always)]
     fn insert_made_then_relocate(
         &mut self,
@@ -191,9 +192,9 @@ where
         }
     }
 
-    /// Puts in an entry of the parts, whose key is new, into that bucket, the one of the hash, which doesn't wait. The
-    /// parts are handed back where the bucket is full and the overflow list can't grow, and where the entry can't be
-    /// made.
+    /// Inserts an entry made of `parts`, whose key is new, into `bucket`, and returns its place. `bucket` must be the
+    /// bucket of `hash`, and not wait. Fails if the bucket is full and the overflow list can't grow, or if the entry
+    /// can't be made; then `parts` are handed back.
     #[inline(always)]
     pub(crate) fn insert_made_in(
         &mut self,

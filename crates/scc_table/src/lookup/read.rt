@@ -1,4 +1,4 @@
-//! Reads: the entry at a place, sizes, settings, and the number of the bucket of a key.
+//! Reads: the entry at a place, sizes, settings, and the bucket of a key.
 ghost use Rattle.scc_contents.specs.Contents.{entries, bucket_count, bucket_of, key_hash, list_of, minimum_of, settings_of, HasRoomBy, IsRouted, IsUniqueBy};
 ghost use Rattle.scc_contents.specs.Routing.{bucket_number};
 ghost use Rattle.scc_table.specs.Places.{IsPlace, index_of};
@@ -14,7 +14,7 @@ impl<E: Keyed, H: BuildHasher> Table<E, H>
 where
     E::Key: Eq + Hash,
 {
-    /// The number of entries.
+    /// Returns the number of entries.
     #[inline(always)]
     pub fn len(&self) -> usize
         ensures len { result ≡ length (entries self.now) }
@@ -24,7 +24,7 @@ where
         self.current.len() + self.draining.left
     }
 
-    /// The entry at the place.
+    /// Returns the entry at `place`.
     #[inline(always)]
     pub fn entry_at(&self, place: Place) -> &E
         requires { IsPlace self.now place }
@@ -39,7 +39,7 @@ where
             .entry_at(place.bucket - count, place.slot)
     }
 
-    /// The hash of a key under the table's hasher.
+    /// Returns the hash of `key` under the hasher of the table.
     #[inline(always)]
     pub fn hash(&self, key: &E::Key) -> u64
         ensures { result ≡ key_hash H.BuildHasher H.Hasher.Hasher E.Key.hash_input self.now key.now }
@@ -47,7 +47,7 @@ where
         self.current.hash(key)
     }
 
-    /// The number of the bucket of a key, 0 where there is no array.
+    /// Returns the number of the bucket of `key`, 0 if there is no array.
     pub fn bucket_index(&self, key: &E::Key) -> usize
         ensures { result ≡ bucket_of (key_hash H.BuildHasher H.Hasher.Hasher E.Key.hash_input self.now) self.now
             key.now }
@@ -55,7 +55,7 @@ where
         self.current.bucket_index(key)
     }
 
-    /// The number of the bucket of a hash, 0 where there is no array.
+    /// Returns the number of the bucket of `hash`, 0 if there is no array.
     #[inline(always)]
     pub fn bucket_at(&self, hash: u64) -> usize
         ensures value { result ≡ bucket_number (settings_of self.now).skipped (bucket_count self.now) hash }
@@ -67,8 +67,8 @@ where
         self.current.bucket_at(hash)
     }
 
-    /// How many entries the bucket holds, wherever they lie. For one that waits it takes time by the number of entries
-    /// in the old buckets that hold them.
+    /// Returns the number of entries of `bucket`, in either array. For a waiting bucket, takes time proportional to the
+    /// number of entries in the old buckets that hold its entries.
     #[inline(always)]
     pub fn list_len(&self, bucket: usize) -> usize
         requires { bucket < bucket_count self.now }
@@ -90,8 +90,8 @@ where
         self.current.list_len(bucket)
     }
 
-    /// Whether there is an array, and the bucket of the key holds fewer than 32 entries: then an insertion of the key
-    /// takes no memory.
+    /// Returns whether there is an array and the bucket of `key` holds fewer than 32 entries. Then its bucket needs no
+    /// memory for an insertion of `key`.
     pub fn has_room(&self, key: &E::Key) -> bool
         ensures { IsTrue result ↔ HasRoomBy (key_hash H.BuildHasher H.Hasher.Hasher E.Key.hash_input self.now)
             E.key_of self.now key.now }
@@ -102,7 +102,7 @@ where
         self.list_len(self.bucket_at(self.hash(key))) < 32
     }
 
-    /// The slots that the array keeps at least: those asked for at making, and those reserved.
+    /// Returns the minimum: the slots asked for at making, and the slots reserved.
     #[inline(always)]
     pub fn minimum(&self) -> usize
         ensures value { result ≡ minimum_of self.now }
@@ -114,7 +114,7 @@ where
 }
 
 impl<K: Eq + Hash, V, H: BuildHasher> Table<(K, V), H> {
-    /// The key and the value at the place.
+    /// Returns the key and the value at `place`.
     #[inline(always)]
     pub fn pair_at(&self, place: Place) -> (&K, &V)
         requires { IsPlace self.now place }
@@ -126,7 +126,7 @@ impl<K: Eq + Hash, V, H: BuildHasher> Table<(K, V), H> {
 }
 
 impl<K: Eq + Hash, V, H: BuildHasher> Table<SharedVersion<K, V>, H> {
-    /// The version at the place.
+    /// Returns the version at `place`.
     #[inline(always)]
     pub fn version_at(&self, place: Place) -> &Version<K, V>
         requires { IsPlace self.now place }

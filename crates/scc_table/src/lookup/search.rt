@@ -1,4 +1,4 @@
-//! The search for a key: its place, or the entry itself, also from a hash that may be another key's.
+//! The search for a key: its place, or the entry itself, also by a hint.
 ghost use Rattle.scc_contents.specs.Contents.{entries, key_hash, pending_of, IsRouted, IsUniqueBy};
 ghost use Rattle.scc_table.specs.Places.{IsFoundAt};
 ghost use Rattle.std.specs.List.{position, find};
@@ -11,14 +11,14 @@ use scc_buckets::place::{bucket_index, tag};
 use scc_common::Keyed;
 use std::hash::{BuildHasher, Hash};
 
-/// No array has a bucket of that number.
+/// A number that no bucket of an array has.
 pub(crate) const NOWHERE: usize = 1 << 60;
 
 impl<E: Keyed, H: BuildHasher> Table<E, H>
 where
     E::Key: Eq + Hash,
 {
-    /// Where the entry with that key stands. `hash` is the key's hash.
+    /// Returns the place of the entry whose key equals `key`, or `None`. `hash` must be the hash of `key`.
     #[inline(always)]
     pub fn search(&self, hash: u64, key: &E::Key) -> Option<Place>
         requires { hash ≡ key_hash H.BuildHasher H.Hasher.Hasher E.Key.hash_input self.now key.now }
@@ -37,7 +37,8 @@ where
         }
     }
 
-    /// What every table keeps of its lists. It does nothing, and is there for its contract.
+    /// States what always holds of the lists: each entry stands in the list of the bucket of its hash, and no two keys
+    /// are equal. It does nothing, and is there for its contract.
     #[inline(always)]
     pub fn list_facts(&self)
         ensures routed { IsRouted (λ e. key_hash H.BuildHasher H.Hasher.Hasher E.Key.hash_input self.now (E.key_of e))
@@ -47,8 +48,9 @@ where
         self.current.list_facts();
     }
 
-    /// The same where some bucket waits. There is no such entry where the answer's bucket is `NOWHERE`. A place comes
-    /// back in two registers; an Option of one goes through the caller's memory, also where no bucket waits.
+    /// As `search`, if some bucket waits. If there is no such entry, the bucket of the result is `NOWHERE`. A `Place`
+    /// is returned in two registers. An `Option<Place>` would go through the memory of the caller, also when no bucket
+    /// waits.
     #[cold]
     pub(crate) fn search_both(&self, hash: u64, key: &E::Key) -> Place
         requires pending { 0 < pending_of self.now }
@@ -79,7 +81,7 @@ where
         }
     }
 
-    /// The entry with that key. `hash` is the key's hash.
+    /// Returns the entry whose key equals `key`, or `None`. `hash` must be the hash of `key`.
     #[inline(always)]
     pub fn find(&self, hash: u64, key: &E::Key) -> Option<&E>
         requires { hash ≡ key_hash H.BuildHasher H.Hasher.Hasher E.Key.hash_input self.now key.now }
@@ -91,7 +93,7 @@ where
         self.find_both(hash, key)
     }
 
-    /// The same where some bucket waits.
+    /// As `find`, if some bucket waits.
     #[cold]
     pub(crate) fn find_both(&self, hash: u64, key: &E::Key) -> Option<&E>
         requires pending { 0 < pending_of self.now }
@@ -106,8 +108,8 @@ where
         self.current.find(hash, key)
     }
 
-    /// The entry with that key. Where `hint` is the key's hash, no bucket waits and the entry lies in a place, the key
-    /// isn't hashed.
+    /// Returns the entry whose key equals `key`, or `None`. `hint` may be any hash: if it is the hash of `key`, no
+    /// bucket waits and the entry is present, `key` isn't hashed.
     #[inline(always)]
     pub fn find_by_hint(&self, hint: u64, key: &E::Key) -> Option<&E>
         ensures { option_copied result ≡ find (λ e. E.Key.eq key.now (E.key_of e)) (entries self.now) }

@@ -1,4 +1,4 @@
-//! Writes into the entries of two arrays. No write changes a place, and none takes memory.
+//! Writes to the entries of two arrays. No write changes a place, and none allocates.
 ghost use Rattle.scc_array.specs.ShelfWrites.{put_whole};
 ghost use Rattle.scc_contents.specs.Contents.{entries, key_hash, IsUniqueBy};
 ghost use Rattle.scc_table.specs.LendsTable.{lends_value};
@@ -18,7 +18,7 @@ impl<E: Keyed, H: BuildHasher> Table<E, H>
 where
     E::Key: Eq + Hash,
 {
-    /// Puts the entry in the place of the one there, whose key it equals, and answers that one.
+    /// Replaces the entry at `place` by `entry`, and returns the old entry. The two keys must be equal.
     pub fn replace_at(&mut self, place: Place, entry: E) -> E
         requires within { IsPlace self.old place }
         requires same { (e : E) → slice_get (entries self.old) (index_of self.old place) ≡ Some e
@@ -40,7 +40,7 @@ impl<E: Valued, H: BuildHasher> Table<E, H>
 where
     E::Key: Eq + Hash,
 {
-    /// The value of the entry at the place, to write.
+    /// Returns the value of the entry at `place`, to write to.
     #[inline(always)]
     pub fn value_mut_at(&mut self, place: Place) -> &mut E::Value
         requires { IsPlace self.old place }
@@ -52,7 +52,7 @@ where
         self.parts_mut_at(place).1
     }
 
-    /// The key of the entry at the place, and its value to write.
+    /// Returns the key of the entry at `place`, and its value to write to.
     #[inline(always)]
     pub fn parts_mut_at(&mut self, place: Place) -> (&E::Key, &mut E::Value)
         requires { IsPlace self.old place }
@@ -70,7 +70,7 @@ where
             .parts_mut_at(place.bucket - count, place.slot)
     }
 
-    /// Puts the key in the place of the one there, which it equals, and answers that one.
+    /// Replaces the key of the entry at `place` by `key`, and returns the old key. The two keys must be equal.
     pub fn replace_key_at(&mut self, place: Place, key: E::Key) -> E::Key
         requires within { IsPlace self.old place }
         requires same { (e : E) → slice_get (entries self.old) (index_of self.old place) ≡ Some e
@@ -88,9 +88,9 @@ where
             .replace_key_at(place.bucket - count, place.slot, key)
     }
 
-    /// Lends the key of the entry with that key to `u`, and its value to write, and answers what `u` answered; None
-    /// where there is no such entry. `hash` is the key's hash. Where no bucket waits, an entry that was found isn't
-    /// looked for again.
+    /// Calls `u` with the key and the value of the entry whose key equals `key`, and returns the result of `u`. `u` may
+    /// write to the value. Returns `None` if there is no such entry. `hash` must be the hash of `key`. If no bucket
+    /// waits, the entry is looked for once.
     #[inline(always)]
     pub fn update<R, U: FnOnce(&E::Key, &mut E::Value) -> R>(
         &mut self,

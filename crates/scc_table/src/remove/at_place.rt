@@ -1,4 +1,4 @@
-//! Removals with no resize. They relocate nothing: the same buckets wait as before.
+//! Removals without a resize. They relocate nothing: the waiting buckets stay.
 ghost use Rattle.scc_buckets.specs.OneList.{IsTakenFrom};
 ghost use Rattle.scc_contents.specs.Contents.{entries, bucket_count, waiting_of, owed_of, IsUniqueBy};
 ghost use Rattle.scc_table.specs.Places.{IsPlace, index_of, spot_of};
@@ -15,8 +15,8 @@ impl<E: Keyed, H: BuildHasher> Table<E, H>
 where
     E::Key: Eq + Hash,
 {
-    /// Takes the entry out of its place, with no resize: the others stay in their order. Seen in the list of its bucket
-    /// too.
+    /// Takes the entry at `place` out, and returns it, without a resize. The other entries keep their order. The
+    /// contract speaks of all entries and of the list of the bucket.
     pub fn take_in(&mut self, place: Place) -> E
         requires { IsPlace self.old place }
         ensures { TakesIn E.Key.eq E.key_of self.old place result self.new }
@@ -24,7 +24,7 @@ where
         self.take_exactly(place)
     }
 
-    /// The same, seen in the list of its bucket alone.
+    /// As `take_in`, but the contract speaks of the list of the bucket alone.
     #[inline(always)]
     fn take_exactly(&mut self, place: Place) -> E
         requires { IsPlace self.old place }
@@ -40,7 +40,7 @@ where
         self.take_old(place)
     }
 
-    /// The same out of a place of the old array.
+    /// As `take_exactly`, for a place in the old array.
     #[inline(always)]
     fn take_old(&mut self, place: Place) -> E
         requires place { IsPlace self.old place }
@@ -60,8 +60,8 @@ where
         entry
     }
 
-    /// Takes the entry out of its place, with no resize, and answers the place of the one that stood next, or None
-    /// where it was the last: the others stay in their order.
+    /// Takes the entry at `place` out, without a resize. Returns it with the place of the entry that followed it, or
+    /// with `None` if it was the last. The other entries keep their order.
     pub fn take_with_next(&mut self, place: Place) -> (E, Option<Place>)
         requires { IsPlace self.old place }
         ensures { TakesWithNext E.Key.eq E.key_of self.old place result self.new }
@@ -72,8 +72,8 @@ where
         (entry, next)
     }
 
-    /// Takes the entry out of its place, with no resize. The last entry of its bucket's slots, or of its overflow list,
-    /// may take its place.
+    /// Takes the entry at `place` out, and returns it, without a resize. The last entry of the slots of its bucket, or
+    /// of the overflow list, may move into its slot.
     #[inline(always)]
     pub fn swap_take_at(&mut self, place: Place) -> E
         requires { IsPlace self.old place }

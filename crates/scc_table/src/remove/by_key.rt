@@ -1,4 +1,4 @@
-//! Removals after which the array may become smaller. The order of the others is free.
+//! Removals after which the array may shrink. The order of the other entries may change.
 ghost use Rattle.scc_contents.specs.Contents.{key_hash, pending_of, waiting_of, IsUniqueBy};
 ghost use Rattle.scc_table.specs.Places.{IsPlace};
 ghost use Rattle.scc_table.specs.Removals.{RemovesAt, RemovesFirst, SwapTakesFirst};
@@ -14,9 +14,9 @@ impl<E: Keyed, H: BuildHasher> Table<E, H>
 where
     E::Key: Eq + Hash,
 {
-    /// Takes the entry out of its place. The others stay, maybe in other places: where few are left, the array may
-    /// become smaller, and then every bucket of the new one waits. Where that is not due, the same buckets wait as
-    /// before.
+    /// Takes the entry at `place` out, and returns it. The places of the other entries may change. The array may shrink
+    /// if few entries are left; then every bucket of the new array waits. If no shrink is due, the waiting buckets
+    /// stay.
     pub fn remove_at(&mut self, place: Place) -> E
         requires { IsPlace self.old place }
         ensures { RemovesAt E.Key.eq E.key_of self.old place result self.new }
@@ -26,8 +26,8 @@ where
         entry
     }
 
-    /// Takes out the entry with that key as `remove_at` does, and answers it; None where there is no such entry.
-    /// `hash` is the key's hash. Where no bucket waits, an entry that was found isn't looked for again.
+    /// Takes out the entry whose key equals `key`, as `remove_at` does, and returns it, or `None` if there is no such
+    /// entry. `hash` must be the hash of `key`. If no bucket waits, the entry is looked for once.
     #[inline(always)]
     pub fn remove(&mut self, hash: u64, key: &E::Key) -> Option<E>
         requires { hash ≡ key_hash H.BuildHasher H.Hasher.Hasher E.Key.hash_input self.old key.now }
@@ -46,7 +46,7 @@ where
         }
     }
 
-    /// Takes it out where no bucket waits, with no resize.
+    /// Takes out the entry whose key equals `key`, without a resize, if no bucket waits.
     #[inline(always)]
     fn take_from_current(&mut self, hash: u64, key: &E::Key) -> Option<E>
         requires not_waiting { waiting_of self.old ≡ [] }
@@ -56,7 +56,7 @@ where
         self.current.take_first(hash, key)
     }
 
-    /// The same as `remove` where some bucket waits.
+    /// As `remove`, if some bucket waits.
     #[cold]
     fn remove_from_both(&mut self, hash: u64, key: &E::Key) -> Option<E>
         requires pending { 0 < pending_of self.old }

@@ -14,8 +14,9 @@ impl<E: Keyed, H: BuildHasher> Table<E, H>
 where
     E::Key: Eq + Hash,
 {
-    /// The bucket for a new key of that hash. An array is made where there is none, and doubled where no bucket waits,
-    /// that one holds 32 entries or more and the table at least half as many entries as slots.
+    /// Returns the bucket of `hash`, for an insertion of a new key. Makes the first array if there is none. Doubles the
+    /// array if no bucket waits, the bucket holds 32 entries or more, and the table has at least half as many entries
+    /// as slots. Fails only if memory for the first array is refused.
     pub(crate) fn bucket_for_new(&mut self, hash: u64) -> Result<usize, AllocError>
         ensures { FindsBucketForNew E.Key.eq E.key_of
             (key_hash H.BuildHasher H.Hasher.Hasher E.Key.hash_input self.old) self.old hash result self.new }
@@ -35,9 +36,9 @@ where
         Ok(self.bucket_at(hash))
     }
 
-    /// Doubles the number of buckets where no bucket waits and at least half as many entries as slots are held, unless
-    /// the array is the greatest or memory is refused: then every bucket of the new array waits. Takes time by the
-    /// number of buckets.
+    /// Doubles the array if the table has at least half as many entries as slots; then every bucket of the new array
+    /// waits. No bucket may wait before. The array stays if it is the greatest, if memory is refused, or if the growth
+    /// is marked. Takes time proportional to the number of buckets.
     pub(crate) fn grow(&mut self)
         requires some { 0 < bucket_count self.old }
         requires not_waiting { pending_of self.old ≡ 0 }
@@ -59,7 +60,7 @@ where
         }
     }
 
-    /// Makes the first array, of the size of the minimum. None of its buckets waits.
+    /// Makes the first array, with the size of the minimum. None of its buckets waits.
     pub(crate) fn install_first(&mut self) -> Result<(), AllocError>
         requires { bucket_count self.old ≡ 0 }
         ensures { InstallsFirst E.Key.eq E.key_of

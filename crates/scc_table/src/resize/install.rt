@@ -1,4 +1,4 @@
-//! How a new array takes the place of the present one, which drains from then on.
+//! Installs a new array in the place of the current one, which becomes the old array.
 ghost use Rattle.scc_array.specs.Shelf.{empty_shelf};
 ghost use Rattle.scc_contents.specs.Contents.{bucket_count, key_hash, pending_of};
 ghost use Rattle.scc_contents.specs.Sizes.{IsBucketCount};
@@ -16,9 +16,9 @@ impl<E: Keyed, H: BuildHasher> Table<E, H>
 where
     E::Key: Eq + Hash,
 {
-    /// Moves to an array of so many buckets: those that wait take their entries over first, and then every bucket of
-    /// the new array waits. Where memory is refused, each list is as it was, and the buckets that took their entries
-    /// over still have them. Whether it was is noted.
+    /// Moves the table to an array of `count` buckets: relocates all waiting buckets, and installs the new array, whose
+    /// buckets all wait. Fails if memory is refused; then each list stays, and the buckets that were relocated stay
+    /// relocated. Notes whether memory was refused.
     pub(crate) fn resize_to(&mut self, count: usize) -> Result<(), AllocError>
         requires array { IsBucketCount count }
         requires some { 0 < bucket_count self.old }
@@ -36,7 +36,8 @@ where
         }
     }
 
-    /// The same where no bucket waits. Where memory is refused, none does afterwards either.
+    /// Moves the table to an array of `count` buckets, as `resize_to` does, if no bucket waits. On failure, no bucket
+    /// waits either.
     pub(crate) fn install_fresh(&mut self, count: usize) -> Result<(), AllocError>
         requires not_waiting { pending_of self.old ≡ 0 }
         requires array { IsBucketCount count }
@@ -59,22 +60,21 @@ where
         }
     }
 
-    /// Sets the note of refused memory alone.
+    /// Sets the note of refused memory to `refused`, and takes the mark away.
     pub(crate) fn note(&mut self, refused: bool)
         ensures { Notes E.Key.eq E.key_of (refused, false) self.old self.new }
     {
         self.current.note(refused);
     }
 
-    /// Sets the note of refused memory, and whether the next insertion is not to try the growth again.
+    /// Sets the note of refused memory, and the mark, which says that the next insertion doesn't try the growth.
     pub(crate) fn mark(&mut self, refused: bool, marked: bool)
         ensures { Notes E.Key.eq E.key_of (refused, marked) self.old self.new }
     {
         self.current.mark(refused, marked);
     }
 
-    /// Puts the empty buckets in the place of the present ones, which drain from then on: every one of the new buckets
-    /// waits, as the flags say.
+    /// Installs `fresh`, an array of `count` empty buckets. Every bucket of it waits, as `flags` must say.
     pub(crate) fn install(&mut self, count: usize, fresh: Array<E>, flags: Vec<bool>)
         requires not_waiting { pending_of self.old ≡ 0 }
         requires array { IsBucketCount count }
@@ -95,9 +95,8 @@ where
         self.draining.left_overflow = left_overflow;
     }
 
-    /// Puts the empty buckets in the place of the present ones, where none waits. That bucket of the new array takes
-    /// its entries over at once, and every other one waits, as the flags say. Where memory for that bucket is refused,
-    /// all stays.
+    /// Installs `fresh`, an array of `count` empty buckets, and relocates `bucket` at once. Every other bucket waits,
+    /// as `flags` must say. No bucket may wait before. Fails if memory for `bucket` is refused; then all stays.
     pub(crate) fn install_relocating(
         &mut self,
         count: usize,

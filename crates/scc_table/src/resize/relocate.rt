@@ -1,4 +1,4 @@
-//! How buckets take their entries over from the old array.
+//! Relocations: waiting buckets get their entries out of the old array.
 ghost use Rattle.scc_buckets.specs.Bounded.{IsBounded};
 ghost use Rattle.scc_contents.specs.Contents.{entries, list_of, pending_of};
 ghost use Rattle.scc_table.specs.Relocates.{AreShort};
@@ -17,8 +17,8 @@ impl<E: Keyed, H: BuildHasher> Table<E, H>
 where
     E::Key: Eq + Hash,
 {
-    /// Moves the entries of the first buckets that wait to them, of so many buckets. One whose memory is refused counts
-    /// among them, and still waits.
+    /// Relocates the first waiting bucket, up to `most` times. A try whose memory is refused counts, and its bucket
+    /// still waits.
     #[inline(always)]
     pub(crate) fn relocate_some(&mut self, most: usize)
         ensures { RelocatesUpTo most self.old self.new }
@@ -34,9 +34,9 @@ where
         }
     }
 
-    /// Moves the entries of a bucket that waits to it, in their order. It asks for memory only where more than 32 come;
-    /// where that is refused, nothing changes. The last bucket that waits gives the old array back. Takes time by the
-    /// number of entries in the old buckets that they come from.
+    /// Relocates the waiting bucket `bucket`: moves its entries into it, in their order. Allocates only if they are
+    /// more than 32. Fails if memory is refused; then nothing changes. Releases the old array with the last waiting
+    /// bucket. Takes time proportional to the number of entries in the old buckets that hold those of `bucket`.
     pub(crate) fn relocate(&mut self, bucket: usize) -> Result<(), AllocError>
         requires { IsWaiting self.old bucket }
         ensures ok { OnOk result (IsRelocated bucket self.old self.new) }
@@ -70,7 +70,7 @@ where
         }
     }
 
-    /// The number of the first bucket that waits.
+    /// Returns the number of the first waiting bucket.
     fn first_waiting(&self) -> usize
         requires { 0 < pending_of self.now }
         ensures { IsFirstWaiting self.now result }
@@ -83,8 +83,7 @@ where
         unreachable!()
     }
 
-    /// Moves the entries of the first bucket that waits to it, as `relocate` does. The buckets before it aren't looked
-    /// at again.
+    /// Relocates the first waiting bucket, as `relocate` does. Later calls don't visit the buckets before it.
     pub(crate) fn relocate_next(&mut self) -> Result<(), AllocError>
         requires { 0 < pending_of self.old }
         ensures ok { OnOk result ((i : ℕ) × (IsFirstWaiting self.old i) × (IsRelocated i self.old self.new)) }
@@ -97,8 +96,8 @@ where
         self.relocate(bucket)
     }
 
-    /// Moves the entries of all buckets that wait to them, the first bucket first. Where memory is refused for one, it
-    /// and those after it still wait.
+    /// Relocates all waiting buckets, in their order. Fails if memory for a bucket is refused; then this bucket and
+    /// those after it still wait.
     pub fn finish(&mut self) -> Result<(), AllocError>
         ensures { RelocatesAll self.old result self.new }
     {

@@ -1,4 +1,4 @@
-//! How many slots a table of two arrays keeps at least, and the tokens of reserved ones.
+//! The minimum of a table of two arrays, and the tokens of reserved slots.
 ghost use Rattle.scc_contents.specs.Contents.{bucket_count, settings_of};
 ghost use Rattle.scc_table.specs.Minimums.{GrowsToMinimum, LowersMinimum, RaisesMinimum, ReservesSlots};
 ghost use Rattle.scc_table.specs.Installations.{SetsReserved};
@@ -10,8 +10,8 @@ use scc_common::Keyed;
 use std::hash::{BuildHasher, Hash};
 use std::marker::Model;
 
-/// So many slots were reserved in a container. `release` of that container gives them back; a token that is merely
-/// dropped gives nothing back. Only `reserve` makes one.
+/// A token for slots reserved in a container. `release` of this container gives the slots back. A token that is dropped
+/// gives nothing back. Only `reserve` makes tokens.
 #[derive(Debug, Drop, PartialEq)]
 pub struct Reservation {
     additional: usize,
@@ -28,7 +28,7 @@ impl Model for Reservation {
 }
 
 impl Reservation {
-    /// How many slots it stands for.
+    /// Returns the number of slots that the token stands for.
     pub fn additional_capacity(&self) -> usize
         ensures { result ≡ self.now }
     {
@@ -40,7 +40,8 @@ impl<E: Keyed, H: BuildHasher> Table<E, H>
 where
     E::Key: Eq + Hash,
 {
-    /// Raises the minimum by so many slots as `raise_minimum` does, and answers the token that stands for them.
+    /// Raises the minimum by `additional` slots, as `raise_minimum` does, and returns a token for them, or `None` if
+    /// the minimum can't be raised.
     pub fn reserve(&mut self, additional: usize) -> Option<Reservation>
         ensures { ReservesSlots E.Key.eq E.key_of additional self.old result self.new }
     {
@@ -51,9 +52,9 @@ where
         }
     }
 
-    /// Raises the minimum by so many slots, and lets an array with fewer slots grow, unless memory is refused: then
-    /// every bucket of the new array waits. Where the minimum can't be raised by that, it answers false and changes
-    /// nothing.
+    /// Raises the minimum by `additional` slots. An array with fewer slots than the minimum grows, unless memory is
+    /// refused; then every bucket of the new array waits. Returns false, and changes nothing, if `additional` is 0 or
+    /// the minimum would exceed the greatest capacity.
     pub fn raise_minimum(&mut self, additional: usize) -> bool
         ensures { RaisesMinimum E.Key.eq E.key_of additional self.old result self.new }
     {
@@ -67,8 +68,8 @@ where
         true
     }
 
-    /// Lowers the minimum by so many reserved slots, and tries to make the array smaller. Where more than what is
-    /// reserved is given back, it answers false and changes nothing.
+    /// Lowers the minimum by `additional` reserved slots, and tries to shrink the array. Returns false, and changes
+    /// nothing, if fewer slots are reserved.
     pub fn lower_minimum(&mut self, additional: usize) -> bool
         ensures { LowersMinimum E.Key.eq E.key_of additional self.old result self.new }
     {
@@ -82,7 +83,7 @@ where
         true
     }
 
-    /// Sets the number of reserved slots alone.
+    /// Sets the number of reserved slots.
     fn set_reserved(&mut self, reserved: usize)
         requires { (settings_of self.old).asked + reserved ≤ 2 ^ 63 }
         ensures { SetsReserved reserved self.old self.new }
@@ -90,7 +91,7 @@ where
         self.current.set_reserved(reserved);
     }
 
-    /// Lets an array of fewer slots than the minimum grow, unless memory is refused.
+    /// Grows the array if it has fewer slots than the minimum, unless memory is refused.
     fn grow_to_minimum(&mut self)
         ensures { GrowsToMinimum E.Key.eq E.key_of self.old self.new }
     {

@@ -1,4 +1,4 @@
-//! How a table of two arrays gives back slots that it no longer needs.
+//! Shrinks of a table of two arrays.
 ghost use Rattle.scc_contents.specs.Contents.{entries, bucket_count, minimum_of, IsUniqueBy};
 ghost use Rattle.scc_contents.specs.Steps.{Resizes, Shrinks, ShrinksWhenDue};
 ghost use Rattle.scc_table.specs.Relocates.{IsShrinkDue, Spreads};
@@ -13,9 +13,9 @@ impl<E: Keyed, H: BuildHasher> Table<E, H>
 where
     E::Key: Eq + Hash,
 {
-    /// Makes the array smaller where at most an eighth as many entries as slots are held and a smaller array has enough
-    /// slots, unless memory is refused: then every bucket of the new array waits. Takes time by the number of buckets,
-    /// and of entries that waited, where it does, else none to speak of.
+    /// Shrinks the array if the table has at most an eighth as many entries as slots and a smaller array has enough
+    /// slots; then every bucket of the new array waits. The array stays if memory is refused. If a shrink is due, takes
+    /// time proportional to the number of buckets and of entries that waited; otherwise, takes constant time.
     #[inline(always)]
     pub fn shrink(&mut self)
         ensures resizes { Resizes self.old self.new }
@@ -32,7 +32,7 @@ where
         self.shrink_sparse();
     }
 
-    /// The same where so few entries are held.
+    /// As `shrink`, if the table has at most an eighth as many entries as slots.
     fn shrink_sparse(&mut self)
         requires { length (entries self.old) ≤ 4 * bucket_count self.old }
         ensures resizes { Resizes self.old self.new }

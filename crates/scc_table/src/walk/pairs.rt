@@ -1,4 +1,4 @@
-//! Walks over pairs, which lend a key and a value to a closure.
+//! Walks over pairs, which call a closure with a key and a value.
 ghost use Rattle.scc_contents.specs.Contents.{entries};
 ghost use Rattle.scc_contents.specs.Walks.{CalledOn, CallableWhile, Walks};
 ghost use Rattle.std.specs.Prelude.{true};
@@ -8,7 +8,7 @@ use scc_common::SharedVersion;
 use std::hash::{BuildHasher, Hash};
 
 impl<K: Eq + Hash, V, H: BuildHasher> Table<(K, V), H> {
-    /// Calls `f` on all pairs in the table's order, until its first false.
+    /// Calls `f` on all pairs in the order of the table, until it returns false. Returns false if it stopped.
     pub fn walk<F: FnMut(&K, &V) -> bool>(&self, f: F) -> bool
         requires { CallableWhile F.FnMut true f (entries self.now) }
         ensures { (last : F) × Walks (CalledOn F.FnMut) f (entries self.now) result last }
@@ -19,7 +19,7 @@ impl<K: Eq + Hash, V, H: BuildHasher> Table<(K, V), H> {
         self.walk_places(f)
     }
 
-    /// The same from place to place, over both arrays.
+    /// As `walk`, but goes from place to place, in both arrays.
     fn walk_places<F: FnMut(&K, &V) -> bool>(&self, mut f: F) -> bool
         requires { CallableWhile F.FnMut true f (entries self.now) }
         ensures { (last : F) × Walks (CalledOn F.FnMut) f (entries self.now) result last }
@@ -37,7 +37,7 @@ impl<K: Eq + Hash, V, H: BuildHasher> Table<(K, V), H> {
 }
 
 impl<K: Eq + Hash, V, H: BuildHasher> Table<SharedVersion<K, V>, H> {
-    /// Calls `f` on all pairs in the table's order, until its first false.
+    /// Calls `f` on all pairs in the order of the table, until it returns false. Returns false if it stopped.
     pub fn walk<F: FnMut(&K, &V) -> bool>(&self, f: F) -> bool
         requires { CallableWhile F.FnMut true f (entries self.now) }
         ensures { (last : F) × Walks (CalledOn F.FnMut) f (entries self.now) result last }
@@ -48,7 +48,7 @@ impl<K: Eq + Hash, V, H: BuildHasher> Table<SharedVersion<K, V>, H> {
         self.walk_versions(f)
     }
 
-    /// The same from place to place, over both arrays.
+    /// As `walk`, but goes from place to place, in both arrays.
     fn walk_versions<F: FnMut(&K, &V) -> bool>(&self, mut f: F) -> bool
         requires { CallableWhile F.FnMut true f (entries self.now) }
         ensures { (last : F) × Walks (CalledOn F.FnMut) f (entries self.now) result last }

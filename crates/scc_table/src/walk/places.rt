@@ -17,14 +17,14 @@ impl<E: Keyed, H: BuildHasher> Table<E, H>
 where
     E::Key: Eq + Hash,
 {
-    /// The place of the first entry, or None where there is none.
+    /// Returns the place of the first entry, or `None` if the table is empty.
     pub fn first_place(&self) -> Option<Place>
         ensures { MatchOption result (entries self.now ≡ []) (StandsAt self.now 0) }
     {
         self.place_past(0)
     }
 
-    /// The place of the entry after that one, or None where it is the last.
+    /// Returns the place of the entry after the entry at `place`, or `None` if that is the last.
     pub fn next_place(&self, place: Place) -> Option<Place>
         requires { IsPlace self.now place }
         ensures { MatchOption result (suc (index_of self.now place) ≡ length (entries self.now))
@@ -34,7 +34,7 @@ where
         self.place_on(target, place.bucket, place.slot + 1)
     }
 
-    /// The number of the bucket in whose list the entry at the place stands.
+    /// Returns the bucket whose list has the entry at `place`.
     pub(crate) fn target_of(&self, place: Place) -> usize
         requires { IsPlace self.now place }
         ensures value { result ≡ (spot_of self.now place).bucket }
@@ -55,8 +55,8 @@ where
         bucket_index(self.current.hash(entry.key()), self.skipped, count)
     }
 
-    /// The first place, from number `slot` of the bucket on, of an entry of the target, or of a bucket after the
-    /// target; None where no entry follows. `bucket` is the target itself, or, where that waits, one of the old array.
+    /// Returns the place of the first entry of `target` from `slot` of `bucket` on, or else of the first entry of a
+    /// later bucket, or `None`. `bucket` must be `target` itself or, if `target` waits, a bucket of the old array.
     pub(crate) fn place_on(&self, target: usize, bucket: usize, slot: usize) -> Option<Place>
         requires target { target < bucket_count self.now }
         requires start { IsStart self.now target bucket slot }
@@ -76,7 +76,7 @@ where
         self.place_past(target + 1)
     }
 
-    /// The place of the first entry of the bucket or of one after it.
+    /// Returns the place of the first entry of `bucket` or of a later bucket, or `None`.
     fn place_past(&self, bucket: usize) -> Option<Place>
         requires { bucket ≤ bucket_count self.now }
         ensures { MatchOption result (spots.index_of_spot self.now (record { bucket = bucket; slot = 0 })
@@ -91,7 +91,7 @@ where
         None
     }
 
-    /// The place of the first entry of the bucket.
+    /// Returns the place of the first entry of `bucket`, or `None`.
     pub(crate) fn first_in(&self, bucket: usize) -> Option<Place>
         requires { bucket < bucket_count self.now }
         ensures { MatchOption result (list_of self.now bucket ≡ [])
@@ -114,7 +114,8 @@ where
         Some(Place { bucket, slot: 0 })
     }
 
-    /// The place of the first entry of a bucket that waits, from number `slot` of that old bucket on.
+    /// Returns the place of the first entry of the waiting bucket `target` from `slot` of the old bucket `source` on,
+    /// or `None`.
     fn old_place(&self, target: usize, source: usize, slot: usize) -> Option<Place>
         requires waits { IsWaiting self.now target }
         requires source { source < length (owed_of self.now) }
