@@ -67,7 +67,7 @@ module _ {G N K V S T : Type 0} {d : guard.Ghosts G (Contents (K × V) S)} {g : 
   pub record RemovesWithNext (same : K → K → Bool) (o : HeldOccupied G N K V S T d g h b w) (result : Result ((K × V) × HeldOccupied G N K V S T d g h b w) (K × V)) : Type 0 where
     -- the result has the pair of the entry
     pub pair : IfOk result (λ r. r.0 ≡ occupied_pair o)
-    -- and with it the entry that stood next after the removed pair
+    -- the result has the entry that stood next after the removed pair
     pub next : IfOk result (λ r. IsNextPastRemoved o r.1)
     -- the same buckets wait as before
     pub waiting : IfOk result (λ r. waiting_of (occupied_map r.1) ≡ waiting_of (occupied_map o))

@@ -82,7 +82,7 @@ module _ {K V S : Type 0} (eq : K → K → Bool) (hash_of : S → K → ℕ) wh
     pub ok : IfOk result (IsInsertedAt c p d)
     -- if memory is refused, the pair comes back
     pub refused : IfErr result (λ q. q ≡ p)
-    -- and nothing changed but for one resize
+    -- if memory is refused, nothing changed but for one resize
     pub rests : OnErr result (Rests c d)
     -- memory is refused only if the bucket of the key has no room
     pub full : OnErr result (HasRoom (hash_of (settings_of c).hasher) c p.0 → ⊥)
