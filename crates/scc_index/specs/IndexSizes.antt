@@ -27,7 +27,7 @@ module _ {K V S : Type 0} (eq : K → K → Bool) where
     pub succeeds : IsSome result ↔ ((0 < n) × (minimum_of c + n ≤ 2 ^ 63))
     -- an array with fewer slots than the new minimum grows to the minimum, unless memory was refused
     pub due : OnSome result (ReachesMinimumWhenDue c d)
-    -- the note of refused memory stays if there is no token
+    -- note and mark stay if there is no token
     pub noted : IfNone result (refused_of d ≡ refused_of c)
     -- if the array grew, all buckets wait; else only buckets that waited before
     pub spreads : OnSome result (Spreads (IsBelowMinimum (minimum_of d) c) c d)
@@ -44,7 +44,7 @@ module _ {K V S : Type 0} (eq : K → K → Bool) where
     pub succeeds : IsOk result ↔ (n ≤ (settings_of c).reserved)
     -- a shrink that is then due is made, unless memory was refused
     pub due : OnOk result (ShrinksWhenDue c d)
-    -- the note of refused memory stays if the token comes back
+    -- note and mark stay if the token comes back
     pub noted : OnErr result (refused_of d ≡ refused_of c)
     -- if the array shrank, all buckets wait; else only buckets that waited before
     pub spreads : OnOk result (Spreads (IsShrinkDue (minimum_of d) c) c d)

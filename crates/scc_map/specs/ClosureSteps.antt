@@ -23,7 +23,7 @@ module _ {F K V R : Type 0} (g : Once F (Bor K × (MutBor V × Unit {0})) (R × 
     pub finds : IfSome result (λ x. (p : K × V) × (w : V) × (find eq (entries c) k ≡ Some p) × (eq k p.0 ≡ true) × WritesAt g f p x w × FindsInstead eq (entries c) k (Some (p.0, w)) (entries d))
     -- it returns `None` only if the key is missing
     pub missing : IfNone result (find eq (entries c) k ≡ None)
-    -- the note of refused memory stays
+    -- note and mark stay
     pub noted : refused_of d ≡ refused_of c
     -- the same buckets wait as before
     pub waiting : waiting_of d ≡ waiting_of c

@@ -32,7 +32,7 @@ module _ {K V S : Type 0} (eq : K → K → Bool) (hash_of : S → K → ℕ) wh
     pub due : find eq (entries c) p.0 ≡ None → GrowsWhenDue (hash_of (settings_of c).hasher) (λ x. x.0) c p.0 d
     -- the first array has the size of the minimum
     pub first : OnOk result (FirstArrayWhenDue c d)
-    -- the note of refused memory stays if the key is there
+    -- note and mark stay if the key is there
     pub noted : IsSome (find eq (entries c) p.0) → refused_of d ≡ refused_of c
     -- a new key relocates at most two buckets
     pub relocates : find eq (entries c) p.0 ≡ None → Relocates c d
@@ -64,7 +64,7 @@ module _ {K V S : Type 0} (eq : K → K → Bool) (hash_of : S → K → ℕ) wh
     pub due : find eq (entries c) p.0 ≡ None → GrowsWhenDue (hash_of (settings_of c).hasher) (λ x. x.0) c p.0 d
     -- the first array has the size of the minimum
     pub first : find eq (entries c) p.0 ≡ None → OnOk result (FirstArrayWhenDue c d)
-    -- the note of refused memory stays if the key is there
+    -- note and mark stay if the key is there
     pub noted : IsSome (find eq (entries c) p.0) → refused_of d ≡ refused_of c
     -- a new key relocates at most two buckets
     pub relocates : find eq (entries c) p.0 ≡ None → Relocates c d

@@ -18,7 +18,7 @@ module _ {K V S : Type 0} (eq : K → K → Bool) where
     pub smaller : bucket_count d ≢ bucket_count c → IsSmaller (minimum_of c) (length (entries d)) (bucket_count c) (bucket_count d)
     -- if a pair was removed and a shrink is due, it is made, unless memory for it was refused
     pub due : OnSome result (ShrinksWhenDue c d)
-    -- the note of refused memory stays if no pair was removed
+    -- note and mark stay if no pair was removed
     pub noted : IfNone result (refused_of d ≡ refused_of c)
     -- it relocates no bucket
     pub relocates : OnSome result (RelocatesNone c d)

@@ -31,7 +31,7 @@ module _ {E S : Type 0} (Distinct : Contents E S → Type 0) where
     pub pair : slice_get (entries c) (index_of c place) ≡ Some result.0
     -- the others stay in their order
     pub others : HoldsExactly c (remove (entries c) (index_of c place)) d
-    -- the note of refused memory stays
+    -- note and mark stay
     pub noted : refused_of d ≡ refused_of c
     -- the same buckets wait as before
     pub waiting : waiting_of d ≡ waiting_of c
@@ -78,7 +78,7 @@ module _ {E S L X R Q : Type 0} (Distinct : Contents E S → Type 0) (taken_of :
     pub step : Step
     -- if nothing was taken, the number of buckets stays
     pub still : taken_of after ≡ taken_of before → bucket_count d ≡ bucket_count c
-    -- if nothing was taken, the note of refused memory stays
+    -- if nothing was taken, note and mark stay
     pub noted : taken_of after ≡ taken_of before → refused_of d ≡ refused_of c
     -- if nothing was taken, the same buckets wait as before
     pub rests : taken_of after ≡ taken_of before → waiting_of d ≡ waiting_of c
@@ -105,7 +105,7 @@ module _ {E S L : Type 0} (taken_of : L → List E) (capacity_of : L → ℕ) wh
     pub taken : (e : E) × (slice_get (entries c) (index_of c place) ≡ Some e) × (taken_of after ≡ taken_of before ++ e ∷ [])
     -- the others stay in their order
     pub others : HoldsExactly c (remove (entries c) (index_of c place)) d
-    -- the note of refused memory stays
+    -- note and mark stay
     pub noted : refused_of d ≡ refused_of c
     -- the same buckets wait as before
     pub waiting : waiting_of d ≡ waiting_of c

@@ -30,7 +30,7 @@ module _ {K S : Type 0} (eq : K → K → Bool) (hash_of : S → K → ℕ) wher
     pub due : find eq (entries c) k ≡ None → GrowsWhenDue (hash_of (settings_of c).hasher) (λ q. q) c k d
     -- the first array has the size of the minimum
     pub first : OnOk result (FirstArrayWhenDue c d)
-    -- the note of refused memory stays if an equal key is there
+    -- note and mark stay if an equal key is there
     pub noted : IsSome (find eq (entries c) k) → refused_of d ≡ refused_of c
     -- a new key relocates at most two buckets
     pub relocates : find eq (entries c) k ≡ None → Relocates c d
@@ -64,7 +64,7 @@ module _ {K S : Type 0} (eq : K → K → Bool) (hash_of : S → K → ℕ) wher
     pub due : find eq (entries c) k ≡ None → GrowsWhenDue (hash_of (settings_of c).hasher) (λ q. q) c k d
     -- the first array has the size of the minimum
     pub first : find eq (entries c) k ≡ None → OnOk result (FirstArrayWhenDue c d)
-    -- the note of refused memory stays if an equal key is there
+    -- note and mark stay if an equal key is there
     pub noted : IsSome (find eq (entries c) k) → refused_of d ≡ refused_of c
     -- a new key relocates at most two buckets
     pub relocates : find eq (entries c) k ≡ None → Relocates c d

@@ -21,7 +21,7 @@ module _ {K S : Type 0} (eq : K → K → Bool) where
     pub smaller : bucket_count d ≢ bucket_count c → IsSmaller (minimum_of c) (length (entries d)) (bucket_count c) (bucket_count d)
     -- if a key was removed and a shrink is due, it is made, unless memory for it was refused
     pub due : OnSome result (ShrinksWhenDue c d)
-    -- the note of refused memory stays if no key was removed
+    -- note and mark stay if no key was removed
     pub noted : IfNone result (refused_of d ≡ refused_of c)
     -- it relocates no bucket
     pub relocates : OnSome result (RelocatesNone c d)
@@ -52,7 +52,7 @@ module _ {K S : Type 0} (eq : K → K → Bool) where
     pub key : slice_get (entries c) (index_of c place) ≡ Some result.0
     -- the others stay in their order
     pub others : HoldsExactly c (remove (entries c) (index_of c place)) d
-    -- the note of refused memory stays
+    -- note and mark stay
     pub noted : refused_of d ≡ refused_of c
     -- the same buckets wait as before
     pub waiting : waiting_of d ≡ waiting_of c
