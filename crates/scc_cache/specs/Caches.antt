@@ -16,8 +16,8 @@ abbrev pub cached_code : {E S : Type 0} → Coded E → Coded S → Coded (Cache
 cached_code {E} {S} e s = code_by (Contents E S × ℕ) (coded× (contents_code e s) coded_ℕ) (λ c. (c.contents, c.maximum)) (λ p. record { contents = p.0; maximum = p.1 }) (λ _. refl)
 
 -- the state of a cache: a lawful number of lists, each with at most 32 pairs, and each pair in the list that the hash
--- of its key names; no two keys are equal; the slots are at most the maximum, which is a power of two from 64 to 2 ^
--- 63 and at least the minimum
+-- of its key names; no two keys are equal; the slots are at most the maximum, which is a power of two from 64 to 2^63
+-- and at least the minimum
 pub record IsCacheState {K V S : Type 0} (eq : K → K → Bool) (hash : K → ℕ) (c : Cached (K × V) S) : Type 0 where
   pub lists : IsListed (λ p. hash p.0) c.contents
   pub unique : IsUnique eq c.contents

@@ -145,9 +145,10 @@ impl<K: Eq + Hash, V, H: BuildHasher> Owned<K, V, H> {
     /// half the slots are in use, no bucket waits and the array is below the maximum, the array is doubled first. If
     /// the bucket of `k` then holds 32 pairs, the least recent of them is evicted and returned. If a key equals `k`,
     /// nothing changes and the supplied pair comes back. The pair also comes back if there is no array and memory for
-    /// one is refused; with an array a put can't be refused memory. If buckets wait, the bucket of `k` is relocated
-    /// first and then the first ones that wait, two in all; after a doubling all other buckets wait. If `prepare` was
-    /// called for `k` just before, no array is made or doubled. The mark of a refused doubling goes.
+    /// one is refused; with an array no refused memory makes a put fail. If buckets wait, the bucket of `k` is
+    /// relocated first and then the first ones that wait, two in all; after a doubling all other buckets wait. If
+    /// `prepare` was called for `k` just before, no array is made or doubled. A put that succeeds takes the mark of a
+    /// refused doubling away.
     #[inline(always)]
     pub fn put_sync(&mut self, k: K, v: V) -> Result<EvictedEntry<K, V>, InsertError<K, V>>
         ensures { PutsByRule K.eq ⟦<H as Hashes<K>>⟧.hash_of self.old (k, v) result self.new }

@@ -64,8 +64,8 @@ impl<K: Eq + Hash, V, H: BuildHasher> Owned<K, V, H> {
 
     /// Returns an empty cache with an array of the least power of two of slots that is at least `capacity` and at
     /// least 64, or without an array if `capacity` is 0. These slots are the cache's minimum. Its maximum is the
-    /// greatest of `maximum`, the slots made and 64, raised to a power of two, at most 2 ^ 63. Fails if an array of
-    /// that size can't be allocated.
+    /// greatest of `maximum`, the slots made and 64, raised to a power of two, at most 2^63. Fails if an array of that
+    /// size can't be allocated.
     pub fn with_capacity_and_hasher(
         alloc: Global,
         capacity: usize,

@@ -46,7 +46,8 @@ impl<K: Eq + Hash, V, H: BuildHasher> Owned<K, V, H> {
     }
 
     /// Puts in a pair whose key is new, and returns the evicted pair, if any, and the new pair's place. `hash` must be
-    /// the hash of `k`. If memory is refused, the pair comes back. The mark of a refused doubling goes.
+    /// the hash of `k`. If there is no array and memory for one is refused, the pair comes back. If it succeeds, the
+    /// mark of a refused doubling goes.
     #[inline(always)]
     pub(crate) fn put_at(
         &mut self,

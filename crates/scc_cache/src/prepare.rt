@@ -13,8 +13,9 @@ use std::hash::{BuildHasher, Hash};
 impl<K: Eq + Hash, V, H: BuildHasher> Owned<K, V, H> {
     /// Makes what a put of `k` would have to make first, at most one resize: the first array, or an array of twice as
     /// many buckets if a doubling is due; then all buckets wait. No pair moves. If a key equals `k`, nothing is made.
-    /// A doubling whose memory is refused is marked: the put of `k` that follows doesn't try the doubling again, so it
-    /// makes no resize in any case. Fails only if memory for the first array is refused, and then nothing changes.
+    /// A doubling whose memory is refused is noted and marked: the put of `k` that follows doesn't try the doubling
+    /// again, so it makes no resize in any case. A doubling that is made takes note and mark away; if no doubling is
+    /// due, both stay. Fails only if memory for the first array is refused, and then nothing changes.
     pub fn prepare(&mut self, k: &K) -> Result<(), MakeError>
         ensures { PreparesByRule K.eq ⟦<H as Hashes<K>>⟧.hash_of self.old k.now result self.new }
     {
@@ -52,7 +53,7 @@ impl<K: Eq + Hash, V, H: BuildHasher> Owned<K, V, H> {
         }
     }
 
-    /// Returns the first pair of the bucket of `hash`, if the bucket holds 32 pairs.
+    /// Returns the first pair of the bucket of `hash`, or `None` if the bucket holds fewer than 32 pairs.
     fn first_of_full(&self, hash: u64) -> Option<(&K, &V)>
         ensures none { IfNone result (length (list_of self.now.contents
             (bucket_number (settings_of self.now.contents).skipped (bucket_count self.now.contents) hash)) < 32) }

@@ -204,8 +204,9 @@ impl<K: Eq + Hash, V, H: BuildHasher> Owned<K, V, H> {
     }
 
     /// Inserts a version of the pair if no key equals `k`. If a key equals `k`, the index stays as it is and the
-    /// supplied pair comes back. The pair also comes back if memory for the version or for the growth that the
-    /// insertion needs is refused: all memory is asked for before anything changes.
+    /// supplied pair comes back. The pair also comes back if memory for the version, for the first array, for the
+    /// versions that its bucket waits for or for its overflow list is refused: all memory is asked for before anything
+    /// changes. A doubling whose memory is refused doesn't make the insertion fail.
     #[inline(always)]
     pub fn insert_sync(&mut self, k: K, v: V) -> Result<(), InsertError<K, V>>
         ensures { InsertsByRule K.eq ⟦<H as Hashes<K>>⟧.hash_of self.old (k, v) result self.new }

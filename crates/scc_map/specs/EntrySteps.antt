@@ -77,7 +77,7 @@ module _ {G N K V S T : Type 0} {d : guard.Ghosts G (Contents (K × V) S)} {g : 
     pub last : IfErr result (λ p. (p ≡ occupied_pair o) × (occupied_back o ≡ []))
 
 module _ (K V S T : RattleType) (key : HashMembers K.Denot) (build : builder.Ghosts S.Denot T.Denot) (feed : hasher.Ghosts T.Denot) where
-  -- if r has no entry, the map behind o has the other pairs in their order; note, mark and waiting buckets are unchanged
+  -- if r has no entry, the map behind o has the other pairs in their order, and note, mark and waiting buckets stay
   abbrev pub rests_removed : {A B N : Type 0} {d : guard.Ghosts (MutBor (Contents (K.Denot × V.Denot) S.Denot)) (Contents (K.Denot × V.Denot) S.Denot)} {g : eq.Ghosts K.Denot} {h : hash.Ghosts K.Denot} {b : builder.Ghosts S.Denot T.Denot} {w : hasher.Ghosts T.Denot}
       → Borrowed K V S T key build feed N d g h b w → Result (A × Borrowed K V S T key build feed N d g h b w) B → Fml
   rests_removed {d = d} o r = RestsIfErr (map_row K V S T key build feed) o.guard (λ p. p.1.guard.ghost_name) r (λ n. HoldsExactly (d.inner o.guard) (occupied_front o ++ occupied_back o) n × (refused_of n ≡ refused_of (d.inner o.guard)) × IsUnique key.eq n × (waiting_of n ≡ waiting_of (d.inner o.guard)))

@@ -133,8 +133,7 @@ impl<K: Eq + Hash, V, H: BuildHasher> Owned<K, V, H> {
     }
 
     /// Reads the pair of `k` as `read_sync` does. The search begins with `hint`, the hash of `k` under some hasher. If
-    /// the map's own hasher gives the same hash and the pair is there, `k` isn't hashed again, unless the pair is in
-    /// an overflow list or some bucket waits.
+    /// the map's own hasher gives the same hash, the pair is there and no bucket waits, `k` isn't hashed again.
     #[inline(always)]
     pub fn read_by_hint<R, F: FnOnce(&K, &V) -> R>(&self, hint: u64, k: &K, f: F) -> Option<R>
         requires { (a : Bor K) (b : Bor V) → find K.eq (entries self.now) k.now ≡ Some (a.now, b.now) → F.pre f a b }
@@ -147,7 +146,8 @@ impl<K: Eq + Hash, V, H: BuildHasher> Owned<K, V, H> {
     }
 
     /// Inserts the pair if no key equals `k`. If a key equals `k`, the map stays as it is and the supplied pair comes
-    /// back. The pair also comes back if the insertion needs a growth whose memory is refused.
+    /// back. The pair also comes back if memory for the first array, for the pairs that its bucket waits for or for
+    /// its overflow list is refused. A doubling whose memory is refused doesn't make the insertion fail.
     #[inline(always)]
     pub fn insert_sync(&mut self, k: K, v: V) -> Result<(), InsertError<K, V>>
         ensures { InsertsByRule K.eq ⟦<H as Hashes<K>>⟧.hash_of self.old (k, v) result self.new }

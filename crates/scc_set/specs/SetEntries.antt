@@ -83,7 +83,7 @@ module _ (K S T : RattleType) (key : HashMembers K.Denot) (build : builder.Ghost
       → MutBor (Contents K.Denot S.Denot) → Option (OccupiedEntry K.Denot S.Denot T.Denot g h b w) → Fml
   rests_if_none m r = RestsIfNone (set_row K S T key build feed) m (λ o. o.set.ghost_name) r (λ n. n ≡ m.now)
 
-  -- if r has no entry, the set behind o has the other keys in their order; note, mark and waiting buckets are unchanged
+  -- if r has no entry, the set behind o has the other keys in their order, and note, mark and waiting buckets stay
   abbrev pub rests_removed : {A B : Type 0} {g : eq.Ghosts K.Denot} {h : hash.Ghosts K.Denot} {b : builder.Ghosts S.Denot T.Denot} {w : hasher.Ghosts T.Denot}
       → OccupiedEntry K.Denot S.Denot T.Denot g h b w → Result (A × OccupiedEntry K.Denot S.Denot T.Denot g h b w) B → Fml
   rests_removed o r = RestsIfErr (set_row K S T key build feed) o.set (λ d. d.1.set.ghost_name) r (λ n. HoldsExactly o.set.now (occupied_front o ++ occupied_back o) n × (refused_of n ≡ refused_of o.set.now) × IsUnique key.eq n × (waiting_of n ≡ waiting_of o.set.now))

@@ -118,7 +118,8 @@ impl<K: Eq + Hash, H: BuildHasher> Owned<K, H> {
     }
 
     /// Inserts the key if no key equals `k`. If a key equals `k`, the set stays as it is and the supplied key comes
-    /// back. The key also comes back if the insertion needs a growth whose memory is refused.
+    /// back. The key also comes back if memory for the first array, for the keys that its bucket waits for or for its
+    /// overflow list is refused. A doubling whose memory is refused doesn't make the insertion fail.
     #[inline(always)]
     pub fn insert_sync(&mut self, k: K) -> Result<(), KeyError<K>>
         ensures { InsertsByRule K.eq ⟦<H as Hashes<K>>⟧.hash_of self.old k result self.new }

@@ -33,7 +33,7 @@ impl<'a, K: Eq + Hash, V, H: BuildHasher> HeldEntry<&'a mut Owned<K, V, H>, (), 
         }
     }
 
-    /// Puts in the result of `f` if the entry is vacant, as `or_put`. `f` isn't called on an occupied entry.
+    /// Puts in the result of `f` if the entry is vacant, as `or_put` does. `f` isn't called on an occupied entry.
     pub fn or_put_with<F: FnOnce() -> V>(
         self,
         f: F,
@@ -53,7 +53,7 @@ impl<'a, K: Eq + Hash, V, H: BuildHasher> HeldEntry<&'a mut Owned<K, V, H>, (), 
         }
     }
 
-    /// Puts in the result of `f` on the key if the entry is vacant, as `or_put`. `f` isn't called on an occupied
+    /// Puts in the result of `f` on the key if the entry is vacant, as `or_put` does. `f` isn't called on an occupied
     /// entry.
     pub fn or_put_with_key<F: FnOnce(&K) -> V>(
         self,
@@ -74,7 +74,7 @@ impl<'a, K: Eq + Hash, V, H: BuildHasher> HeldEntry<&'a mut Owned<K, V, H>, (), 
         }
     }
 
-    /// Puts in the default value if the entry is vacant, as `or_put`.
+    /// Puts in the default value if the entry is vacant, as `or_put` does.
     pub fn or_default(
         self,
     ) -> Result<(EvictedEntry<K, V>, OccupiedEntry<'a, K, V, H>), InsertError<K, V>>
@@ -95,7 +95,7 @@ impl<'a, K: Eq + Hash, V, H: BuildHasher> HeldEntry<&'a mut Owned<K, V, H>, (), 
     }
 
     /// Sets the value of an occupied entry, which keeps its key and its place, or puts in `value` at a vacant entry,
-    /// as `or_put`.
+    /// as `or_put` does.
     pub fn put_entry(
         self,
         value: V,
