@@ -88,7 +88,7 @@ impl<K: Eq + Hash, V, H: BuildHasher> Owned<K, V, H> {
     }
 
     /// Returns whether there is an array and the bucket of `k` holds fewer than 32 pairs. If so, an insertion of `k`
-    /// allocates nothing and can't be refused memory.
+    /// can't be refused memory, and allocates nothing unless it relocates another bucket of more than 32 pairs.
     #[inline(always)]
     pub fn has_room(&self, k: &K) -> bool
         ensures { IsTrue result ↔ HasRoom (hash_in ⟦<H as Hashes<K>>⟧.hash_of self.now) self.now k.now }
