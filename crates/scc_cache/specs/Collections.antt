@@ -1,4 +1,4 @@
--- A cache that is made of items.
+-- A cache that is made from items.
 use Rattle.std.specs.Prelude.{◌≡◌, ℕ, ◌*◌, ◌<◌, Bool, List, [], length, max, Option, Result}
 use Rattle.std.specs.List.{FoldsTo}
 use Rattle.scc_contents.specs.Contents.{Contents, entries, bucket_count, settings_of}
@@ -8,7 +8,7 @@ use Rattle.scc_cache.specs.Caches.{Cached}
 use Rattle.scc_cache.specs.CacheSteps.{Puts}
 
 module _ {K V S : Type 0} (eq : K → K → Bool) (hash : Contents (K × V) S → K → ℕ) where
-  -- a put of the pair, with whatever answer
+  -- a put of the pair, with any result
   abbrev pub PutsOne : Cached (K × V) S → K × V → Cached (K × V) S → Type 0
   PutsOne c p d = (r : Result (Option (K × V)) (InsertError K V)) × Puts (hash c.contents) eq c p r d
 
@@ -16,7 +16,8 @@ module _ {K V S : Type 0} (eq : K → K → Bool) (hash : Contents (K × V) S �
   abbrev pub PutsAll : Cached (K × V) S → List (K × V) → Cached (K × V) S → Type 0
   PutsAll c ps d = FoldsTo PutsOne c ps d
 
-  -- d is what puts of the pairs, in their order, make of an empty cache with an array and a maximum for as many pairs
+  -- d is made from an empty cache, with an array and a maximum for `length ps` pairs, by puts of the pairs in their
+  -- order
   pub record IsCollected (ps : List (K × V)) (d : Cached (K × V) S) : Type 0 where
     pub made : Cached (K × V) S
     pub empty : entries made.contents ≡ []

@@ -1,4 +1,4 @@
--- What a cache ends as, once a `&mut` into it has ended.
+-- How a cache stands after a `&mut` into it has ended.
 use Rattle.std.specs.Borrow.{Fml, RattleType, MutBor, Lends}
 use Rattle.std.specs.HashMap.Lent.{HashMembers}
 use Rattle.std.specs.declared.hash.Hasher as hasher
@@ -19,10 +19,10 @@ module _ {K V S : Type 0} where
   with_key_at c p k = record c { contents = with_write_at with_pair_key c.contents p k }
 
 module _ (K V S H : RattleType) (key : HashMembers K.Denot) (build : builder.Ghosts S.Denot H.Denot) (feed : hasher.Ghosts H.Denot) where
-  -- the cache's type, as the logic holds it
+  -- the cache's type, as the logic has it
   abbrev pub cache_row : RattleType
   cache_row = the_row K V S H (record { eq = key.eq }) (record { hash_input = key.hash_input }) build feed
 
-  -- the pair at the place has the last value written through r
+  -- after the borrow r ends, the pair at the place has the last value written through r
   abbrev pub lends_value : MutBor (Cached (K.Denot × V.Denot) S.Denot) → Place → MutBor V.Denot → Fml
   lends_value c p r = Lends cache_row V c r (with_value_at c.now p)

@@ -1,4 +1,4 @@
-//! The entries of a cache that is borrowed.
+//! The entries of a borrowed cache.
 
 mod insertions;
 mod methods;
@@ -7,7 +7,7 @@ use crate::Owned;
 use crate::held::{HeldEntry, HeldOccupied, HeldReplace, HeldVacant};
 use std::hash::{BuildHasherDefault, FoldHasher};
 
-/// The entry of a key. While it is held, the cache is borrowed.
+/// The entry of a key. It borrows the cache.
 pub type Entry<'a, K, V, H = BuildHasherDefault<FoldHasher>> = HeldEntry<
     &'a mut Owned<K, V, H>,
     (),
@@ -16,7 +16,7 @@ pub type Entry<'a, K, V, H = BuildHasherDefault<FoldHasher>> = HeldEntry<
     H,
 >;
 
-/// An entry that the cache has, at its place.
+/// An occupied entry: the place of a pair of the cache.
 pub type OccupiedEntry<'a, K, V, H = BuildHasherDefault<FoldHasher>> = HeldOccupied<
     &'a mut Owned<K, V, H>,
     (),
@@ -25,7 +25,7 @@ pub type OccupiedEntry<'a, K, V, H = BuildHasherDefault<FoldHasher>> = HeldOccup
     H,
 >;
 
-/// A key that the cache lacks, with its hash.
+/// A vacant entry: a key that the cache lacks, with its hash.
 pub type VacantEntry<'a, K, V, H = BuildHasherDefault<FoldHasher>> = HeldVacant<
     &'a mut Owned<K, V, H>,
     (),
@@ -34,7 +34,8 @@ pub type VacantEntry<'a, K, V, H = BuildHasherDefault<FoldHasher>> = HeldVacant<
     H,
 >;
 
-/// The answer of `replace_sync`: the entry with its new key and the old key, or the key that the cache lacks.
+/// The result of `replace_sync`: the entry with its new key and the old key, or the vacant entry of a key that the
+/// cache lacks.
 pub type ReplaceResult<'a, K, V, H = BuildHasherDefault<FoldHasher>> = HeldReplace<
     &'a mut Owned<K, V, H>,
     (),

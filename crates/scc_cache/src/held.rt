@@ -1,5 +1,5 @@
-//! An entry of a cache: a key's place, found once and held. It holds its cache by a guard, a `&mut` in the owned form,
-//! and is generic in it.
+//! An entry of a cache: what a caller holds of a key after one search. It holds its cache by a guard, which is a
+//! `&mut` in the owned form, and is generic in the guard.
 ghost use Rattle.scc_cache.specs.CacheSteps.{IsLacking};
 ghost use Rattle.scc_contents.specs.Contents.{key_hash};
 ghost use Rattle.scc_table.specs.Places.{IsPlace};
@@ -14,7 +14,7 @@ use scc_common::Guard;
 use std::hash::{BuildHasher, Hash};
 use std::marker::PhantomData;
 
-/// An entry that the cache has, at its place.
+/// An occupied entry: the place of a pair of the cache.
 #[derive(Drop)]
 pub struct HeldOccupied<G: Guard<Inner = Owned<K, V, H>>, N, K: Eq + Hash, V, H: BuildHasher> {
     pub(crate) guard: G,
@@ -24,7 +24,7 @@ pub struct HeldOccupied<G: Guard<Inner = Owned<K, V, H>>, N, K: Eq + Hash, V, H:
     ghost within: { IsPlace (G.inner guard).contents place },
 }
 
-/// A key that the cache lacks, with its hash.
+/// A vacant entry: a key that the cache lacks, with its hash.
 #[derive(Drop)]
 pub struct HeldVacant<G: Guard<Inner = Owned<K, V, H>>, N, K: Eq + Hash, V, H: BuildHasher> {
     pub(crate) guard: G,
@@ -37,14 +37,15 @@ pub struct HeldVacant<G: Guard<Inner = Owned<K, V, H>>, N, K: Eq + Hash, V, H: B
     ghost hashed: { hash ≡ key_hash H.BuildHasher H.Hasher.Hasher K.hash_input (G.inner guard).contents key },
 }
 
-/// The entry of a key.
+/// The entry of a key, occupied or vacant.
 #[derive(Drop)]
 pub enum HeldEntry<G: Guard<Inner = Owned<K, V, H>>, N, K: Eq + Hash, V, H: BuildHasher> {
     Occupied(HeldOccupied<G, N, K, V, H>),
     Vacant(HeldVacant<G, N, K, V, H>),
 }
 
-/// The answer of `replace_sync`: the entry with its new key and the old key, or the key that the cache lacks.
+/// The result of `replace_sync`: the entry with its new key and the old key, or the vacant entry of a key that the
+/// cache lacks.
 #[derive(Drop)]
 pub enum HeldReplace<G: Guard<Inner = Owned<K, V, H>>, N, K: Eq + Hash, V, H: BuildHasher> {
     Replaced(HeldOccupied<G, N, K, V, H>, K),

@@ -1,4 +1,4 @@
-//! A hash cache over the table of `scc_table`, for one owner.
+//! A hash cache for one owner, over the table of `scc_table`.
 #![tactic(auto)]
 
 ghost use Rattle.scc_cache.specs.CacheSteps.{AnswersOn, IsAbsent, IsPresent, Removes};
@@ -29,16 +29,16 @@ use std::hash::{BuildHasher, BuildHasherDefault, FoldHasher, Hash};
 use std::marker::Model;
 use std::ops::RangeInclusive;
 
-/// The pair that a put dropped, where it dropped one.
+/// The pair that a put evicted, if it evicted one.
 pub type EvictedEntry<K, V> = Option<(K, V)>;
 
 /// The maximum of a cache that is made without one.
 pub const DEFAULT_MAXIMUM_CAPACITY: usize = 256;
 
-/// A cache from keys to values, no two keys equal. A contract sees the lists of its buckets, each from the least to the
-/// most recent pair, its settings, and the most slots that it may have as `c.maximum`.
+/// A cache from keys to values, in which no two keys are equal. A contract sees the lists of its buckets, each from
+/// the least to the most recent pair, its settings, and its maximum of slots as `c.maximum`.
 ///
-/// The default hasher has a fixed seed. For keys that an attacker picks, write `Owned::with_hasher(alloc,
+/// The default hasher has a fixed seed. For keys that an attacker chooses, use `Owned::with_hasher(alloc,
 /// RandomState::new(&rt)?)`.
 #[derive(Drop)]
 pub struct Owned<K: Eq + Hash, V, H: BuildHasher = BuildHasherDefault<FoldHasher>> {
@@ -62,7 +62,7 @@ impl<K: Eq + Hash, V, H: BuildHasher> Model for Owned<K, V, H> {
 }
 
 impl<K: Eq + Hash, V, H: BuildHasher> Owned<K, V, H> {
-    /// The number of pairs.
+    /// Returns the number of pairs.
     #[inline(always)]
     pub fn len(&self) -> usize
         ensures len { result ≡ length (entries self.now.contents) }
@@ -72,7 +72,7 @@ impl<K: Eq + Hash, V, H: BuildHasher> Owned<K, V, H> {
         self.table.len()
     }
 
-    /// Whether there is no pair.
+    /// Returns whether there is no pair.
     #[inline(always)]
     pub fn is_empty(&self) -> bool
         ensures { IsTrue result ↔ (entries self.now.contents ≡ []) }
@@ -80,7 +80,8 @@ impl<K: Eq + Hash, V, H: BuildHasher> Owned<K, V, H> {
         self.table.len() == 0
     }
 
-    /// The slots of the array, 32 a bucket; 0 without an array. There are never more pairs.
+    /// Returns the number of slots of the array, 32 a bucket, or 0 without an array. There are never more pairs than
+    /// slots.
     #[inline(always)]
     pub fn capacity(&self) -> usize
         ensures size { result ≡ 32 * bucket_count self.now.contents }
@@ -89,7 +90,7 @@ impl<K: Eq + Hash, V, H: BuildHasher> Owned<K, V, H> {
         32 * self.table.bucket_count()
     }
 
-    /// From the slots that the array keeps at least to those that it may grow to.
+    /// Returns the range of slots that the array may have: from the minimum to the most that it may grow to.
     pub fn capacity_range(&self) -> RangeInclusive<usize>
         ensures low { result.start ≡ minimum_of self.now.contents }
         ensures high { result.end ≡ self.now.maximum }
@@ -98,14 +99,14 @@ impl<K: Eq + Hash, V, H: BuildHasher> Owned<K, V, H> {
         self.table.minimum()..=self.maximum
     }
 
-    /// How many buckets wait for their pairs to come from an old array.
+    /// Returns how many buckets wait for their pairs from an old array.
     pub fn pending(&self) -> usize
         ensures { result ≡ pending_of self.now.contents }
     {
         self.table.pending()
     }
 
-    /// Whether a key equals `k`. The order of the pairs stays.
+    /// Returns whether a key equals `k`. The order of the pairs stays.
     #[inline(always)]
     pub fn contains_sync(&self, k: &K) -> bool
         ensures yes { IsTrue result → (p : K × V)
@@ -120,8 +121,8 @@ impl<K: Eq + Hash, V, H: BuildHasher> Owned<K, V, H> {
         }
     }
 
-    /// The answer of `f` on the pair of `k`, or None where there is none; then `f` isn't called. The order of the pairs
-    /// stays.
+    /// Returns the result of `f` on the pair of `k`. If no key equals `k`, returns `None` and doesn't call `f`. The
+    /// order of the pairs stays.
     #[inline(always)]
     pub fn read_sync<R, F: FnOnce(&K, &V) -> R>(&self, k: &K, f: F) -> Option<R>
         requires { (a : Bor K) (b : Bor V) → IsPresent (hash_in ⟦<H as Hashes<K>>⟧.hash_of self.now.contents) K.eq
@@ -140,13 +141,14 @@ impl<K: Eq + Hash, V, H: BuildHasher> Owned<K, V, H> {
         }
     }
 
-    /// Puts in the pair where no key equals `k`, as the most recent of its bucket. Where that holds 32 pairs, the array
-    /// is doubled first if at least half its slots are in use and it is below the maximum; where the bucket of `k` then
-    /// holds 32 pairs, the least recent of them is driven out and answered. Where a key equals `k` nothing changes, and
-    /// the supplied pair comes back; so it does where there is no array and none can be had. With an array it can't be
-    /// refused. Where buckets wait, that of `k` takes its pairs over first, and then the first ones that wait, two in
-    /// all; after a doubling all others wait. Where `prepare` was made for `k` just before, no array is made and none
-    /// is doubled. The mark of a refused doubling goes.
+    /// Puts in the pair as the most recent of its bucket if no key equals `k`. If the bucket holds 32 pairs, at least
+    /// half the slots are in use, no bucket waits and the array is below the maximum, the array is doubled first. If
+    /// the bucket of `k` then holds 32 pairs, the least recent of them is evicted and returned. If a key equals `k`,
+    /// nothing changes and the supplied pair comes back. The pair also comes back if there is no array and memory for
+    /// one is refused; with an array no refused memory makes a put fail. If buckets wait, the bucket of `k` is
+    /// relocated first and then the first ones that wait, two in all; after a doubling all other buckets wait. If
+    /// `prepare` was called for `k` just before, no array is made or doubled. A put that succeeds takes the mark of a
+    /// refused doubling away.
     #[inline(always)]
     pub fn put_sync(&mut self, k: K, v: V) -> Result<EvictedEntry<K, V>, InsertError<K, V>>
         ensures { PutsByRule K.eq ⟦<H as Hashes<K>>⟧.hash_of self.old (k, v) result self.new }
@@ -161,8 +163,8 @@ impl<K: Eq + Hash, V, H: BuildHasher> Owned<K, V, H> {
         }
     }
 
-    /// Takes out the pair whose key equals `k`, and answers it. Where few pairs are left, the array may become smaller,
-    /// and then every bucket of the new one waits.
+    /// Removes the pair whose key equals `k` and returns it, or returns `None` if there is none. If few pairs are
+    /// left, the array may shrink, and then every bucket of the new array waits.
     #[inline(always)]
     pub fn remove_sync(&mut self, k: &K) -> Option<(K, V)>
         ensures step { Removes (hash_in ⟦<H as Hashes<K>>⟧.hash_of self.old.contents) K.eq self.old k.now result
@@ -178,9 +180,10 @@ impl<K: Eq + Hash, V, H: BuildHasher> Owned<K, V, H> {
         }
     }
 
-    /// Takes out the pair of `k` where `f` answers true on its value. What `f` wrote goes with the pair, and stays
-    /// where it answers false; then the answer is None, and the order of the pairs stays. Where few pairs are left
-    /// after a removal, the array may become smaller.
+    /// Calls `f` on the value of `k`. If `f` returns true, removes the pair, with what `f` wrote, and returns it. If
+    /// `f` returns false, what it wrote stays, the result is `None`, and the order of the pairs stays. If no key
+    /// equals `k`, `f` isn't called and the result is `None`. If few pairs are left after a removal, the array may
+    /// shrink.
     #[inline(always)]
     pub fn remove_if_sync<F: FnOnce(&mut V) -> bool>(&mut self, k: &K, f: F) -> Option<(K, V)>
         requires { (p : K × V) → IsPresent (hash_in ⟦<H as Hashes<K>>⟧.hash_of self.old.contents) K.eq

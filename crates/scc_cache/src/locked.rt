@@ -1,4 +1,4 @@
-//! The entries of a stripe that is locked. An entry keeps the lock of its stripe until it is let go.
+//! The entries of a locked stripe. An entry holds the lock of its stripe as long as the entry lives.
 
 mod insertions;
 mod methods;
@@ -9,7 +9,7 @@ use scc_common::Shared;
 use std::hash::{BuildHasherDefault, FoldHasher};
 use std::sync::RwLockWriteGuard;
 
-/// The entry of a key, with the lock of its stripe held.
+/// The entry of a key. It holds the lock of its stripe.
 pub type Entry<'a, K, V, H = BuildHasherDefault<FoldHasher>> = HeldEntry<
     RwLockWriteGuard<'a, Owned<K, V, Shared<H>>>,
     (),
@@ -18,7 +18,7 @@ pub type Entry<'a, K, V, H = BuildHasherDefault<FoldHasher>> = HeldEntry<
     Shared<H>,
 >;
 
-/// An entry that is there, with the lock of its stripe held.
+/// An occupied entry. It holds the lock of its stripe.
 pub type OccupiedEntry<'a, K, V, H = BuildHasherDefault<FoldHasher>> = HeldOccupied<
     RwLockWriteGuard<'a, Owned<K, V, Shared<H>>>,
     (),
@@ -27,7 +27,7 @@ pub type OccupiedEntry<'a, K, V, H = BuildHasherDefault<FoldHasher>> = HeldOccup
     Shared<H>,
 >;
 
-/// A key that its stripe lacks, with the lock of the stripe held.
+/// A vacant entry: a key that its stripe lacks. It holds the lock of the stripe.
 pub type VacantEntry<'a, K, V, H = BuildHasherDefault<FoldHasher>> = HeldVacant<
     RwLockWriteGuard<'a, Owned<K, V, Shared<H>>>,
     (),
@@ -36,7 +36,8 @@ pub type VacantEntry<'a, K, V, H = BuildHasherDefault<FoldHasher>> = HeldVacant<
     Shared<H>,
 >;
 
-/// The answer of `replace_sync`: the entry with its new key and the old key, or the key that the stripe lacks.
+/// The result of `replace_sync`: the entry with its new key and the old key, or the vacant entry of a key that the
+/// stripe lacks.
 pub type ReplaceResult<'a, K, V, H = BuildHasherDefault<FoldHasher>> = HeldReplace<
     RwLockWriteGuard<'a, Owned<K, V, Shared<H>>>,
     (),

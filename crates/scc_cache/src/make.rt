@@ -1,4 +1,4 @@
-//! How a cache is made: empty, or of items.
+//! How a cache is made: empty, or from items.
 ghost use Rattle.scc_cache.specs.Caches.{IsCacheState};
 ghost use Rattle.scc_cache.specs.Collections.{IsCollected, PutsAll};
 ghost use Rattle.scc_cache.specs.Making.{IsNewCache, MakesEmptyCache};
@@ -17,14 +17,14 @@ use std::hash::{BuildHasher, BuildHasherDefault, Hash};
 use std::sync::Arc;
 
 impl<K: Eq + Hash, V> Owned<K, V> {
-    /// An empty cache without an array, with a maximum of 256 slots. It takes no memory.
+    /// Returns an empty cache without an array, with a maximum of 256 slots. Allocates nothing.
     pub fn new(alloc: Global) -> Self
         ensures { IsNewCache (settings_of result.contents).hasher result }
     {
         Owned::with_hasher(alloc, BuildHasherDefault::new())
     }
 
-    /// An empty cache by the rules of `with_capacity_and_hasher`.
+    /// Returns an empty cache with the default hasher, by the rules of `with_capacity_and_hasher`.
     pub fn with_capacity(alloc: Global, capacity: usize, maximum: usize) -> Result<Self, MakeError>
         ensures { MakesEmptyCache (λ c. (settings_of c.contents).hasher) 0 capacity maximum result }
     {
@@ -33,8 +33,8 @@ impl<K: Eq + Hash, V> Owned<K, V> {
 }
 
 impl<K: Eq + Hash, V, H: BuildHasher> Owned<K, V, Shared<H>> {
-    /// An empty cache that skips so many bits of each hash, and hashes as each other part of that hasher does. Else as
-    /// `with_capacity_and_hasher`.
+    /// Returns an empty cache that skips `skipped` bits of each hash and shares `hasher` with the other parts.
+    /// Otherwise as `with_capacity_and_hasher`.
     pub fn part(
         alloc: Global,
         skipped: u32,
@@ -52,7 +52,7 @@ impl<K: Eq + Hash, V, H: BuildHasher> Owned<K, V, Shared<H>> {
 }
 
 impl<K: Eq + Hash, V, H: BuildHasher> Owned<K, V, H> {
-    /// An empty cache without an array, with a maximum of 256 slots. It takes no memory.
+    /// Returns an empty cache without an array, with a maximum of 256 slots. Allocates nothing.
     pub fn with_hasher(alloc: Global, hasher: H) -> Self
         ensures { IsNewCache hasher result }
     {
@@ -62,9 +62,10 @@ impl<K: Eq + Hash, V, H: BuildHasher> Owned<K, V, H> {
         }
     }
 
-    /// An empty cache with an array of the least power of two of slots that is at least `capacity` and at least 64;
-    /// without an array for 0. These slots are then its minimum. Its maximum is the greatest of `maximum`, the slots
-    /// made and 64, raised to a power of two, at most 2 ^ 63. A size that can't be had is refused.
+    /// Returns an empty cache with an array of the least power of two of slots that is at least `capacity` and at
+    /// least 64, or without an array if `capacity` is 0. These slots are the cache's minimum. Its maximum is the
+    /// greatest of `maximum`, the slots made and 64, raised to a power of two, at most 2^63. Fails if an array of that
+    /// size can't be allocated.
     pub fn with_capacity_and_hasher(
         alloc: Global,
         capacity: usize,
@@ -78,7 +79,7 @@ impl<K: Eq + Hash, V, H: BuildHasher> Owned<K, V, H> {
         Owned::skipping(alloc, 0, capacity, maximum, hasher)
     }
 
-    /// As `with_capacity_and_hasher`, but skips so many bits of each hash.
+    /// Makes what `with_capacity_and_hasher` makes, but skips `skipped` bits of each hash.
     pub fn skipping(
         alloc: Global,
         skipped: u32,
@@ -100,9 +101,9 @@ impl<K: Eq + Hash, V, H: BuildHasher> Owned<K, V, H> {
         }
     }
 
-    /// A cache of the items, put in their order, so that the first value of a key stays unless it was driven out in
-    /// between. Capacity and maximum are asked for as many pairs as there are items. It is refused for want of memory,
-    /// and then the items are dropped. The iterator has to end.
+    /// Returns a cache of the items, put in their order, so that the first value of a key stays unless it was evicted
+    /// before the next one came. Capacity and maximum are made for one pair an item. Fails if memory is refused, and
+    /// then drops the items. The iterator must end.
     pub fn try_from_iter<I: IntoIterator<Item = (K, V)>>(
         alloc: Global,
         items: I,
@@ -127,8 +128,8 @@ impl<K: Eq + Hash, V, H: BuildHasher> Owned<K, V, H> {
         Ok(made)
     }
 
-    /// Puts the pairs in their order, up to the first that is refused for want of memory. A pair whose key is there is
-    /// dropped.
+    /// Puts in the pairs in their order. Stops with an error at the first pair for which memory is refused. Drops a
+    /// pair whose key is there.
     fn put_all(&mut self, pairs: Vec<(K, V)>) -> Result<(), MakeError>
     where
         K: Drop,

@@ -1,4 +1,4 @@
-//! A cache as one of several parts. It keeps what was asked for at its making, and none can reserve more.
+//! A cache as one of several parts. Its minimum is what was asked for at making, and none can reserve more.
 ghost use Rattle.std.specs.Prelude.{◌≤◌};
 
 use crate::Owned;

@@ -1,4 +1,4 @@
-//! What is done at a place of a cache.
+//! The calls at a place of a cache.
 ghost use Rattle.scc_cache.specs.CacheSteps.{IsFound, IsLacking, IsLastAt, TakesAt};
 ghost use Rattle.scc_cache.specs.Caches.{IsCacheState};
 ghost use Rattle.scc_cache.specs.Lends.{lends_value, with_key_at, with_value_at};
@@ -17,14 +17,14 @@ use scc_contents::Hashes;
 use std::hash::{BuildHasher, Hash};
 
 impl<K: Eq + Hash, V, H: BuildHasher> Owned<K, V, H> {
-    /// The hash of a key.
+    /// Returns the hash of `k`.
     pub(crate) fn hash_of(&self, k: &K) -> u64
         ensures { result ≡ hash_in ⟦<H as Hashes<K>>⟧.hash_of self.now.contents k.now }
     {
         self.table.hash(k)
     }
 
-    /// Where the pair of `k` stands. `hash` is the hash of `k`.
+    /// Returns the place of the pair of `k`, or `None`. `hash` must be the hash of `k`.
     #[inline(always)]
     pub(crate) fn find(&self, hash: u64, k: &K) -> Option<Place>
         requires { hash ≡ hash_in ⟦<H as Hashes<K>>⟧.hash_of self.now.contents k.now }
@@ -35,7 +35,7 @@ impl<K: Eq + Hash, V, H: BuildHasher> Owned<K, V, H> {
         self.table.search_place(hash, k)
     }
 
-    /// The key and the value at the place.
+    /// Returns the key and the value at `place`.
     #[inline(always)]
     pub(crate) fn pair_in(&self, place: Place) -> (&K, &V)
         requires { IsPlace self.now.contents place }
@@ -45,8 +45,9 @@ impl<K: Eq + Hash, V, H: BuildHasher> Owned<K, V, H> {
         self.table.pair_at(place)
     }
 
-    /// Puts in a pair whose key is new, and answers what it drove out, and its place. The mark of a refused growth
-    /// goes.
+    /// Puts in a pair whose key is new, and returns the evicted pair, if any, and the new pair's place. `hash` must be
+    /// the hash of `k`. If there is no array and memory for one is refused, the pair comes back. If it succeeds, the
+    /// mark of a refused doubling goes.
     #[inline(always)]
     pub(crate) fn put_at(
         &mut self,
@@ -69,8 +70,8 @@ impl<K: Eq + Hash, V, H: BuildHasher> Owned<K, V, H> {
         }
     }
 
-    /// Makes the pair of `k` the most recent of its bucket, and answers where it then stands. `hash` is the hash of
-    /// `k`. Where the bucket waits, it takes its pairs over first.
+    /// Makes the pair of `k` the most recent of its bucket, and returns its new place, or `None` if no key equals `k`.
+    /// `hash` must be the hash of `k`. If the bucket waits, it is relocated first.
     #[inline(always)]
     pub(crate) fn refresh(&mut self, hash: u64, k: &K) -> Option<Place>
         requires { hash ≡ hash_in ⟦<H as Hashes<K>>⟧.hash_of self.old.contents k.now }
@@ -91,7 +92,7 @@ impl<K: Eq + Hash, V, H: BuildHasher> Owned<K, V, H> {
         self.refresh_in_bucket(bucket, hash, k)
     }
 
-    /// The same where the bucket of the hash, which is of that number, waits.
+    /// Does what `refresh` does if `bucket`, the bucket of `hash`, waits.
     #[cold]
     fn refresh_after_relocation(&mut self, bucket: usize, hash: u64, k: &K) -> Option<Place>
         requires within { bucket < bucket_count self.old.contents }
@@ -111,7 +112,7 @@ impl<K: Eq + Hash, V, H: BuildHasher> Owned<K, V, H> {
         self.refresh_in_bucket(bucket, hash, k)
     }
 
-    /// The same where it doesn't wait.
+    /// Does what `refresh` does if `bucket`, the bucket of `hash`, doesn't wait.
     #[inline(always)]
     fn refresh_in_bucket(&mut self, bucket: usize, hash: u64, k: &K) -> Option<Place>
         requires within { bucket < bucket_count self.old.contents }
@@ -131,7 +132,8 @@ impl<K: Eq + Hash, V, H: BuildHasher> Owned<K, V, H> {
         Some(Place { bucket, slot })
     }
 
-    /// Takes the pair out of its place. The others of its list stay in their order; then the array may become smaller.
+    /// Removes the pair at `place` and returns it. The other pairs of its list stay in their order. Then the array may
+    /// shrink.
     #[inline(always)]
     pub(crate) fn remove_at(&mut self, place: Place) -> (K, V)
         requires { IsPlace self.old.contents place }
@@ -147,7 +149,7 @@ impl<K: Eq + Hash, V, H: BuildHasher> Owned<K, V, H> {
         pair
     }
 
-    /// The value at the place, to write. The order of the pairs stays.
+    /// Returns the value at `place`, to write. The order of the pairs stays.
     pub(crate) fn value_mut_at(&mut self, place: Place) -> &mut V
         requires { IsPlace self.old.contents place }
         ensures* writes_back { sem 𝓛 (lends_value K.row V.row H.row H.Hasher.row K.Hash H.BuildHasher H.Hasher.Hasher
@@ -161,7 +163,7 @@ impl<K: Eq + Hash, V, H: BuildHasher> Owned<K, V, H> {
         self.table.value_mut_at(place)
     }
 
-    /// The key at the place, and the value to write. The order of the pairs stays.
+    /// Returns the key at `place`, and the value to write. The order of the pairs stays.
     pub(crate) fn parts_mut_at(&mut self, place: Place) -> (&K, &mut V)
         requires { IsPlace self.old.contents place }
         ensures* writes_back { sem 𝓛 (lends_value K.row V.row H.row H.Hasher.row K.Hash H.BuildHasher H.Hasher.Hasher
@@ -172,7 +174,7 @@ impl<K: Eq + Hash, V, H: BuildHasher> Owned<K, V, H> {
         self.table.parts_mut_at(place)
     }
 
-    /// Writes the value at the place, and answers the old one.
+    /// Writes `value` at `place`, and returns the old value.
     pub(crate) fn write_at(&mut self, place: Place, value: V) -> V
         requires { IsPlace self.old.contents place }
         ensures old { (p : K × V) × (slice_get (list_of self.old.contents (spot_of self.old.contents place).bucket)
@@ -183,7 +185,7 @@ impl<K: Eq + Hash, V, H: BuildHasher> Owned<K, V, H> {
         std::mem::replace(self.value_mut_at(place), value)
     }
 
-    /// Puts the key in the place of the one there, which it equals, and answers that one.
+    /// Puts `key` in the place of the key at `place`, which must equal it, and returns the old key.
     pub(crate) fn replace_key_at(&mut self, place: Place, key: K) -> K
         requires within { IsPlace self.old.contents place }
         requires same { (p : K × V) → slice_get (list_of self.old.contents (spot_of self.old.contents place).bucket)

@@ -1,4 +1,4 @@
-//! Room for a put before it is made, and what the put would drive out.
+//! What a put would have to make first, made before it, and what the put would evict.
 ghost use Rattle.scc_cache.specs.CacheSteps.{DrivesNoneOut, DrivesOut};
 ghost use Rattle.scc_cache.specs.Putting.{DropsMark, PreparesByRule};
 ghost use Rattle.scc_contents.specs.Contents.{bucket_count, hash_in, list_of, settings_of};
@@ -11,10 +11,11 @@ use scc_contents::Hashes;
 use std::hash::{BuildHasher, Hash};
 
 impl<K: Eq + Hash, V, H: BuildHasher> Owned<K, V, H> {
-    /// Makes what a put of `k` wants, at most one resize, and moves no pair: the first array, or twice as many buckets
-    /// where that is due, all of which wait then. A key that is there wants nothing. A doubling that is refused is
-    /// marked: the put of `k` that follows doesn't try it again, so that it makes no resize in any case. This fails
-    /// only where the first array is refused.
+    /// Makes what a put of `k` would have to make first, at most one resize: the first array, or an array of twice as
+    /// many buckets if a doubling is due; then all buckets wait. No pair moves. If a key equals `k`, nothing is made.
+    /// A doubling whose memory is refused is noted and marked: the put of `k` that follows doesn't try the doubling
+    /// again, so it makes no resize in any case. A doubling that is made takes note and mark away; if no doubling is
+    /// due, both stay. Fails only if memory for the first array is refused, and then nothing changes.
     pub fn prepare(&mut self, k: &K) -> Result<(), MakeError>
         ensures { PreparesByRule K.eq ⟦<H as Hashes<K>>⟧.hash_of self.old k.now result self.new }
     {
@@ -28,17 +29,17 @@ impl<K: Eq + Hash, V, H: BuildHasher> Owned<K, V, H> {
         }
     }
 
-    /// Takes the mark of a refused doubling away, and changes nothing else: a put tries a doubling that is due, also
-    /// where `prepare` was refused it.
+    /// Takes the mark of a refused doubling away, and changes nothing else. A put then tries a doubling that is due,
+    /// even if `prepare` was refused memory for it.
     pub fn drop_mark(&mut self)
         ensures { DropsMark K.eq ⟦<H as Hashes<K>>⟧.hash_of self.old self.new }
     {
         self.table.drop_mark_within();
     }
 
-    /// The pair that a put of `k` would drive out without a resize: the least recent of its bucket. None where a key
-    /// equals `k`, where its bucket holds fewer than 32 pairs, and where there is no array. The order of the pairs
-    /// stays.
+    /// Returns the pair that a put of `k` without a resize would evict: the least recent of its bucket. Returns `None`
+    /// if a key equals `k`, if the bucket of `k` holds fewer than 32 pairs, or if there is no array. The order of the
+    /// pairs stays.
     pub fn next_evicted(&self, k: &K) -> Option<(&K, &V)>
         ensures none { IfNone result (DrivesNoneOut (hash_in ⟦<H as Hashes<K>>⟧.hash_of self.now.contents) K.eq
             self.now.contents k.now) }
@@ -52,7 +53,7 @@ impl<K: Eq + Hash, V, H: BuildHasher> Owned<K, V, H> {
         }
     }
 
-    /// The first pair of the bucket of that hash, where it holds 32.
+    /// Returns the first pair of the bucket of `hash`, or `None` if the bucket holds fewer than 32 pairs.
     fn first_of_full(&self, hash: u64) -> Option<(&K, &V)>
         ensures none { IfNone result (length (list_of self.now.contents
             (bucket_number (settings_of self.now.contents).skipped (bucket_count self.now.contents) hash)) < 32) }

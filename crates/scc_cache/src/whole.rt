@@ -1,4 +1,4 @@
-//! What is done with a whole cache: comparisons and clones.
+//! The calls on a whole cache: comparisons and clones.
 ghost use Rattle.scc_cache.specs.CacheSteps.{pair_of};
 ghost use Rattle.scc_contents.specs.Contents.{hash_in, entries};
 ghost use Rattle.scc_contents.specs.Copies.{IsCopied};
@@ -14,7 +14,7 @@ use std::alloc::AllocError;
 use std::hash::{BuildHasher, Hash};
 
 impl<K: Eq + Hash, V, H: BuildHasher> Owned<K, V, H> {
-    /// A clone of the value of `k`, or None where there is none.
+    /// Returns a clone of the value of `k`, or `None` if no key equals `k`.
     pub fn cloned_value(&self, k: &K) -> Result<Option<V>, AllocError>
     where
         V: Clone,
@@ -30,7 +30,7 @@ impl<K: Eq + Hash, V, H: BuildHasher> Owned<K, V, H> {
         }
     }
 
-    /// A clone of the stored key that equals `k`, or None where there is none.
+    /// Returns a clone of the stored key that equals `k`, or `None` if there is none.
     pub fn cloned_key(&self, k: &K) -> Result<Option<K>, AllocError>
     where
         K: Clone,
@@ -46,7 +46,7 @@ impl<K: Eq + Hash, V, H: BuildHasher> Owned<K, V, H> {
         }
     }
 
-    /// A clone of the pair of `k`, or None where there is none.
+    /// Returns a clone of the pair of `k`, or `None` if no key equals `k`.
     pub fn cloned_pair(&self, k: &K) -> Result<Option<(K, V)>, AllocError>
     where
         K: Clone,
@@ -82,8 +82,8 @@ impl<K: Eq + Hash, V: PartialEq, H: BuildHasher> PartialEq for Owned<K, V, H> {
           (entries n.contents);
     } };
 
-    /// Whether each pair of either cache has its key with an equal value in the other. Neither the order of the pairs
-    /// nor a maximum plays a part.
+    /// Returns whether each pair of either cache has its key with an equal value in the other cache. The order of the
+    /// pairs and the maximum don't count.
     fn eq(&self, other: &Self) -> bool {
         self.len() == other.len() && self.is_within(other)
     }
@@ -105,7 +105,7 @@ impl<K: Eq + Hash, V: Eq, H: BuildHasher> Eq for Owned<K, V, H> {
 }
 
 impl<K: Eq + Hash, V: PartialEq, H: BuildHasher> Owned<K, V, H> {
-    /// Whether there is a pair whose key equals `k`, and its value `v`.
+    /// Returns whether a key equals `k` and its value equals `v`.
     fn has_pair(&self, k: &K, v: &V) -> bool
         ensures { result ≡ option_eq (λ p q. V.eq p.1 q.1) (Some (k.now, v.now))
             (find K.eq (entries self.now.contents) k.now) }
@@ -117,7 +117,7 @@ impl<K: Eq + Hash, V: PartialEq, H: BuildHasher> Owned<K, V, H> {
         }
     }
 
-    /// Whether each pair has its key with an equal value in the other cache.
+    /// Returns whether each pair of this cache has its key with an equal value in `other`.
     fn is_within(&self, other: &Self) -> bool
         ensures { result ≡ list_all (λ p. option_eq (λ p q. V.eq p.1 q.1) (Some p)
             (find K.eq (entries other.now.contents) p.0)) (entries self.now.contents) }

@@ -1,4 +1,4 @@
--- An index that is made of items, or of another index's pairs.
+-- An index that is made from items, or from another index's pairs.
 use Rattle.std.specs.Prelude.{◌≡◌, ◌*◌, ◌<◌, Bool, List, [], ◌∷◌, ◌++◌, length, None, Ok, Err, Result, MatchOption}
 use Rattle.std.specs.List.{FoldsTo}
 use Rattle.std.specs.Option.{IsSomeAnd}
@@ -10,14 +10,14 @@ use Rattle.scc_common.specs.declared.errors.InsertError.{InsertError}
 use Rattle.scc_common.specs.declared.errors.InsertError.TheVariants.{Exists, Memory}
 use Rattle.scc_index.specs.IndexSteps.{Inserts}
 
--- not refused for want of memory
+-- the insertion was not refused memory
 abbrev pub IsAnswerOf : {K V : Type 0} → Result (Unit {0}) (InsertError K V) → Type 0
 IsAnswerOf (Ok _) = Unit {0}
 IsAnswerOf (Err (Exists q)) = Unit {0}
 IsAnswerOf (Err (Memory q)) = ⊥
 
 module _ {K V S : Type 0} (eq : K → K → Bool) where
-  -- an insertion that is not refused for want of memory
+  -- an insertion that isn't refused memory
   abbrev pub InsertsOne : Contents (K × V) S → K × V → Contents (K × V) S → Type 0
   InsertsOne c p d = (r : Result (Unit {0}) (InsertError K V)) × IsAnswerOf r × Inserts eq c p r d
 
@@ -25,11 +25,12 @@ module _ {K V S : Type 0} (eq : K → K → Bool) where
   abbrev pub InsertsAll : Contents (K × V) S → List (K × V) → Contents (K × V) S → Type 0
   InsertsAll c ps d = FoldsTo InsertsOne c ps d
 
-  -- the pairs before p were inserted in their order, and then memory was refused for p, whose key equals none, and nothing changed
+  -- the pairs before p were inserted in their order; then memory was refused for p, whose key equals no key, and
+  -- nothing changed
   abbrev pub StopsAt : Contents (K × V) S → List (K × V) → K × V → Contents (K × V) S → Type 0
   StopsAt c ps p d = (before : List (K × V)) × (after : List (K × V)) × (made : Contents (K × V) S) × (ps ≡ before ++ p ∷ after) × InsertsAll c before made × (find eq (entries made) p.0 ≡ None) × IsUnchanged made d
 
-  -- d is what insertions of the pairs, in their order, make of an empty index with an array for as many pairs
+  -- d is made from an empty index, with an array for `length ps` pairs, by insertions of the pairs in their order
   pub record IsCollected (ps : List (K × V)) (d : Contents (K × V) S) : Type 0 where
     pub made : Contents (K × V) S
     pub empty : entries made ≡ []
@@ -42,10 +43,11 @@ module _ {K V S : Type 0} (eq : K → K → Bool) where
     pub run : InsertsAll made ps d
 
 module _ {K V : Type 0} where
-  -- a look-up of k in the pairs finds the first item whose key equals k; nothing where there is none
+  -- a look-up of k in the pairs finds the first item whose key equals k, or nothing if there is no such item
   pub record FindsFirst (eq : K → K → Bool) (items pairs : List (K × V)) : Type 0 where
     pub finds : (k : K) → find eq pairs k ≡ find eq items k
 
-  -- where a look-up of k finds a pair in the old pairs, it finds a clone of it, by C, in the new ones; else nothing
+  -- if a look-up of k finds a pair in the old pairs, it finds a clone of it, by C, in the new ones; else it finds
+  -- nothing there
   pub record FindsClones (eq : K → K → Bool) (C : K × V → K × V → Type 0) (old new : List (K × V)) : Type 0 where
     pub finds : (k : K) → MatchOption (find eq old k) (find eq new k ≡ None) (λ p. IsSomeAnd (find eq new k) (C p))

@@ -1,4 +1,4 @@
--- What the contracts of an entry cite. An entry holds its index by a guard: a `&mut` in the owned form.
+-- The words of an entry's contracts. An entry holds its index by a guard, which is a `&mut` in the owned form.
 pub use Rattle.scc_index.specs.declared.held.HeldEntry.TheVariants.{Occupied, Vacant}
 pub use Rattle.scc_common.specs.declared.errors.InsertError.TheVariants.{Exists, Memory}
 use Rattle.std.specs.Prelude.{◌≡◌, ℕ, Bool, true, List, ◌∷◌, ◌++◌, Option, None, Some, Result, IfOk, IfErr, ⊤}
@@ -24,12 +24,14 @@ use Rattle.scc_index.specs.declared.held.HeldEntry.{HeldEntry}
 use Rattle.scc_index.specs.declared.held.HeldVacant.{HeldVacant}
 
 module _ {K V S : Type 0} where
-  -- d is c once the new key k was put in: the array is one that had to be made, or grew as it may and has to
+  -- from c to d the array was made or grew as an insertion of the new key k may and must make or grow it
   pub record IsGrownFor (hash : K → ℕ) (c : Contents (K × V) S) (k : K) (d : Contents (K × V) S) : Type 0 where
     pub grows : GrowsForInsertion hash (λ p. p.0) c k d
     pub first : FirstArrayWhenDue c d
 
-  -- c, where an insertion of the new key k was refused: nothing changed, the note of refused memory rose only where a growth was due and is up there, and no bucket waits that an insertion doesn't leave waiting
+  -- d is c after an insertion of the new key k was refused memory: no entry, bucket or setting changed, the note of
+  -- refused memory rose only if a growth was due, and is up if one was due; only buckets wait that an insertion leaves
+  -- waiting
   pub record RestsRefused (hash : K → ℕ) (c : Contents (K × V) S) (k : K) (d : Contents (K × V) S) : Type 0 where
     pub unchanged : IsUnchanged c d
     pub raised : RaisesWhenDue hash (λ p. p.0) c k d
@@ -41,7 +43,7 @@ module _ {G N K V S T : Type 0} {d : guard.Ghosts G (Contents (K × V) S)} {g : 
   abbrev pub occupied_index : HeldOccupied G N K V S T d g h b w → Contents (K × V) S
   occupied_index o = d.inner o.guard
 
-  -- the pair of the entry, and the pairs before and after it
+  -- the pair of the entry
   abbrev pub occupied_pair : HeldOccupied G N K V S T d g h b w → K × V
   occupied_pair o = entry_of (d.inner o.guard) o.place o.within
 
@@ -53,12 +55,12 @@ module _ {G N K V S T : Type 0} {d : guard.Ghosts G (Contents (K × V) S)} {g : 
   abbrev pub occupied_back : HeldOccupied G N K V S T d g h b w → List (K × V)
   occupied_back o = back_of (d.inner o.guard) o.place
 
-  -- what holds the index
+  -- the guard of the entry's index
   abbrev pub entry_guard : HeldEntry G N K V S T d g h b w → G
   entry_guard (Occupied o) = o.guard
   entry_guard (Vacant e) = e.guard
 
-  -- the index stays, and o stands at the pair of k
+  -- the index is c, and o stands at the pair of k
   pub record IsOccupiedAt (same : K → K → Bool) (c : Contents (K × V) S) (k : K) (o : HeldOccupied G N K V S T d g h b w) : Type 0 where
     pub contents : d.inner o.guard ≡ c
     pub found : find same (entries c) k ≡ Some (occupied_pair o)
@@ -67,18 +69,18 @@ module _ {G N K V S T : Type 0} {d : guard.Ghosts G (Contents (K × V) S)} {g : 
     pub updates : (q : K) (v : V) → occupied_front o ++ (q, v) ∷ occupied_back o ≡ set_key (same k) (set_value (same k) (entries c) v) q
     pub removes : occupied_front o ++ occupied_back o ≡ without same (entries c) k
 
-  -- the index stays, and e has the key k, which the index lacks
+  -- the index is c, and e has the key k, which the index lacks
   pub record IsVacantAt (same : K → K → Bool) (c : Contents (K × V) S) (k : K) (e : HeldVacant G N K V S T d g h b w) : Type 0 where
     pub contents : d.inner e.guard ≡ c
     pub found : find same (entries c) k ≡ None
     pub key : e.key ≡ k
 
-  -- the entry is that of the key: occupied where the index has it, and vacant where not
+  -- the entry is the entry of k: occupied if the index has k, else vacant
   abbrev pub IsEntryOf : (K → K → Bool) → Contents (K × V) S → K → HeldEntry G N K V S T d g h b w → Type 0
   IsEntryOf same c k (Occupied o) = IsOccupiedAt same c k o
   IsEntryOf same c k (Vacant e) = IsVacantAt same c k e
 
-  -- p is the entry o, once a version of the value v and a clone of the key, by C, has taken the place of the old one
+  -- p is the entry o after a version of v and a clone of the key, by C, took the place of the old version
   pub record IsUpdated (C : K → K → Type 0) (same : K → K → Bool) (o : HeldOccupied G N K V S T d g h b w) (v : V) (p : HeldOccupied G N K V S T d g h b w) : Type 0 where
     pub same_guard : p.guard ≡ d.with_inner o.guard (d.inner p.guard)
     pub rest : p.rest ≡ o.rest
@@ -88,109 +90,113 @@ module _ {G N K V S T : Type 0} {d : guard.Ghosts G (Contents (K × V) S)} {g : 
     pub at : IsWrittenAt (d.inner o.guard) o.place (key, v) (d.inner p.guard) p.place p.within
     pub finds : FindsInstead same (entries (d.inner o.guard)) (occupied_pair o).0 (Some (key, v)) (entries (d.inner p.guard))
 
-  -- o stands at the pair that was put in through e
+  -- o stands at the pair that was inserted through e
   pub record IsInserted (e : HeldVacant G N K V S T d g h b w) (v : V) (o : HeldOccupied G N K V S T d g h b w) : Type 0 where
     pub same_guard : o.guard ≡ d.with_inner e.guard (d.inner o.guard)
     pub rest : o.rest ≡ e.rest
     pub at : IsPutAt (d.inner e.guard) (e.key, v) (d.inner o.guard) o.place o.within
 
-  -- the stored key, or the one that was asked for
+  -- the stored key of an occupied entry, or the key of a vacant entry
   abbrev pub entry_key : HeldEntry G N K V S T d g h b w → K
   entry_key (Occupied o) = (occupied_pair o).0
   entry_key (Vacant e) = e.key
 
-  -- the index lacks the entry's key
+  -- the index lacks the key of the entry
   abbrev pub IsVacant : HeldEntry G N K V S T d g h b w → Type 0
   IsVacant (Occupied o) = ⊥
   IsVacant (Vacant e) = ⊤
 
-  -- o is the entry; where that was vacant, a value of which P holds was put in
+  -- o is the entry; if the entry was vacant, a value for which P holds was inserted
   abbrev pub OrInsertsSome : HeldEntry G N K V S T d g h b w → (K → V → Type 0) → HeldOccupied G N K V S T d g h b w → Type 0
   OrInsertsSome (Occupied p) P o = o ≡ p
   OrInsertsSome (Vacant e) P o = (v : V) × P e.key v × IsInserted e v o
 
-  -- o is the entry, once v was put in where it was vacant
+  -- o is the entry; if the entry was vacant, v was inserted
   abbrev pub OrInserts : HeldEntry G N K V S T d g h b w → V → HeldOccupied G N K V S T d g h b w → Type 0
   OrInserts (Occupied p) v o = o ≡ p
   OrInserts (Vacant e) v o = IsInserted e v o
 
-  -- where a value was put in, the array is one that had to be made, or grew as an insertion of the key may and has to
+  -- if a value was inserted, the array was made or grew as an insertion of the key may and must make or grow it
   abbrev pub GrowsThrough : (K → ℕ) → HeldEntry G N K V S T d g h b w → HeldOccupied G N K V S T d g h b w → Type 0
   GrowsThrough hash (Occupied p) o = ⊤
   GrowsThrough hash (Vacant e) o = IsGrownFor hash (d.inner e.guard) e.key (d.inner o.guard)
 
-  -- where a value was put in, those buckets wait that an insertion of the key leaves waiting; else the same as before
+  -- if a value was inserted, the buckets wait that an insertion of the key leaves waiting; else the same buckets as
+  -- before
   abbrev pub RelocatesThrough : (K → ℕ) → HeldEntry G N K V S T d g h b w → HeldOccupied G N K V S T d g h b w → Type 0
   RelocatesThrough hash (Occupied p) o = waiting_of (d.inner o.guard) ≡ waiting_of (d.inner p.guard)
   RelocatesThrough hash (Vacant e) o = Relocates (d.inner e.guard) (d.inner o.guard) × RelocatesTwo (hash e.key) (d.inner e.guard) (d.inner o.guard)
 
-  -- a refusal: the key comes back with v
+  -- memory was refused: the key comes back with v
   abbrev pub Refuses : HeldEntry G N K V S T d g h b w → V → InsertError K V → Type 0
   Refuses e v r = r ≡ Memory (entry_key e, v)
 
-  -- a refusal: the key comes back with a value of which P holds
+  -- memory was refused: the key comes back with a value for which P holds
   abbrev pub RefusesSome : HeldEntry G N K V S T d g h b w → (K → V → Type 0) → InsertError K V → Type 0
   RefusesSome e P r = (v : V) × P (entry_key e) v × (r ≡ Memory (entry_key e, v))
 
   module _ (same : K → K → Bool) (hash_of : S → K → ℕ) where
-    -- what `insert_entry` of the vacant entry e and the value v, answered so, does
+    -- the contract of `insert_entry` of the vacant entry e: with the value v it returns `result`
     pub record InsertsAtVacant (e : HeldVacant G N K V S T d g h b w) (v : V) (result : Result (HeldOccupied G N K V S T d g h b w) (InsertError K V)) : Type 0 where
-      -- the key is put in with the value, and the answer is its entry
+      -- the key is inserted with the value, and the result is its entry
       pub inserted : IfOk result (IsInserted e v)
-      -- the array is one that had to be made, or grew as an insertion of the key may and has to
+      -- the first array was made if it was due, or the array grew as an insertion of the key may and must grow it
       pub growth : IfOk result (λ o. IsGrownFor (hash_in hash_of (d.inner e.guard)) (d.inner e.guard) e.key (occupied_index o))
-      -- it relocates two buckets at most
+      -- it relocates at most two buckets
       pub relocates : IfOk result (λ o. Relocates (d.inner e.guard) (occupied_index o))
-      -- its own first, and two exactly where none of them is long, else at least those before a long one
+      -- it relocates the key's own bucket first and then the first ones that wait, two in all, or all if fewer wait;
+      -- if some of them are long, at least those before a long one
       pub two : IfOk result (λ o. RelocatesTwo (hash_in hash_of (d.inner e.guard) e.key) (d.inner e.guard) (occupied_index o))
       -- no two keys are equal
       pub unique : IfOk result (λ o. IsUnique same (occupied_index o))
-      -- refused, key and value come back
+      -- if memory is refused, key and value come back
       pub refused : IfErr result (λ r. r ≡ Memory (e.key, v))
 
-    -- what an insertion through the entry e, answered so, does, where P holds of the entry that is answered, and Q of a refusal
+    -- the contract of an insertion through the entry e, which returns `result`: P holds of the returned entry, Q of
+    -- the error
     pub record InsertsThrough (e : HeldEntry G N K V S T d g h b w) (P : HeldOccupied G N K V S T d g h b w → Type 0) (Q : InsertError K V → Type 0) (result : Result (HeldOccupied G N K V S T d g h b w) (InsertError K V)) : Type 0 where
-      -- where it succeeds, the entry is as asked for
+      -- if it succeeds, P holds of the returned entry
       pub entry : IfOk result P
-      -- refused, the key comes back with the value
+      -- if memory is refused, the key comes back with the value
       pub refused : IfErr result Q
-      -- only a vacant entry is refused
+      -- only a vacant entry is refused memory
       pub vacant : OnErr result (IsVacant e)
-      -- the array grew only where a value was put in, and as an insertion of the key may and has to
+      -- the array grew only if a value was inserted, and as an insertion of the key may and must grow it
       pub growth : IfOk result (GrowsThrough (hash_in hash_of (d.inner (entry_guard e))) e)
-      -- those buckets wait that an insertion of the key leaves waiting, or the same where no value was put in
+      -- the buckets wait that an insertion of the key leaves waiting, or the same as before if no value was inserted
       pub relocates : IfOk result (RelocatesThrough (hash_in hash_of (d.inner (entry_guard e))) e)
       -- no two keys are equal
       pub unique : IfOk result (λ o. IsUnique same (occupied_index o))
 
   module _ {F : Type 0} (f : Once F (Bor V × Unit {0}) V) (x : F) where
-    -- the closure may be called on the value
+    -- f may be called on the value
     abbrev pub TakesEntry : HeldEntry G N K V S T d g h b w → Type 0
     TakesEntry (Occupied o) = FnOnceTakesAt f x (occupied_pair o).1
     TakesEntry (Vacant e) = ⊤
 
-    -- the entry, once what the closure answered on its value was published
+    -- the entry after the result of the closure on its value was published
     abbrev pub Modifies : (K → K → Type 0) → (K → K → Bool) → HeldEntry G N K V S T d g h b w → HeldEntry G N K V S T d g h b w → Type 0
     Modifies C same (Occupied o) (Occupied p) = (v : V) × FnOnceReturnsAt f x (occupied_pair o).1 v × IsUpdated C same o v p
     Modifies C same (Vacant e) (Vacant p) = p ≡ e
     Modifies C same e p = ⊥
 
-    -- the entry comes back as it was, with what the closure answered on its value
+    -- the entry comes back as it was, with the result of the closure on its value
     abbrev pub RefusesModify : HeldEntry G N K V S T d g h b w → HeldEntry G N K V S T d g h b w × V → Type 0
     RefusesModify (Occupied o) r = (r.0 ≡ Occupied o) × FnOnceReturnsAt f x (occupied_pair o).1 r.1
     RefusesModify (Vacant e) r = ⊥
 
 module _ (K V S T : RattleType) (key : HashMembers K.Denot) (build : builder.Ghosts S.Denot T.Denot) (feed : hasher.Ghosts T.Denot) where
-  -- an entry of an index that is borrowed
+  -- an entry of a borrowed index
   abbrev pub Borrowed : (N : Type 0) → guard.Ghosts (MutBor (Contents (K.Denot × V.Denot) S.Denot)) (Contents (K.Denot × V.Denot) S.Denot) → eq.Ghosts K.Denot → hash.Ghosts K.Denot → builder.Ghosts S.Denot T.Denot → hasher.Ghosts T.Denot → Type 0
   Borrowed N d g h b w = HeldOccupied (MutBor (Contents (K.Denot × V.Denot) S.Denot)) N K.Denot V.Denot S.Denot T.Denot d g h b w
 
-  -- where r has no entry, since an insertion of the new key k was refused, the index behind m stays as it is, but for what waits and the note of refused memory
+  -- if r has no entry, because an insertion of the new key k was refused memory, the index behind m is unchanged, but
+  -- for the waiting buckets and the note of refused memory
   abbrev pub rests_if_refused : {E N : Type 0} {d : guard.Ghosts (MutBor (Contents (K.Denot × V.Denot) S.Denot)) (Contents (K.Denot × V.Denot) S.Denot)} {g : eq.Ghosts K.Denot} {h : hash.Ghosts K.Denot} {b : builder.Ghosts S.Denot T.Denot} {w : hasher.Ghosts T.Denot}
       → MutBor (Contents (K.Denot × V.Denot) S.Denot) → K.Denot → Result (Borrowed N d g h b w) E → Fml
   rests_if_refused m k r = RestsIfErr (index_row K V S T key build feed) m (λ o. o.guard.ghost_name) r (RestsRefused (key_hash build feed key.hash_input m.now) m.now k)
 
-  -- where r has no entry, the index behind m stays as it is
+  -- if r has no entry, the index behind m is unchanged
   abbrev pub rests_if_none : {N : Type 0} {d : guard.Ghosts (MutBor (Contents (K.Denot × V.Denot) S.Denot)) (Contents (K.Denot × V.Denot) S.Denot)} {g : eq.Ghosts K.Denot} {h : hash.Ghosts K.Denot} {b : builder.Ghosts S.Denot T.Denot} {w : hasher.Ghosts T.Denot}
       → MutBor (Contents (K.Denot × V.Denot) S.Denot) → Option (Borrowed N d g h b w) → Fml
   rests_if_none m r = RestsIfNone (index_row K V S T key build feed) m (λ o. o.guard.ghost_name) r (λ n. n ≡ m.now)

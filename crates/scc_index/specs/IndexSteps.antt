@@ -1,4 +1,4 @@
--- What each call does to the contents of an index. Each relation goes by the reply.
+-- What each call does to the contents of an index, by the reply.
 use Rattle.std.specs.Prelude.{◌≡◌, Bool, true, false, ◌∷◌, None, Result, Ok, Err, IsSome}
 use Rattle.scc_contents.specs.Contents.{Contents, entries}
 use Rattle.scc_contents.specs.Pairs.{find, without}
@@ -7,14 +7,15 @@ use Rattle.scc_common.specs.declared.errors.InsertError.{InsertError}
 use Rattle.scc_common.specs.declared.errors.InsertError.TheVariants.{Exists, Memory}
 
 module _ {K V S : Type 0} (eq : K → K → Bool) where
-  -- an insertion of the pair: a new key is added; a key that is there stays as it is, and the supplied pair comes back;
-  -- want of memory comes to a new key alone, whose version is always made, and leaves the index as it is
+  -- an insertion of the pair: a new key is added; if the key is there, it stays as it is, and the supplied pair comes
+  -- back; only a new key is refused memory, even with room, since its version is always made; then the index stays as
+  -- it is
   abbrev pub Inserts : Contents (K × V) S → K × V → Result (Unit {0}) (InsertError K V) → Contents (K × V) S → Type 0
   Inserts c p (Ok _) d = (find eq (entries c) p.0 ≡ None) × Holds c (p ∷ entries c) d
   Inserts c p (Err (Exists q)) d = (q ≡ p) × IsSome (find eq (entries c) p.0) × IsUnchanged c d
   Inserts c p (Err (Memory q)) d = (q ≡ p) × (find eq (entries c) p.0 ≡ None) × IsUnchanged c d
 
-  -- a removal of k: whether there was a pair, and the others stay
+  -- a removal of k: it returns whether there was a pair, and the others stay
   abbrev pub Removes : Contents (K × V) S → K → Bool → Contents (K × V) S → Type 0
   Removes c k false d = (find eq (entries c) k ≡ None) × IsUnchanged c d
   Removes c k true d = IsSome (find eq (entries c) k) × Holds c (without eq (entries c) k) d

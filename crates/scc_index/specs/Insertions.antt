@@ -1,4 +1,4 @@
--- What an insertion does to an index and to its array, and what room made for one does, in one word a call.
+-- What an insertion and a preparation do to an index and to its array, in one word a call.
 use Rattle.std.specs.Prelude.{◌≡◌, ◌⊎◌, ℕ, Bool, true, None, Some, Result, IsSome, IsOk, IfOk, IfErr}
 use Rattle.std.specs.Result.{OnOk, OnErr}
 use Rattle.scc_buckets.specs.declared.place.Place.{Place}
@@ -12,77 +12,79 @@ use Rattle.scc_index.specs.IndexSteps.{Inserts}
 use Rattle.scc_common.specs.declared.errors.InsertError.{InsertError}
 
 module _ {K V S : Type 0} (eq : K → K → Bool) (hash_of : S → K → ℕ) where
-  -- what `insert_sync` of the pair p, answered so, does to the pairs and to the array
+  -- the contract of `insert_sync`: with the pair p it returns `result`, and turns c into d
   pub record InsertsByRule (c : Contents (K × V) S) (p : K × V) (result : Result (Unit {0}) (InsertError K V)) (d : Contents (K × V) S) : Type 0 where
-    -- a new key is added; a key that is there stays as it is, and the supplied pair comes back
+    -- a new key is added; if the key is there, it stays as it is, and the supplied pair comes back
     pub step : Inserts eq c p result d
-    -- where it succeeds, a look-up finds the new pair, and of other keys what it found
+    -- if it succeeds, a look-up of the key finds the new pair, and every other look-up what it found before
     pub finds : OnOk result (FindsInstead eq (entries c) p.0 (Some p) (entries d))
-    -- where it fails, a look-up finds what it found
+    -- if it fails, every look-up finds what it found before
     pub same : OnErr result ((q : K) → find eq (entries d) q ≡ find eq (entries c) q)
     -- the number of buckets changes only by a first array or a doubling
     pub growth : Grows c d
-    -- it stays where the key is new and its bucket has room
+    -- the number of buckets stays if the key is new and its bucket has room
     pub kept : find eq (entries c) p.0 ≡ None → HasRoom (hash_of (settings_of c).hasher) c p.0 → bucket_count d ≡ bucket_count c
-    -- and where room was made before
+    -- the number of buckets stays if the insertion was prepared
     pub once : IsPreparedFor (hash_of (settings_of c).hasher) (λ x. x.0) c p.0 → bucket_count d ≡ bucket_count c
-    -- where it succeeds and a growth is due, it is doubled, unless memory for that was refused
+    -- if it succeeds and a growth is due, the number of buckets is doubled, unless memory for it was refused
     pub due : OnOk result (GrowsWhenDue (hash_of (settings_of c).hasher) (λ x. x.0) c p.0 d)
-    -- where it fails, the note of refused memory rises only where a growth is due
+    -- if it fails, the note of refused memory rises only if a growth is due
     pub raised : OnErr result (RaisesWhenDue (hash_of (settings_of c).hasher) (λ x. x.0) c p.0 d)
-    -- and where a new key is refused and a growth is due, it is up
+    -- if a new key is refused memory and a growth is due, the note of refused memory is up
     pub undone : find eq (entries c) p.0 ≡ None → OnErr result (GrowsWhenDue (hash_of (settings_of c).hasher) (λ x. x.0) c p.0 d)
     -- the first array has the size of the minimum
     pub first : OnOk result (FirstArrayWhenDue c d)
-    -- the note of refused memory stays where the key is there
+    -- note and mark stay if the key is there
     pub noted : IsSome (find eq (entries c) p.0) → refused_of d ≡ refused_of c
-    -- a new key relocates two buckets at most
+    -- a new key relocates at most two buckets
     pub relocates : find eq (entries c) p.0 ≡ None → Relocates c d
-    -- its own first, and two exactly where none of them is long, else at least those before a long one
+    -- it relocates the key's own bucket first and then the first ones that wait, two in all, or all if fewer wait; if
+    -- some of them are long, at least those before a long one
     pub two : find eq (entries c) p.0 ≡ None → OnOk result (RelocatesTwo (hash_of (settings_of c).hasher p.0) c d)
-    -- a key that is there relocates none
+    -- a key that is there relocates no bucket
     pub waiting : IsSome (find eq (entries c) p.0) → waiting_of d ≡ waiting_of c
     -- no two keys are equal
     pub unique : IsUnique eq d
 
-  -- what an insertion of the pair p, whose key is new, answered so, does to the pairs and to the array
+  -- the contract of `insert_new`: with the pair p, whose key is new, it returns `result`, and turns c into d
   pub record InsertsNewByRule (c : Contents (K × V) S) (p : K × V) (result : Result Place (K × V)) (d : Contents (K × V) S) : Type 0 where
-    -- the pair was added, and stands at the place that is answered
+    -- the pair is inserted, and the result is its place
     pub ok : IfOk result (IsInsertedAt c p d)
-    -- where it fails, the pair comes back
+    -- if memory is refused, the pair comes back
     pub refused : IfErr result (λ q. q ≡ p)
-    -- and nothing changed
+    -- if memory is refused, nothing changed
     pub unchanged : OnErr result (IsUnchanged c d)
-    -- the note of refused memory rises only where a growth is due
+    -- if memory is refused, the note rises only if a growth is due
     pub raised : OnErr result (RaisesWhenDue (hash_of (settings_of c).hasher) (λ x. x.0) c p.0 d)
-    -- and is up where one is due
+    -- if memory is refused and a growth is due, the note is up
     pub undone : OnErr result (GrowsWhenDue (hash_of (settings_of c).hasher) (λ x. x.0) c p.0 d)
-    -- where it succeeds, the array grows as it may and has to
+    -- if it succeeds, the array grows as an insertion of the key may and must grow it
     pub grows : OnOk result (GrowsForInsertion (hash_of (settings_of c).hasher) (λ x. x.0) c p.0 d)
     -- the first array has the size of the minimum
     pub first : OnOk result (FirstArrayWhenDue c d)
-    -- it relocates two buckets at most
+    -- it relocates at most two buckets
     pub relocates : Relocates c d
-    -- its own first, and two exactly where none of them is long, else at least those before a long one
+    -- it relocates the key's own bucket first and then the first ones that wait, two in all, or all if fewer wait; if
+    -- some of them are long, at least those before a long one
     pub two : OnOk result (RelocatesTwo (hash_of (settings_of c).hasher p.0) c d)
     -- no two keys are equal
     pub unique : IsUnique eq d
 
-  -- what `prepare` for the key k, answered so, does to an index
+  -- the contract of `prepare`: with the key k it returns `result`, and turns c into d
   pub record PreparesByRule {X : Type 0} (c : Contents (K × V) S) (k : K) (result : Result (Unit {0}) X) (d : Contents (K × V) S) : Type 0 where
-    -- a key that is there wants nothing
+    -- for a key that is there nothing is made
     pub present : IsSome (find eq (entries c) k) → IsOk result × (d ≡ c)
-    -- for a new key all is made that its insertion wants
+    -- for a new key all is made that its insertion would have to make first
     pub ok : find eq (entries c) k ≡ None → OnOk result (Prepares (hash_of (settings_of c).hasher) (λ x. x.0) c (hash_of (settings_of c).hasher k) d)
-    -- what becomes of the note of refused memory and of the mark of a growth that was tried
+    -- how the note of refused memory and the mark of a refused growth change
     pub marks : find eq (entries c) k ≡ None → MarksPreparation (hash_of (settings_of c).hasher) (λ x. x.0) c (hash_of (settings_of c).hasher k) d
-    -- a growth is marked as tried only where it was before, or where refused memory is noted
+    -- the mark is there only if it was there before, or if refused memory is noted
     pub marked : (refused_of d).1 ≡ true → ((refused_of c).1 ≡ true) ⊎ ((refused_of d).0 ≡ true)
-    -- it fails only where the first array is refused to a new key
+    -- it fails only for a new key without an array
     pub err : OnErr result ((find eq (entries c) k ≡ None) × (bucket_count c ≡ 0))
-    -- and then nothing changed
+    -- if it fails, nothing changes
     pub same : OnErr result (d ≡ c)
-    -- hasher and sizes stay
+    -- the settings stay
     pub settings : settings_of d ≡ settings_of c
     -- no two keys are equal
     pub unique : IsUnique eq d

@@ -1,4 +1,4 @@
-//! The entries of an index that is borrowed.
+//! The entries of a borrowed index.
 
 mod insertions;
 mod methods;
@@ -9,7 +9,7 @@ use crate::held::{HeldEntry, HeldOccupied, HeldVacant};
 pub use scc_snapshot::Iter;
 use std::hash::{BuildHasherDefault, FoldHasher};
 
-/// The entry of a key. While it is held, the index is borrowed.
+/// The entry of a key. It borrows the index.
 pub type Entry<'a, K, V, H = BuildHasherDefault<FoldHasher>> = HeldEntry<
     &'a mut Owned<K, V, H>,
     (),
@@ -18,7 +18,7 @@ pub type Entry<'a, K, V, H = BuildHasherDefault<FoldHasher>> = HeldEntry<
     H,
 >;
 
-/// An entry that the index has, at its place.
+/// An occupied entry: the place of a version of the index.
 pub type OccupiedEntry<'a, K, V, H = BuildHasherDefault<FoldHasher>> = HeldOccupied<
     &'a mut Owned<K, V, H>,
     (),
@@ -27,7 +27,7 @@ pub type OccupiedEntry<'a, K, V, H = BuildHasherDefault<FoldHasher>> = HeldOccup
     H,
 >;
 
-/// A key that the index lacks, with its hash.
+/// A vacant entry: a key that the index lacks, with its hash.
 pub type VacantEntry<'a, K, V, H = BuildHasherDefault<FoldHasher>> = HeldVacant<
     &'a mut Owned<K, V, H>,
     (),

@@ -1,5 +1,5 @@
-//! An entry of an index: a key's place, found once and held. It holds its index by a guard, a `&mut` in the owned form,
-//! and is generic in it.
+//! An entry of an index: what a caller holds of a key after one search. It holds its index by a guard, which is a
+//! `&mut` in the owned form, and is generic in the guard.
 ghost use Rattle.scc_contents.specs.Contents.{entries, key_hash};
 ghost use Rattle.scc_contents.specs.Pairs.{find};
 ghost use Rattle.scc_table.specs.Places.{IsPlace};
@@ -14,7 +14,7 @@ use scc_common::Guard;
 use std::hash::{BuildHasher, Hash};
 use std::marker::PhantomData;
 
-/// An entry that the index has, at its place.
+/// An occupied entry: the place of a version of the index.
 #[derive(Drop)]
 pub struct HeldOccupied<G: Guard<Inner = Owned<K, V, H>>, N, K: Eq + Hash, V, H: BuildHasher> {
     pub(crate) guard: G,
@@ -24,7 +24,7 @@ pub struct HeldOccupied<G: Guard<Inner = Owned<K, V, H>>, N, K: Eq + Hash, V, H:
     ghost within: { IsPlace (G.inner guard) place },
 }
 
-/// A key that the index lacks, with its hash.
+/// A vacant entry: a key that the index lacks, with its hash.
 #[derive(Drop)]
 pub struct HeldVacant<G: Guard<Inner = Owned<K, V, H>>, N, K: Eq + Hash, V, H: BuildHasher> {
     pub(crate) guard: G,
@@ -36,7 +36,7 @@ pub struct HeldVacant<G: Guard<Inner = Owned<K, V, H>>, N, K: Eq + Hash, V, H: B
     ghost hashed: { hash ≡ key_hash H.BuildHasher H.Hasher.Hasher K.hash_input (G.inner guard) key },
 }
 
-/// The entry of a key.
+/// The entry of a key, occupied or vacant.
 #[derive(Drop)]
 pub enum HeldEntry<G: Guard<Inner = Owned<K, V, H>>, N, K: Eq + Hash, V, H: BuildHasher> {
     Occupied(HeldOccupied<G, N, K, V, H>),

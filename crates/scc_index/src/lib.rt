@@ -1,4 +1,4 @@
-//! A hash index over the table of `scc_table`, for one owner: a map whose entries are immutable versions that readers
+//! A hash index for one owner, over the table of `scc_table`: a map whose entries are immutable versions that readers
 //! keep.
 #![tactic(auto)]
 
@@ -37,11 +37,11 @@ use std::hash::{BuildHasher, BuildHasherDefault, FoldHasher, Hash};
 use std::marker::Model;
 use std::sync::Arc;
 
-/// An index from keys to versions, no two keys equal. An entry is a version of a key and a value that never changes,
-/// and that readers may keep. A contract sees the pairs of the versions in the index's own order as `entries m`, the
-/// number of its buckets as `bucket_count m`, and its hasher and sizes as `settings_of m`.
+/// An index from keys to versions, in which no two keys are equal. An entry is a version: a key and a value that never
+/// change, and that readers may keep. A contract sees the pairs of the versions in the index's own order as `entries
+/// m`, the number of its buckets as `bucket_count m`, and its hasher and sizes as `settings_of m`.
 ///
-/// The default hasher has a fixed seed. For keys that an attacker picks, write `Owned::with_hasher(alloc,
+/// The default hasher has a fixed seed. For keys that an attacker chooses, use `Owned::with_hasher(alloc,
 /// RandomState::new(&rt)?)`.
 #[derive(Drop)]
 pub struct Owned<K: Eq + Hash, V, H: BuildHasher = BuildHasherDefault<FoldHasher>> {
@@ -57,7 +57,7 @@ impl<K: Eq + Hash, V, H: BuildHasher> Model for Owned<K, V, H> {
 }
 
 impl<K: Eq + Hash, V, H: BuildHasher> Owned<K, V, H> {
-    /// The number of pairs.
+    /// Returns the number of pairs.
     #[inline(always)]
     pub fn len(&self) -> usize
         ensures len { result ≡ length (entries self.now) }
@@ -66,7 +66,7 @@ impl<K: Eq + Hash, V, H: BuildHasher> Owned<K, V, H> {
         self.table.len()
     }
 
-    /// Whether there is no pair.
+    /// Returns whether there is no pair.
     #[inline(always)]
     pub fn is_empty(&self) -> bool
         ensures { IsTrue result ↔ (entries self.now ≡ []) }
@@ -74,7 +74,8 @@ impl<K: Eq + Hash, V, H: BuildHasher> Owned<K, V, H> {
         self.table.len() == 0
     }
 
-    /// The slots of the array, 32 a bucket; 0 without an array. It is no bound on the number of pairs.
+    /// Returns the number of slots of the array, 32 a bucket, or 0 without an array. There may be more pairs than
+    /// slots.
     #[inline(always)]
     pub fn capacity(&self) -> usize
         ensures { result ≡ 32 * bucket_count self.now }
@@ -82,8 +83,8 @@ impl<K: Eq + Hash, V, H: BuildHasher> Owned<K, V, H> {
         32 * self.table.bucket_count()
     }
 
-    /// Whether memory was refused for the last resize that was due. The next one that is made lowers it. Where it is
-    /// false after a call that had to resize, the index has the size that the rules ask for.
+    /// Returns whether memory was refused for the last resize that was due. The next resize that is made clears this
+    /// note. If the result is false after a call that had to resize, the index has the size that the rules ask for.
     #[inline(always)]
     pub fn is_resize_refused(&self) -> bool
         ensures { result ≡ (refused_of self.now).0 }
@@ -91,8 +92,9 @@ impl<K: Eq + Hash, V, H: BuildHasher> Owned<K, V, H> {
         self.table.is_resize_refused()
     }
 
-    /// Whether there is an array and the bucket of `k` holds fewer than 32 pairs. An insertion of `k` then makes its
-    /// version, and no other memory is asked for.
+    /// Returns whether there is an array and the bucket of `k` holds fewer than 32 pairs. If so, an insertion of `k`
+    /// can be refused memory for its version alone, and allocates nothing else unless it relocates another bucket of
+    /// more than 32 pairs.
     #[inline(always)]
     pub fn has_room(&self, k: &K) -> bool
         ensures { IsTrue result ↔ HasRoom (hash_in ⟦<H as Hashes<K>>⟧.hash_of self.now) self.now k.now }
@@ -100,7 +102,7 @@ impl<K: Eq + Hash, V, H: BuildHasher> Owned<K, V, H> {
         self.table.has_room(k)
     }
 
-    /// Whether a key equals `k`.
+    /// Returns whether a key equals `k`.
     #[inline(always)]
     pub fn contains(&self, k: &K) -> bool
         ensures { IsTrue result ↔ IsSome (find K.eq (entries self.now) k.now) }
@@ -112,7 +114,8 @@ impl<K: Eq + Hash, V, H: BuildHasher> Owned<K, V, H> {
         }
     }
 
-    /// The version of `k`, or None where there is none. It takes no memory, counts no owner and takes no lock.
+    /// Returns the version of `k`, or `None` if no key equals `k`. Allocates nothing, counts no owner and takes no
+    /// lock.
     #[inline(always)]
     pub fn peek(&self, k: &K) -> Option<&Version<K, V>>
         ensures { MatchOption result (find K.eq (entries self.now) k.now ≡ None)
@@ -125,8 +128,9 @@ impl<K: Eq + Hash, V, H: BuildHasher> Owned<K, V, H> {
         }
     }
 
-    /// The same as `contains`, by the hash of `k` under some hasher: where the index's own hasher gives the same, the
-    /// version is there and no bucket waits, `k` isn't hashed again.
+    /// Returns whether a key equals `k`, as `contains` does. The search begins with `hint`, the hash of `k` under some
+    /// hasher. If the index's own hasher gives the same hash, the version is there and no bucket waits, `k` isn't
+    /// hashed again.
     #[inline(always)]
     pub fn contains_by_hint(&self, hint: u64, k: &K) -> bool
         ensures { IsTrue result ↔ IsSome (find K.eq (entries self.now) k.now) }
@@ -137,7 +141,7 @@ impl<K: Eq + Hash, V, H: BuildHasher> Owned<K, V, H> {
         }
     }
 
-    /// The same as `peek`, by such a hash.
+    /// Returns the version of `k`, as `peek` does. The search begins with `hint`, as in `contains_by_hint`.
     #[inline(always)]
     pub fn peek_by_hint(&self, hint: u64, k: &K) -> Option<&Version<K, V>>
         ensures { MatchOption result (find K.eq (entries self.now) k.now ≡ None)
@@ -149,7 +153,7 @@ impl<K: Eq + Hash, V, H: BuildHasher> Owned<K, V, H> {
         }
     }
 
-    /// The same as `peek_with`, by such a hash.
+    /// Reads the pair of `k` as `peek_with` does. The search begins with `hint`, as in `contains_by_hint`.
     #[inline(always)]
     pub fn peek_with_by_hint<R, F: FnOnce(&K, &V) -> R>(&self, hint: u64, k: &K, f: F) -> Option<R>
         requires { (a : Bor K) (b : Bor V) → find K.eq (entries self.now) k.now ≡ Some (a.now, b.now) → F.pre f a b }
@@ -161,8 +165,8 @@ impl<K: Eq + Hash, V, H: BuildHasher> Owned<K, V, H> {
         }
     }
 
-    /// The version of `k` to keep, or None where there is none. The version stays what it is and lives as long as its
-    /// holders. It takes no memory, and is refused where the version has 2^63 - 1 owners.
+    /// Returns the version of `k` to keep, or `None` if no key equals `k`. The version never changes and lives as long
+    /// as its holders. Allocates nothing. Fails if the version has 2^63 - 1 owners.
     pub fn peek_shared(&self, k: &K) -> Result<Option<Arc<Version<K, V>>>, MakeError>
         ensures version { IfOk result (λ o. MatchOption o (find K.eq (entries self.now) k.now ≡ None)
             (λ a. find K.eq (entries self.now) k.now ≡ Some (arc_value a))) }
@@ -178,7 +182,7 @@ impl<K: Eq + Hash, V, H: BuildHasher> Owned<K, V, H> {
         }
     }
 
-    /// The answer of `f` on the pair of `k`, or None where there is none; then `f` isn't called.
+    /// Returns the result of `f` on the pair of `k`. If no key equals `k`, returns `None` and doesn't call `f`.
     #[inline(always)]
     pub fn peek_with<R, F: FnOnce(&K, &V) -> R>(&self, k: &K, f: F) -> Option<R>
         requires { (a : Bor K) (b : Bor V) → find K.eq (entries self.now) k.now ≡ Some (a.now, b.now) → F.pre f a b }
@@ -190,7 +194,7 @@ impl<K: Eq + Hash, V, H: BuildHasher> Owned<K, V, H> {
         }
     }
 
-    /// The same as `peek_with`.
+    /// Reads the pair of `k` as `peek_with` does.
     #[inline(always)]
     pub fn read_sync<R, F: FnOnce(&K, &V) -> R>(&self, k: &K, f: F) -> Option<R>
         requires { (a : Bor K) (b : Bor V) → find K.eq (entries self.now) k.now ≡ Some (a.now, b.now) → F.pre f a b }
@@ -199,9 +203,10 @@ impl<K: Eq + Hash, V, H: BuildHasher> Owned<K, V, H> {
         self.peek_with(k, f)
     }
 
-    /// Inserts a version of the pair where no key equals `k`. Where one does, the index stays as it is, and the
-    /// supplied pair comes back; so it does where memory for the version, or for room that the insertion needs, is
-    /// refused, since all memory is asked for before anything is changed.
+    /// Inserts a version of the pair if no key equals `k`. If a key equals `k`, the index stays as it is and the
+    /// supplied pair comes back. The pair also comes back if memory for the version, for the first array, for the
+    /// versions that its bucket waits for or for its overflow list is refused: all memory is asked for before anything
+    /// changes. A doubling whose memory is refused doesn't make the insertion fail.
     #[inline(always)]
     pub fn insert_sync(&mut self, k: K, v: V) -> Result<(), InsertError<K, V>>
         ensures { InsertsByRule K.eq ⟦<H as Hashes<K>>⟧.hash_of self.old (k, v) result self.new }
@@ -216,11 +221,12 @@ impl<K: Eq + Hash, V, H: BuildHasher> Owned<K, V, H> {
         }
     }
 
-    /// Makes what an insertion of `k` wants but its version, at most one resize: the first array, or twice as many
-    /// buckets where that is due, all of which wait then. A key that is there wants nothing. A growth that is refused
-    /// is noted, and marked: the insertion of `k` that follows doesn't try it again, so that it makes no resize in any
-    /// case. A growth that is made takes note and mark away; where none is due, both stay. This fails only where the
-    /// first array is refused, and then nothing changes.
+    /// Makes what an insertion of `k` would have to make first, except its version, at most one resize: the first
+    /// array, or an array of twice as many buckets if a growth is due; then all buckets wait. If a key equals `k`,
+    /// nothing is made. A growth whose memory is refused is noted and marked: the insertion of `k` that follows
+    /// doesn't try the growth again, so it makes no resize in any case. A growth that is made takes note and mark
+    /// away; if no growth is due, both stay. Fails only if memory for the first array is refused, and then nothing
+    /// changes.
     pub fn prepare(&mut self, k: &K) -> Result<(), MakeError>
         ensures { PreparesByRule K.eq ⟦<H as Hashes<K>>⟧.hash_of self.old k.now result self.new }
     {
@@ -234,8 +240,8 @@ impl<K: Eq + Hash, V, H: BuildHasher> Owned<K, V, H> {
         }
     }
 
-    /// Takes the mark of a refused growth away, and changes nothing else: an insertion tries a growth that is due, also
-    /// where `prepare` was refused it.
+    /// Takes the mark of a refused growth away, and changes nothing else. An insertion then tries a growth that is
+    /// due, even if `prepare` was refused memory for it.
     pub fn drop_mark(&mut self)
         ensures same { IsUnchanged self.old self.new }
         ensures lists { lists_of self.new ≡ lists_of self.old }
@@ -246,8 +252,8 @@ impl<K: Eq + Hash, V, H: BuildHasher> Owned<K, V, H> {
         self.table.drop_mark();
     }
 
-    /// Takes out the version whose key equals `k`, and answers whether there was one. Who kept the version keeps it.
-    /// After a removal the array may become smaller.
+    /// Removes the version whose key equals `k`, and returns whether there was one. Holders of the version keep it.
+    /// After a removal the array may shrink.
     #[inline(always)]
     pub fn remove_sync(&mut self, k: &K) -> bool
     where
@@ -262,8 +268,8 @@ impl<K: Eq + Hash, V, H: BuildHasher> Owned<K, V, H> {
         }
     }
 
-    /// Takes out the version of `k` where `f` answers true on its value, and answers whether it did. `f` isn't called
-    /// where no key equals `k`. After a removal the array may become smaller.
+    /// Calls `f` on the value of `k`, removes the version if `f` returns true, and returns the result of `f`. If no
+    /// key equals `k`, `f` isn't called and the result is false. After a removal the array may shrink.
     #[inline(always)]
     pub fn remove_if_sync<F: FnOnce(&V) -> bool>(&mut self, k: &K, f: F) -> bool
     where
@@ -286,8 +292,8 @@ impl<K: Eq + Hash, V, H: BuildHasher> Owned<K, V, H> {
         }
     }
 
-    /// Calls `f` on the pairs in some order, each at most once, until its first false, and answers false where it
-    /// stopped.
+    /// Calls `f` on the pairs in some order, each at most once, until `f` returns false. Returns false if it did, else
+    /// true.
     #[inline(always)]
     pub fn iter_sync<F: FnMut(&K, &V) -> bool>(&self, f: F) -> bool
         requires { (es : List (K × V)) → IsPermutation (entries self.now) es → CallableWhile F.FnMut true f es }

@@ -1,4 +1,4 @@
-//! What is done at a place of an index.
+//! The calls at a place of an index.
 ghost use Rattle.scc_array.specs.ShelfWrites.{put_whole};
 ghost use Rattle.scc_contents.specs.Contents.{entries, bucket_count, minimum_of, hash_in};
 ghost use Rattle.scc_contents.specs.Pairs.{find, IsUnique};
@@ -16,14 +16,14 @@ use scc_contents::Hashes;
 use std::hash::{BuildHasher, Hash};
 
 impl<K: Eq + Hash, V, H: BuildHasher> Owned<K, V, H> {
-    /// The hash of a key.
+    /// Returns the hash of `k`.
     pub(crate) fn hash_of(&self, k: &K) -> u64
         ensures { result ≡ hash_in ⟦<H as Hashes<K>>⟧.hash_of self.now k.now }
     {
         self.table.hash(k)
     }
 
-    /// The place of the version of `k`, whose hash it is.
+    /// Returns the place of the version of `k`, or `None`. `hash` must be the hash of `k`.
     pub(crate) fn place_of(&self, hash: u64, k: &K) -> Option<Place>
         requires { hash ≡ hash_in ⟦<H as Hashes<K>>⟧.hash_of self.now k.now }
         ensures place { MatchOption result (find K.eq (entries self.now) k.now ≡ None)
@@ -33,7 +33,7 @@ impl<K: Eq + Hash, V, H: BuildHasher> Owned<K, V, H> {
         self.table.search(hash, k)
     }
 
-    /// The key and the value at the place.
+    /// Returns the key and the value at `place`.
     #[inline(always)]
     pub fn pair_at(&self, place: Place) -> (&K, &V)
         requires { IsPlace self.now place }
@@ -43,7 +43,7 @@ impl<K: Eq + Hash, V, H: BuildHasher> Owned<K, V, H> {
         (version.key(), version.value())
     }
 
-    /// Takes the version out of its place.
+    /// Removes the version at `place`. Then the array may shrink.
     pub(crate) fn remove_at(&mut self, place: Place)
     where
         K: Drop,
@@ -60,7 +60,8 @@ impl<K: Eq + Hash, V, H: BuildHasher> Owned<K, V, H> {
         let _version = self.table.remove_at(place);
     }
 
-    /// Puts in a version of a pair whose key is new, and answers its place.
+    /// Inserts a version of a pair whose key is new, and returns its place. `hash` must be the hash of `k`. If memory
+    /// is refused, the pair comes back.
     pub(crate) fn insert_new(&mut self, hash: u64, k: K, v: V) -> Result<Place, (K, V)>
         requires hashed { hash ≡ hash_in ⟦<H as Hashes<K>>⟧.hash_of self.old k }
         requires absent { find K.eq (entries self.old) k ≡ None }
@@ -69,8 +70,8 @@ impl<K: Eq + Hash, V, H: BuildHasher> Owned<K, V, H> {
         self.table.insert_made(hash, (k, v))
     }
 
-    /// A version of the value and a clone of the key at the place. Refused for want of memory, and where the clone
-    /// can't be had or differs from the key, it hands the value back.
+    /// Returns a version of `value` and a clone of the key at `place`. If memory is refused, the clone fails or the
+    /// clone differs from the key, `value` comes back.
     pub(crate) fn next_version(&self, place: Place, value: V) -> Result<SharedVersion<K, V>, V>
     where
         K: Clone + Drop,
@@ -95,7 +96,7 @@ impl<K: Eq + Hash, V, H: BuildHasher> Owned<K, V, H> {
         }
     }
 
-    /// Puts the version in the place of the one there, whose key it equals.
+    /// Puts `version` in the place of the version at `place`, whose key must equal its key.
     pub(crate) fn put_at(&mut self, place: Place, version: SharedVersion<K, V>)
     where
         K: Drop,

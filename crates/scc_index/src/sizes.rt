@@ -11,16 +11,16 @@ use std::hash::{BuildHasher, Hash};
 use std::ops::RangeInclusive;
 
 impl<K: Eq + Hash, V, H: BuildHasher> Owned<K, V, H> {
-    /// Raises the minimum by so many slots, and answers the token that gives them back; None for 0, and where the
-    /// minimum would pass the greatest capacity. An array with fewer slots than the minimum grows, unless memory is
-    /// refused; the token comes all the same.
+    /// Raises the minimum by `additional` slots, and returns the token that gives them back. Returns `None` if
+    /// `additional` is 0 or the minimum would pass the greatest capacity. An array with fewer slots than the minimum
+    /// grows, unless memory is refused; the token is returned in any case.
     pub fn reserve(&mut self, additional: usize) -> Option<Reservation>
         ensures { ReservesByRule K.eq additional self.old result self.new }
     {
         self.table.reserve(additional)
     }
 
-    /// Gives reserved slots back, and tries to make the array smaller. A token for more slots than what is reserved
+    /// Gives the slots of `reservation` back, and tries to shrink the array. A token for more slots than are reserved
     /// here comes back, and nothing changes.
     pub fn release(&mut self, reservation: Reservation) -> Result<(), Reservation>
         ensures { ReleasesByRule K.eq reservation self.old result self.new }
@@ -32,7 +32,7 @@ impl<K: Eq + Hash, V, H: BuildHasher> Owned<K, V, H> {
         }
     }
 
-    /// From the slots that the array keeps at least to those that it may grow to.
+    /// Returns the range of slots that the array may have: from the minimum to the most that it may grow to.
     pub fn capacity_range(&self) -> RangeInclusive<usize>
         ensures low { result.start ≡ minimum_of self.now }
         ensures high { result.end ≡ 2 ^ 63 }
@@ -40,15 +40,15 @@ impl<K: Eq + Hash, V, H: BuildHasher> Owned<K, V, H> {
         self.table.minimum()..=GREATEST_CAPACITY
     }
 
-    /// The number of the bucket of `k`, 0 without an array.
+    /// Returns the number of the bucket of `k`, or 0 without an array.
     pub fn bucket_index(&self, k: &K) -> usize
         ensures index { result ≡ bucket_of (hash_in ⟦<H as Hashes<K>>⟧.hash_of self.now) self.now k.now }
     {
         self.table.bucket_index(k)
     }
 
-    /// How many buckets wait for their pairs to come from an old array. Each insertion of a new key lets two of them
-    /// take their pairs over.
+    /// Returns how many buckets wait for their pairs from an old array. Each insertion of a new key relocates up to
+    /// two of them.
     pub fn pending(&self) -> usize
         ensures { result ≡ pending_of self.now }
     {

@@ -10,8 +10,8 @@ use std::hash::{BuildHasher, Hash};
 use std::sync::Arc;
 
 impl<K: Eq + Hash, V, H: BuildHasher> Owned<K, V, H> {
-    /// A snapshot of the versions, in the index's own order. It is refused for want of memory, and where a version has
-    /// 2^63 - 1 owners.
+    /// Returns a snapshot of the versions, in the index's own order. Fails if memory is refused or a version has 2^63
+    /// - 1 owners.
     pub fn iter(&self) -> Result<Iter<K, V>, MakeError>
     where
         K: Drop,
@@ -28,8 +28,8 @@ impl<K: Eq + Hash, V, H: BuildHasher> Owned<K, V, H> {
         }
     }
 
-    /// Adds the versions to a list, in the index's own order. It is refused for want of memory, and where a version has
-    /// 2^63 - 1 owners; then the first versions were added.
+    /// Adds the versions to `versions`, in the index's own order. Fails if memory is refused or a version has 2^63 - 1
+    /// owners; then the versions before the failure were added.
     pub fn iter_into(&self, versions: &mut Vec<Arc<Version<K, V>>>) -> Result<(), MakeError>
     where
         K: Drop,

@@ -17,7 +17,7 @@ use scc_buckets::Place;
 use std::hash::{BuildHasher, Hash};
 
 impl<K: Eq + Hash, V, H: BuildHasher> Owned<K, V, H> {
-    /// Takes out all versions. Then the array may become smaller.
+    /// Removes all versions. Then the array may shrink.
     pub fn clear_sync(&mut self)
     where
         K: Drop,
@@ -28,7 +28,7 @@ impl<K: Eq + Hash, V, H: BuildHasher> Owned<K, V, H> {
         self.table.shrink();
     }
 
-    /// Takes out all versions, with no resize.
+    /// Removes all versions, without a resize.
     fn take_all(&mut self)
     where
         K: Drop,
@@ -43,8 +43,8 @@ impl<K: Eq + Hash, V, H: BuildHasher> Owned<K, V, H> {
         }
     }
 
-    /// Calls `f` on every pair once, in some order, and takes out the versions of the pairs on which it answers false.
-    /// Then the array may become smaller.
+    /// Calls `f` on every pair once, in some order, and removes the versions of the pairs on which `f` returns false.
+    /// Then the array may shrink.
     pub fn retain_sync<F: FnMut(&K, &V) -> bool>(&mut self, f: F)
     where
         K: Drop,
@@ -63,7 +63,7 @@ impl<K: Eq + Hash, V, H: BuildHasher> Owned<K, V, H> {
         self.retain_lent(&mut f);
     }
 
-    /// As `retain_sync`, with a closure that is lent, and goes on to other indexes.
+    /// As `retain_sync`, but the closure is lent, and can go on to other indexes.
     pub fn retain_lent<F: FnMut(&K, &V) -> bool>(&mut self, f: &mut F)
     where
         K: Drop,
@@ -82,7 +82,7 @@ impl<K: Eq + Hash, V, H: BuildHasher> Owned<K, V, H> {
         self.table.shrink();
     }
 
-    /// The same in the order of the list, with no resize.
+    /// Walks as `retain_lent` does, in the order of the list and without a resize.
     fn retain_all<F: FnMut(&K, &V) -> bool>(&mut self, f: &mut F)
     where
         K: Drop,
@@ -104,14 +104,14 @@ impl<K: Eq + Hash, V, H: BuildHasher> Owned<K, V, H> {
         }
     }
 
-    /// The place of the first version of the list, or None where the index is empty.
+    /// Returns the place of the first version of the list, or `None` if the index is empty.
     pub fn first_place(&self) -> Option<Place>
         ensures { MatchOption result (entries self.now ≡ []) (StandsAt self.now 0) }
     {
         self.table.first_place()
     }
 
-    /// The place after that one, or None where it is the last.
+    /// Returns the place after `place`, or `None` if `place` is the last.
     pub fn next_place(&self, place: Place) -> Option<Place>
         requires { IsPlace self.now place }
         ensures { MatchOption result (suc (index_of self.now place) ≡ length (entries self.now))
@@ -120,7 +120,7 @@ impl<K: Eq + Hash, V, H: BuildHasher> Owned<K, V, H> {
         self.table.next_place(place)
     }
 
-    /// Takes the version out of its place, with no resize, and answers the place of the one that followed.
+    /// Removes the version at `place` without a resize, and returns the place of the version that followed.
     pub(crate) fn take_with_next(&mut self, place: Place) -> Option<Place>
     where
         K: Drop,
@@ -137,7 +137,8 @@ impl<K: Eq + Hash, V, H: BuildHasher> Owned<K, V, H> {
         next
     }
 
-    /// The place of the first pair on which `p` answers true. It is called on the pairs in their order, up to that one.
+    /// Returns the place of the first pair on which `p` returns true, or `None`. Calls `p` on the pairs in the order
+    /// of the list until it returns true.
     pub(crate) fn first_passing<P: FnMut(&K, &V) -> bool>(&self, p: &mut P) -> Option<Place>
         requires { CallableWhile P.FnMut false p.old (entries self.now) }
         ensures { MatchOption result (Declines (CalledOn P.FnMut) p.old (entries self.now) p.new)
@@ -155,8 +156,8 @@ impl<K: Eq + Hash, V, H: BuildHasher> Owned<K, V, H> {
         None
     }
 
-    /// Calls `f` on the pairs in the order of the list until its first false, and answers false where it stopped. The
-    /// closure is lent, and goes on to other indexes.
+    /// Calls `f` on the pairs in the order of the list until `f` returns false. Returns false if it did, else true.
+    /// The closure is lent, and can go on to other indexes.
     pub fn iter_lent<F: FnMut(&K, &V) -> bool>(&self, f: &mut F) -> bool
         requires { CallableWhile F.FnMut true f.old (entries self.now) }
         ensures { Walks (CalledOn F.FnMut) f.old (entries self.now) result f.new }

@@ -1,4 +1,4 @@
-//! What is done with a whole index: comparisons and clones.
+//! The calls on a whole index: comparisons and clones.
 ghost use Rattle.scc_contents.specs.Clones.{HasClones};
 ghost use Rattle.scc_contents.specs.Contents.{entries, refused_of, waiting_of};
 ghost use Rattle.scc_contents.specs.Copies.{IsCopied};
@@ -15,7 +15,7 @@ use std::alloc::AllocError;
 use std::hash::{BuildHasher, Hash};
 
 impl<K: Eq + Hash, V, H: BuildHasher> Owned<K, V, H> {
-    /// A clone of the value of `k`, or None where there is none. The version stays with the index.
+    /// Returns a clone of the value of `k`, or `None` if no key equals `k`. The version stays in the index.
     pub fn cloned_value(&self, k: &K) -> Result<Option<V>, AllocError>
     where
         V: Clone,
@@ -29,9 +29,9 @@ impl<K: Eq + Hash, V, H: BuildHasher> Owned<K, V, H> {
         }
     }
 
-    /// An index with new versions of clones of all pairs under a clone of the hasher, of the same capacity, which is
-    /// its minimum; no bucket of it waits, and no resize of it was refused. It is refused for want of memory, and where
-    /// a clone can't be had or two keys' clones are equal.
+    /// Returns an index with new versions of clones of all pairs, and a clone of the hasher. It has the capacity of
+    /// this index as its capacity and its minimum; no bucket of it waits, and no refused resize is noted. Fails if
+    /// memory is refused, a clone fails, or the clones of two keys are equal.
     pub fn try_clone(&self) -> Result<Self, MakeError>
     where
         K: Clone,
@@ -67,7 +67,7 @@ impl<K: Eq + Hash, V: PartialEq, H: BuildHasher> PartialEq for Owned<K, V, H> {
           K.Eq.laws (λ p q r. v.trans p.1 q.1 r.1) (entries l) (entries m) (entries n);
     } };
 
-    /// Whether each pair of either index has its key with an equal value in the other.
+    /// Returns whether each pair of either index has its key with an equal value in the other index.
     fn eq(&self, other: &Self) -> bool {
         self.len() == other.len() && self.is_within(other)
     }
@@ -88,7 +88,7 @@ impl<K: Eq + Hash, V: Eq, H: BuildHasher> Eq for Owned<K, V, H> {
 }
 
 impl<K: Eq + Hash, V: PartialEq, H: BuildHasher> Owned<K, V, H> {
-    /// Whether there is a pair whose key equals `k`, and its value `v`.
+    /// Returns whether a key equals `k` and its value equals `v`.
     fn has_pair(&self, k: &K, v: &V) -> bool
         ensures { result ≡ option_eq (λ p q. V.eq p.1 q.1) (Some (k.now, v.now)) (find K.eq (entries self.now) k.now) }
     {
@@ -99,7 +99,7 @@ impl<K: Eq + Hash, V: PartialEq, H: BuildHasher> Owned<K, V, H> {
         }
     }
 
-    /// Whether each pair has its key with an equal value in the other index.
+    /// Returns whether each pair of this index has its key with an equal value in `other`.
     fn is_within(&self, other: &Self) -> bool
         ensures { result ≡ list_all (λ p. option_eq (λ p q. V.eq p.1 q.1) (Some p)
             (find K.eq (entries other.now) p.0)) (entries self.now) }

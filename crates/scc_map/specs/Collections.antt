@@ -1,4 +1,4 @@
--- A map that is made of items, or of another map's pairs.
+-- A map that is made from items, or from another map's pairs.
 use Rattle.std.specs.Prelude.{◌≡◌, ℕ, ◌*◌, ◌<◌, Bool, List, [], length, reverse, Option, None, Some, Ok, MatchOption}
 use Rattle.std.specs.List.{FoldsTo}
 use Rattle.std.specs.Option.{IsSomeAnd}
@@ -8,7 +8,7 @@ use Rattle.scc_contents.specs.Sizes.{IsArraySize}
 use Rattle.scc_map.specs.MapSteps.{Upserts}
 
 module _ {K V S : Type 0} (eq : K → K → Bool) (hash : K → ℕ) where
-  -- an upsert that is not refused
+  -- an upsert that succeeds
   abbrev pub UpsertsOne : Contents (K × V) S → K × V → Contents (K × V) S → Type 0
   UpsertsOne c p d = (r : Option V) × Upserts eq hash c p (Ok r) d
 
@@ -17,7 +17,7 @@ module _ {K V S : Type 0} (eq : K → K → Bool) (hash : K → ℕ) where
   UpsertsAll c ps d = FoldsTo UpsertsOne c ps d
 
 module _ {K V S : Type 0} (eq : K → K → Bool) (hash : Contents (K × V) S → K → ℕ) where
-  -- d is what upserts of the pairs, in their order, make of an empty map with an array for as many pairs
+  -- d is made from an empty map, with an array for `length ps` pairs, by upserts of the pairs in their order
   pub record IsCollected (ps : List (K × V)) (d : Contents (K × V) S) : Type 0 where
     pub made : Contents (K × V) S
     pub empty : entries made ≡ []
@@ -30,15 +30,17 @@ module _ {K V S : Type 0} (eq : K → K → Bool) (hash : Contents (K × V) S �
     pub run : UpsertsAll eq (hash made) made ps d
 
 module _ {K V : Type 0} where
-  -- the key of the first pair with the value of the second, where there are both
+  -- the key of the first pair with the value of the second, if there are both
   abbrev pub key_and_value : Option (K × V) → Option (K × V) → Option (K × V)
   key_and_value (Some p) (Some q) = Some (p.0, q.1)
   key_and_value p q = None
 
-  -- a look-up of k in the pairs finds the key of the first item whose key equals k, with the value of the last one; nothing where there is none
+  -- a look-up of k in the pairs finds the key of the first item whose key equals k, with the value of the last such
+  -- item, or nothing if there is no such item
   pub record FindsItems (eq : K → K → Bool) (items pairs : List (K × V)) : Type 0 where
     pub finds : (k : K) → find eq pairs k ≡ key_and_value (find eq items k) (find eq (reverse items) k)
 
-  -- where a look-up of k finds a pair in the old pairs, it finds a clone of it, by C, in the new ones; else nothing
+  -- if a look-up of k finds a pair in the old pairs, it finds a clone of it, by C, in the new ones; else it finds
+  -- nothing there
   pub record FindsClones (eq : K → K → Bool) (C : K × V → K × V → Type 0) (old new : List (K × V)) : Type 0 where
     pub finds : (k : K) → MatchOption (find eq old k) (find eq new k ≡ None) (λ p. IsSomeAnd (find eq new k) (C p))

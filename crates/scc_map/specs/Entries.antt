@@ -1,4 +1,4 @@
--- What the contracts of an entry cite. An entry holds its map by a guard: a `&mut` in the owned form.
+-- The words of an entry's contracts. An entry holds its map by a guard, which is a `&mut` in the owned form.
 pub use Rattle.scc_map.specs.declared.held.HeldEntry.TheVariants.{Occupied, Vacant}
 pub use Rattle.scc_common.specs.declared.errors.InsertError.TheVariants.{Exists, Memory}
 use Rattle.std.specs.Prelude.{◌≡◌, ℕ, Bool, true, List, ◌∷◌, ◌++◌, Option, None, Some, Result, IfOk, IfErr, ⊤}
@@ -32,12 +32,13 @@ use Rattle.scc_map.specs.declared.held.HeldReplace.TheVariants.{Replaced, NotRep
 use Rattle.scc_map.specs.declared.held.HeldVacant.{HeldVacant}
 
 module _ {K V S : Type 0} where
-  -- d is c once the new key k was put in: the array is one that had to be made, or grew as it may and has to
+  -- from c to d the array was made or grew as an insertion of the new key k may and must make or grow it
   pub record IsGrownFor (hash : K → ℕ) (c : Contents (K × V) S) (k : K) (d : Contents (K × V) S) : Type 0 where
     pub grows : GrowsForInsertion hash (λ p. p.0) c k d
     pub first : FirstArrayWhenDue c d
 
-  -- c, where an insertion of the new key k was refused: it rests as it was, or resized once as it may and has to be, with distinct keys; no bucket waits that an insertion doesn't leave waiting
+  -- d is c after an insertion of the new key k was refused memory: unchanged, or resized once as that insertion may
+  -- and must be resized, with distinct keys; only buckets wait that an insertion leaves waiting
   pub record RestsRefused (same : K → K → Bool) (hash : K → ℕ) (c : Contents (K × V) S) (k : K) (d : Contents (K × V) S) : Type 0 where
     pub rests : Rests c d
     pub grows : GrowsForInsertion hash (λ p. p.0) c k d
@@ -49,7 +50,7 @@ module _ {G N K V S T : Type 0} {d : guard.Ghosts G (Contents (K × V) S)} {g : 
   abbrev pub occupied_map : HeldOccupied G N K V S T d g h b w → Contents (K × V) S
   occupied_map o = d.inner o.guard
 
-  -- the pair of the entry, and the pairs before and after it
+  -- the pair of the entry
   abbrev pub occupied_pair : HeldOccupied G N K V S T d g h b w → K × V
   occupied_pair o = entry_of (d.inner o.guard) o.place o.within
 
@@ -61,12 +62,12 @@ module _ {G N K V S T : Type 0} {d : guard.Ghosts G (Contents (K × V) S)} {g : 
   abbrev pub occupied_back : HeldOccupied G N K V S T d g h b w → List (K × V)
   occupied_back o = back_of (d.inner o.guard) o.place
 
-  -- what holds the map
+  -- the guard of the entry's map
   abbrev pub entry_guard : HeldEntry G N K V S T d g h b w → G
   entry_guard (Occupied o) = o.guard
   entry_guard (Vacant e) = e.guard
 
-  -- the map stays, and o stands at the pair of k
+  -- the map is c, and o stands at the pair of k
   pub record IsOccupiedAt (same : K → K → Bool) (c : Contents (K × V) S) (k : K) (o : HeldOccupied G N K V S T d g h b w) : Type 0 where
     pub contents : d.inner o.guard ≡ c
     pub found : find same (entries c) k ≡ Some (occupied_pair o)
@@ -74,40 +75,40 @@ module _ {G N K V S T : Type 0} {d : guard.Ghosts G (Contents (K × V) S)} {g : 
     pub writes : (v : V) → occupied_front o ++ ((occupied_pair o).0, v) ∷ occupied_back o ≡ set_value (same k) (entries c) v
     pub removes : occupied_front o ++ occupied_back o ≡ without same (entries c) k
 
-  -- the map stays, and e has the key k, which the map lacks
+  -- the map is c, and e has the key k, which the map lacks
   pub record IsVacantAt (same : K → K → Bool) (c : Contents (K × V) S) (k : K) (e : HeldVacant G N K V S T d g h b w) : Type 0 where
     pub contents : d.inner e.guard ≡ c
     pub found : find same (entries c) k ≡ None
     pub key : e.key ≡ k
 
-  -- the entry is that of the key: occupied where the map has it, and vacant where not
+  -- the entry is the entry of k: occupied if the map has k, else vacant
   abbrev pub IsEntryOf : (K → K → Bool) → Contents (K × V) S → K → HeldEntry G N K V S T d g h b w → Type 0
   IsEntryOf same c k (Occupied o) = IsOccupiedAt same c k o
   IsEntryOf same c k (Vacant e) = IsVacantAt same c k e
 
-  -- p is the entry o, once v is its value
+  -- p is the entry o after v became its value
   pub record IsWritten (o : HeldOccupied G N K V S T d g h b w) (v : V) (p : HeldOccupied G N K V S T d g h b w) : Type 0 where
     pub same_guard : p.guard ≡ d.with_inner o.guard (d.inner p.guard)
     pub rest : p.rest ≡ o.rest
     pub at : IsWrittenAt (d.inner o.guard) o.place ((occupied_pair o).0, v) (d.inner p.guard) p.place p.within
 
-  -- o stands at the pair that was put in through e
+  -- o stands at the pair that was inserted through e
   pub record IsInserted (e : HeldVacant G N K V S T d g h b w) (v : V) (o : HeldOccupied G N K V S T d g h b w) : Type 0 where
     pub same_guard : o.guard ≡ d.with_inner e.guard (d.inner o.guard)
     pub rest : o.rest ≡ e.rest
     pub at : IsPutAt (d.inner e.guard) (e.key, v) (d.inner o.guard) o.place o.within
 
-  -- the map with the value of the entry's pair replaced by v
+  -- the map after v became the value of the entry's pair
   abbrev pub written_map : HeldOccupied G N K V S T d g h b w → V → Contents (K × V) S
   written_map o v = with_write_at with_pair_value (d.inner o.guard) o.place v
 
-  -- an entry's place is still one after a write at it
+  -- the place of an entry is still a place after a write to it
   pub still_within : (o : HeldOccupied G N K V S T d g h b w) (v : V) → IsPlace (d.inner (d.with_inner o.guard (written_map o v))) o.place
   still_within o v =
       let P : Contents (K × V) S → Type 0 = λ c. IsPlace c o.place in
       subst P (sym (d.inner_law o.guard (written_map o v))) (IsPlace-with_write_at with_pair_value (d.inner o.guard) o.place v o.within)
 
-  -- o, once v is its value
+  -- o after v became its value
   abbrev pub with_value : HeldOccupied G N K V S T d g h b w → V → HeldOccupied G N K V S T d g h b w
   with_value o v = record {
     guard = d.with_inner o.guard (written_map o v);
@@ -117,122 +118,126 @@ module _ {G N K V S T : Type 0} {d : guard.Ghosts G (Contents (K × V) S)} {g : 
     within = still_within o v;
   }
 
-  -- the stored key, or the one that was asked for
+  -- the stored key of an occupied entry, or the key of a vacant entry
   abbrev pub entry_key : HeldEntry G N K V S T d g h b w → K
   entry_key (Occupied o) = (occupied_pair o).0
   entry_key (Vacant e) = e.key
 
-  -- the map lacks the entry's key
+  -- the map lacks the key of the entry
   abbrev pub IsVacant : HeldEntry G N K V S T d g h b w → Type 0
   IsVacant (Occupied o) = ⊥
   IsVacant (Vacant e) = ⊤
 
-  -- o is the entry; where that was vacant, a value of which P holds was put in
+  -- o is the entry; if the entry was vacant, a value for which P holds was inserted
   abbrev pub OrInsertsSome : HeldEntry G N K V S T d g h b w → (K → V → Type 0) → HeldOccupied G N K V S T d g h b w → Type 0
   OrInsertsSome (Occupied p) P o = o ≡ p
   OrInsertsSome (Vacant e) P o = (v : V) × P e.key v × IsInserted e v o
 
-  -- o is the entry, once v was put in where it was vacant
+  -- o is the entry; if the entry was vacant, v was inserted
   abbrev pub OrInserts : HeldEntry G N K V S T d g h b w → V → HeldOccupied G N K V S T d g h b w → Type 0
   OrInserts (Occupied p) v o = o ≡ p
   OrInserts (Vacant e) v o = IsInserted e v o
 
-  -- o is the entry with v as its value, put in where it was vacant
+  -- o is the entry, with v as its value; if the entry was vacant, v was inserted
   abbrev pub SetsEntry : HeldEntry G N K V S T d g h b w → V → HeldOccupied G N K V S T d g h b w → Type 0
   SetsEntry (Occupied p) v o = IsWritten p v o
   SetsEntry (Vacant e) v o = IsInserted e v o
 
-  -- where a value was put in, the array grew as an insertion of the key may and has to
+  -- if a value was inserted, the array grew as an insertion of the key may and must grow it
   abbrev pub GrowsThrough : (K → ℕ) → HeldEntry G N K V S T d g h b w → HeldOccupied G N K V S T d g h b w → Type 0
   GrowsThrough hash (Occupied p) o = ⊤
   GrowsThrough hash (Vacant e) o = IsGrownFor hash (d.inner e.guard) e.key (d.inner o.guard)
 
-  -- where a value was put in, those buckets wait that an insertion of the key leaves waiting; else the same as before
+  -- if a value was inserted, the buckets wait that an insertion of the key leaves waiting; else the same buckets as
+  -- before
   abbrev pub RelocatesThrough : (K → ℕ) → HeldEntry G N K V S T d g h b w → HeldOccupied G N K V S T d g h b w → Type 0
   RelocatesThrough hash (Occupied p) o = waiting_of (d.inner o.guard) ≡ waiting_of (d.inner p.guard)
   RelocatesThrough hash (Vacant e) o = Relocates (d.inner e.guard) (d.inner o.guard) × RelocatesTwo (hash e.key) (d.inner e.guard) (d.inner o.guard)
 
-  -- a refusal: the key comes back with v
+  -- memory was refused: the key comes back with v
   abbrev pub Refuses : HeldEntry G N K V S T d g h b w → V → InsertError K V → Type 0
   Refuses e v r = r ≡ Memory (entry_key e, v)
 
-  -- a refusal: the key comes back with a value of which P holds
+  -- memory was refused: the key comes back with a value for which P holds
   abbrev pub RefusesSome : HeldEntry G N K V S T d g h b w → (K → V → Type 0) → InsertError K V → Type 0
   RefusesSome e P r = (v : V) × P (entry_key e) v × (r ≡ Memory (entry_key e, v))
 
   module _ (same : K → K → Bool) (hash_of : S → K → ℕ) where
-    -- what `insert_entry` of the vacant entry e and the value v, answered so, does
+    -- the contract of `insert_entry` of the vacant entry e: with the value v it returns `result`
     pub record InsertsAtVacant (e : HeldVacant G N K V S T d g h b w) (v : V) (result : Result (HeldOccupied G N K V S T d g h b w) (InsertError K V)) : Type 0 where
-      -- the key is put in with the value, and the answer is its entry
+      -- the key is inserted with the value, and the result is its entry
       pub inserted : IfOk result (IsInserted e v)
-      -- the array is one that had to be made, or grew as an insertion of the key may and has to
+      -- the first array was made if it was due, or the array grew as an insertion of the key may and must grow it
       pub growth : IfOk result (λ o. IsGrownFor (hash_in hash_of (d.inner e.guard)) (d.inner e.guard) e.key (occupied_map o))
-      -- it relocates two buckets at most
+      -- it relocates at most two buckets
       pub relocates : IfOk result (λ o. Relocates (d.inner e.guard) (occupied_map o))
-      -- its own first, and two exactly where none of them is long, else at least those before a long one
+      -- it relocates the key's own bucket first and then the first ones that wait, two in all, or all if fewer wait;
+      -- if some of them are long, at least those before a long one
       pub two : IfOk result (λ o. RelocatesTwo (hash_in hash_of (d.inner e.guard) e.key) (d.inner e.guard) (occupied_map o))
       -- no two keys are equal
       pub unique : IfOk result (λ o. IsUnique same (occupied_map o))
-      -- refused, key and value come back
+      -- if memory is refused, key and value come back
       pub refused : IfErr result (λ r. r ≡ Memory (e.key, v))
-      -- it is refused only where the bucket of the key has no room
+      -- memory is refused only if the bucket of the key has no room
       pub full : OnErr result (HasRoom (hash_in hash_of (d.inner e.guard)) (d.inner e.guard) e.key → ⊥)
 
-    -- what an insertion through the entry e, answered so, does, where P holds of the entry that is answered, and Q of a refusal
+    -- the contract of an insertion through the entry e, which returns `result`: P holds of the returned entry, Q of
+    -- the error
     pub record InsertsThrough (e : HeldEntry G N K V S T d g h b w) (P : HeldOccupied G N K V S T d g h b w → Type 0) (Q : InsertError K V → Type 0) (result : Result (HeldOccupied G N K V S T d g h b w) (InsertError K V)) : Type 0 where
-      -- where it succeeds, the entry is as asked for
+      -- if it succeeds, P holds of the returned entry
       pub entry : IfOk result P
-      -- refused, the key comes back with the value
+      -- if memory is refused, the key comes back with the value
       pub refused : IfErr result Q
-      -- only a vacant entry is refused
+      -- only a vacant entry is refused memory
       pub vacant : OnErr result (IsVacant e)
-      -- it is refused only where the bucket of the key has no room
+      -- memory is refused only if the bucket of the key has no room
       pub full : OnErr result (HasRoom (hash_in hash_of (d.inner (entry_guard e))) (d.inner (entry_guard e)) (entry_key e) → ⊥)
-      -- the array grew only where a value was put in, and as an insertion of the key may and has to
+      -- the array grew only if a value was inserted, and as an insertion of the key may and must grow it
       pub growth : IfOk result (GrowsThrough (hash_in hash_of (d.inner (entry_guard e))) e)
-      -- those buckets wait that an insertion of the key leaves waiting, or the same where no value was put in
+      -- the buckets wait that an insertion of the key leaves waiting, or the same as before if no value was inserted
       pub relocates : IfOk result (RelocatesThrough (hash_in hash_of (d.inner (entry_guard e))) e)
       -- no two keys are equal
       pub unique : IfOk result (λ o. IsUnique same (occupied_map o))
 
-  -- what holds the map
+  -- the guard of the entry's map
   abbrev pub replaced_guard : HeldReplace G N K V S T d g h b w → G
   replaced_guard (Replaced o k) = o.guard
   replaced_guard (NotReplaced e) = e.guard
 
-  -- k is put in the place of the key that equals it, at which o stands. Where there is none nothing changes
+  -- k is put in the place of the key that equals it, where o stands; if no key equals k, nothing changes
   abbrev pub Replaces : (K → K → Bool) → Contents (K × V) S → K → HeldReplace G N K V S T d g h b w → Type 0
   Replaces same c k (Replaced o old) = SwapsKey same (entries c) k old (λ v es. (occupied_pair o ≡ (k, v)) × HoldsExactly c es (d.inner o.guard))
   Replaces same c k (NotReplaced e) = IsVacantAt same c k e
 
   module _ {F : Type 0} (f : Once F (MutBor V × Unit {0}) (Unit {0} × (MutBor V × Unit {0}))) (x : F) where
-    -- the closure may be called on the value
+    -- f may be called on the value
     abbrev pub TakesEntry : HeldEntry G N K V S T d g h b w → Type 0
     TakesEntry (Occupied o) = FnOnceTakesAtMut f x (occupied_pair o).1
     TakesEntry (Vacant e) = ⊤
 
-    -- the entry, once the closure was called on its value
+    -- the entry after f was called on its value
     abbrev pub Modifies : HeldEntry G N K V S T d g h b w → HeldEntry G N K V S T d g h b w → Type 0
     Modifies (Occupied o) (Occupied p) = (v : V) × FnOnceReturnsAtMut f x (occupied_pair o).1 tt v × IsWritten o v p
     Modifies (Vacant e) (Vacant p) = p ≡ e
     Modifies e p = ⊥
 
 module _ (G N K V S T : RattleType) {d : guard.Ghosts G.Denot (Contents (K.Denot × V.Denot) S.Denot)} {g : eq.Ghosts K.Denot} {h : hash.Ghosts K.Denot} {b : builder.Ghosts S.Denot T.Denot} {w : hasher.Ghosts T.Denot} where
-  -- once the borrow r ends, the entry behind o has the last value written through r
+  -- after the borrow r ends, the entry behind o has the last value written through r
   abbrev pub occupied_lends : MutBor (HeldOccupied G.Denot N.Denot K.Denot V.Denot S.Denot T.Denot d g h b w) → MutBor V.Denot → Fml
   occupied_lends o r = Lends (the_row G N K V S T d g h b w) V o r (with_value o.now)
 
 module _ (K V S T : RattleType) (key : HashMembers K.Denot) (build : builder.Ghosts S.Denot T.Denot) (feed : hasher.Ghosts T.Denot) where
-  -- an entry of a map that is borrowed
+  -- an entry of a borrowed map
   abbrev pub Borrowed : (N : Type 0) → guard.Ghosts (MutBor (Contents (K.Denot × V.Denot) S.Denot)) (Contents (K.Denot × V.Denot) S.Denot) → eq.Ghosts K.Denot → hash.Ghosts K.Denot → builder.Ghosts S.Denot T.Denot → hasher.Ghosts T.Denot → Type 0
   Borrowed N d g h b w = HeldOccupied (MutBor (Contents (K.Denot × V.Denot) S.Denot)) N K.Denot V.Denot S.Denot T.Denot d g h b w
 
-  -- where r has no entry, since an insertion of the new key k was refused, the map behind m rests: as it was, or resized once
+  -- if r has no entry, because an insertion of the new key k was refused memory, the map behind m is unchanged or was
+  -- resized once
   abbrev pub rests_if_refused : {E N : Type 0} {d : guard.Ghosts (MutBor (Contents (K.Denot × V.Denot) S.Denot)) (Contents (K.Denot × V.Denot) S.Denot)} {g : eq.Ghosts K.Denot} {h : hash.Ghosts K.Denot} {b : builder.Ghosts S.Denot T.Denot} {w : hasher.Ghosts T.Denot}
       → MutBor (Contents (K.Denot × V.Denot) S.Denot) → K.Denot → Result (Borrowed N d g h b w) E → Fml
   rests_if_refused m k r = RestsIfErr (map_row K V S T key build feed) m (λ o. o.guard.ghost_name) r (λ n. RestsRefused key.eq (key_hash build feed key.hash_input m.now) m.now k n)
 
-  -- where r has no entry, the map behind m stays as it is
+  -- if r has no entry, the map behind m is unchanged
   abbrev pub rests_if_none : {N : Type 0} {d : guard.Ghosts (MutBor (Contents (K.Denot × V.Denot) S.Denot)) (Contents (K.Denot × V.Denot) S.Denot)} {g : eq.Ghosts K.Denot} {h : hash.Ghosts K.Denot} {b : builder.Ghosts S.Denot T.Denot} {w : hasher.Ghosts T.Denot}
       → MutBor (Contents (K.Denot × V.Denot) S.Denot) → Option (Borrowed N d g h b w) → Fml
   rests_if_none m r = RestsIfNone (map_row K V S T key build feed) m (λ o. o.guard.ghost_name) r (λ n. n ≡ m.now)

@@ -1,4 +1,4 @@
--- Which entries of a list an occupied entry stands between, and which stands next.
+-- Where an occupied entry stands in its list, and which entry stands next.
 use Rattle.std.specs.Prelude.{◌≡◌, ◌≢◌, ◌++◌, [], Bool, Result, IfOk, IfErr, length}
 use Rattle.std.specs.Borrow.{Fml, RattleType, MutBor, RestsIfErr}
 use Rattle.std.specs.HashMap.Lent.{HashMembers}
@@ -18,66 +18,66 @@ use Rattle.scc_map.specs.Lends.{map_row}
 use Rattle.scc_map.specs.declared.held.HeldOccupied.{HeldOccupied}
 
 module _ {G N K V S T : Type 0} {d : guard.Ghosts G (Contents (K × V) S)} {g : eq.Ghosts K} {h : hash.Ghosts K} {b : builder.Ghosts S T} {w : hasher.Ghosts T} where
-  -- the map stays, and its list is the pairs before o, that of o, and those after it
+  -- the map is c, and its list has the pairs before o, the pair of o, and the pairs after it
   pub record StandsIn (c : Contents (K × V) S) (o : HeldOccupied G N K V S T d g h b w) : Type 0 where
     pub contents : d.inner o.guard ≡ c
     pub at : SplitsAt (d.inner o.guard) o.place o.within
 
-  -- p stands next after o in the list, which stays
+  -- p stands next after o in the list, which is unchanged
   pub record IsNext (o p : HeldOccupied G N K V S T d g h b w) : Type 0 where
     pub same_guard : p.guard ≡ d.with_inner o.guard (d.inner p.guard)
     pub at : IsNextAt (d.inner o.guard) o.place o.within (d.inner p.guard) p.place p.within
 
-  -- the pair of o is out, the others stay in their order, and p stands at the one that stood next after it
+  -- the pair of o is removed, the others stay in their order, and p stands at the pair that stood next after it
   pub record IsNextPastRemoved (o p : HeldOccupied G N K V S T d g h b w) : Type 0 where
     pub same_guard : p.guard ≡ d.with_inner o.guard (d.inner p.guard)
     pub at : IsNextPastRemovedAt (d.inner o.guard) o.place (d.inner p.guard) p.place p.within
 
-  -- what `remove_entry` of the entry o, answered so, leaves
+  -- the contract of `remove_entry` of the entry o: it returns `result`, and leaves n
   pub record RemovesEntryByRule (same : K → K → Bool) (o : HeldOccupied G N K V S T d g h b w) (result : K × V) (n : Contents (K × V) S) : Type 0 where
-    -- the answer is the pair of the entry
+    -- the result is the pair of the entry
     pub pair : result ≡ occupied_pair o
     -- the others stay
     pub removed : Holds (occupied_map o) (occupied_front o ++ occupied_back o) n
-    -- the number of buckets changes only by a shrink of the size that the pairs and the minimum name
+    -- the number of buckets changes only by a shrink to the size that the pairs and the minimum name
     pub smaller : bucket_count n ≢ bucket_count (occupied_map o) → IsSmaller (minimum_of (occupied_map o)) (length (entries n)) (bucket_count (occupied_map o)) (bucket_count n)
-    -- a shrink that is due comes, unless memory for it was refused
+    -- a due shrink is made, unless memory for it was refused
     pub due : ShrinksWhenDue (occupied_map o) n
-    -- no bucket takes its entries over
+    -- it relocates no bucket
     pub relocates : RelocatesNone (occupied_map o) n
     -- no two keys are equal
     pub unique : IsUnique same n
 
-  -- what `remove` of the entry o, answered so, leaves
+  -- the contract of `remove` of the entry o: it returns `result`, and leaves n
   pub record RemovesValueByRule (same : K → K → Bool) (o : HeldOccupied G N K V S T d g h b w) (result : V) (n : Contents (K × V) S) : Type 0 where
-    -- the answer is the value of the entry
+    -- the result is the value of the entry
     pub value : result ≡ (occupied_pair o).1
     -- the others stay
     pub removed : Holds (occupied_map o) (occupied_front o ++ occupied_back o) n
-    -- the number of buckets changes only by a shrink of the size that the pairs and the minimum name
+    -- the number of buckets changes only by a shrink to the size that the pairs and the minimum name
     pub smaller : bucket_count n ≢ bucket_count (occupied_map o) → IsSmaller (minimum_of (occupied_map o)) (length (entries n)) (bucket_count (occupied_map o)) (bucket_count n)
-    -- a shrink that is due comes, unless memory for it was refused
+    -- a due shrink is made, unless memory for it was refused
     pub due : ShrinksWhenDue (occupied_map o) n
-    -- no bucket takes its entries over
+    -- it relocates no bucket
     pub relocates : RelocatesNone (occupied_map o) n
     -- no two keys are equal
     pub unique : IsUnique same n
 
-  -- what `remove_and_sync` of the entry o of a borrowed map, answered so, leaves
+  -- the contract of `remove_and_sync` of the entry o of a borrowed map: it returns `result`
   pub record RemovesWithNext (same : K → K → Bool) (o : HeldOccupied G N K V S T d g h b w) (result : Result ((K × V) × HeldOccupied G N K V S T d g h b w) (K × V)) : Type 0 where
-    -- the answer has the pair of the entry
+    -- the result has the pair of the entry
     pub pair : IfOk result (λ r. r.0 ≡ occupied_pair o)
-    -- beside it the entry that stood next, past the pair that is out
+    -- the result has the entry that stood next after the removed pair
     pub next : IfOk result (λ r. IsNextPastRemoved o r.1)
-    -- the same buckets wait
+    -- the same buckets wait as before
     pub waiting : IfOk result (λ r. waiting_of (occupied_map r.1) ≡ waiting_of (occupied_map o))
     -- no two keys are equal
     pub unique : IfOk result (λ r. IsUnique same (occupied_map r.1))
-    -- where no entry stood next, the answer is the pair alone
+    -- if no entry stood next, the result is the pair alone
     pub last : IfErr result (λ p. (p ≡ occupied_pair o) × (occupied_back o ≡ []))
 
 module _ (K V S T : RattleType) (key : HashMembers K.Denot) (build : builder.Ghosts S.Denot T.Denot) (feed : hasher.Ghosts T.Denot) where
-  -- where r has no entry, the map behind o is left with the other pairs in their order, and the note of refused memory and what waits as they were
+  -- if r has no entry, the map behind o has the other pairs in their order, and note, mark and waiting buckets stay
   abbrev pub rests_removed : {A B N : Type 0} {d : guard.Ghosts (MutBor (Contents (K.Denot × V.Denot) S.Denot)) (Contents (K.Denot × V.Denot) S.Denot)} {g : eq.Ghosts K.Denot} {h : hash.Ghosts K.Denot} {b : builder.Ghosts S.Denot T.Denot} {w : hasher.Ghosts T.Denot}
       → Borrowed K V S T key build feed N d g h b w → Result (A × Borrowed K V S T key build feed N d g h b w) B → Fml
   rests_removed {d = d} o r = RestsIfErr (map_row K V S T key build feed) o.guard (λ p. p.1.guard.ghost_name) r (λ n. HoldsExactly (d.inner o.guard) (occupied_front o ++ occupied_back o) n × (refused_of n ≡ refused_of (d.inner o.guard)) × IsUnique key.eq n × (waiting_of n ≡ waiting_of (d.inner o.guard)))

@@ -1,4 +1,4 @@
--- What the calls about sizes do to a container. Each relation goes by the reply.
+-- What the calls about sizes do to a container, by the reply.
 use Rattle.std.specs.Prelude.{◌≡◌, ℕ, ◌+◌, ◌^◌, ◌<◌, ◌≤◌, ◌↔◌, Option, None, Some, Result, Ok, Err, IsSome, IsOk, IfNone, OnSome}
 use Rattle.std.specs.Result.{OnOk, OnErr}
 use Rattle.scc_contents.specs.Contents.{Contents, settings_of, minimum_of, refused_of, waiting_of}
@@ -6,47 +6,48 @@ use Rattle.scc_contents.specs.Steps.{IsUnchanged, ReachesMinimumWhenDue, Release
 use Rattle.scc_table.specs.Relocates.{IsBelowMinimum, IsShrinkDue, Spreads}
 
 module _ {E S : Type 0} where
-  -- a reservation of n slots: the token stands for n; it is refused where n is 0 or the minimum would pass the greatest capacity
+  -- a reservation of n slots: the token is for n slots; there is no token if n is 0 or the minimum would pass the
+  -- greatest capacity
   abbrev pub ReservesOrRefuses : ℕ → Contents E S → Option ℕ → Contents E S → Type 0
   ReservesOrRefuses n c (Some r) d = (r ≡ n) × (0 < n) × (minimum_of c + n ≤ 2 ^ 63) × Reserves n c d
   ReservesOrRefuses n c None d = (0 < n → 2 ^ 63 < minimum_of c + n) × IsUnchanged c d
 
-  -- a token for n slots is given back; one for more than what is reserved comes back
+  -- a token for n slots is given back; a token for more slots than are reserved comes back
   abbrev pub ReleasesOrRefuses : ℕ → Contents E S → Result (Unit {0}) ℕ → Contents E S → Type 0
   ReleasesOrRefuses n c (Ok _) d = (n ≤ (settings_of c).reserved) × Releases n c d
   ReleasesOrRefuses n c (Err r) d = (r ≡ n) × ((settings_of c).reserved < n) × IsUnchanged c d
 
 module _ {E S : Type 0} (Distinct : Contents E S → Type 0) where
-  -- what `reserve` of n slots, answered so, does to the minimum and to the array
+  -- the contract of `reserve`: with n slots it returns `result`, and turns c into d
   pub record ReservesByRule (n : ℕ) (c : Contents E S) (result : Option ℕ) (d : Contents E S) : Type 0 where
-    -- a token for n slots, by which the minimum is raised; or nothing changes
+    -- there is a token for n slots, by which the minimum rises; or nothing changes
     pub step : ReservesOrRefuses n c result d
     -- it succeeds for one slot or more, up to the greatest capacity
     pub succeeds : IsSome result ↔ ((0 < n) × (minimum_of c + n ≤ 2 ^ 63))
-    -- an array with fewer slots than the new minimum gets the size of it, unless memory was refused
+    -- an array with fewer slots than the new minimum grows to the minimum, unless memory was refused
     pub due : OnSome result (ReachesMinimumWhenDue c d)
-    -- the note of refused memory stays where there is no token
+    -- note and mark stay if there is no token
     pub noted : IfNone result (refused_of d ≡ refused_of c)
-    -- where the array grew all buckets wait; else some of those that waited
+    -- if the array grew, all buckets wait; else only buckets that waited before
     pub spreads : OnSome result (Spreads (IsBelowMinimum (minimum_of d) c) c d)
-    -- the same buckets wait where there is no token
+    -- the same buckets wait as before if there is no token
     pub waiting : IfNone result (waiting_of d ≡ waiting_of c)
     -- no two keys are equal
     pub unique : Distinct d
 
-  -- what `release` of a token for n slots, answered so, does to the minimum and to the array
+  -- the contract of `release`: with a token for n slots it returns `result`, and turns c into d
   pub record ReleasesByRule (n : ℕ) (c : Contents E S) (result : Result (Unit {0}) ℕ) (d : Contents E S) : Type 0 where
-    -- the minimum is lowered by n slots; or the token comes back, and nothing changes
+    -- the minimum falls by n slots; or the token comes back, and nothing changes
     pub step : ReleasesOrRefuses n c result d
-    -- it succeeds for no more slots than what is reserved
+    -- it succeeds for at most the slots that are reserved
     pub succeeds : IsOk result ↔ (n ≤ (settings_of c).reserved)
-    -- a shrink that is then due comes, unless memory was refused
+    -- a shrink that is then due is made, unless memory was refused
     pub due : OnOk result (ShrinksWhenDue c d)
-    -- the note of refused memory stays where the token comes back
+    -- note and mark stay if the token comes back
     pub noted : OnErr result (refused_of d ≡ refused_of c)
-    -- where the array shrank all buckets wait; else some of those that waited
+    -- if the array shrank, all buckets wait; else only buckets that waited before
     pub spreads : OnOk result (Spreads (IsShrinkDue (minimum_of d) c) c d)
-    -- the same buckets wait where the token comes back
+    -- the same buckets wait as before if the token comes back
     pub waiting : OnErr result (waiting_of d ≡ waiting_of c)
     -- no two keys are equal
     pub unique : Distinct d

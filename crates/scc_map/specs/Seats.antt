@@ -16,21 +16,21 @@ use Rattle.scc_map.specs.declared.held.HeldReplace.{HeldReplace}
 use Rattle.scc_map.specs.declared.held.HeldReplace.TheVariants.{Replaced, NotReplaced}
 
 module _ {G N K V S T : Type 0} {d : guard.Ghosts G (Contents (K × V) S)} {g : eq.Ghosts K} {h : hash.Ghosts K} {b : builder.Ghosts S T} {w : hasher.Ghosts T} where
-  -- what an entry keeps for going on
+  -- the `rest` of an occupied entry: its seat if the entry holds a stripe
   abbrev pub occupied_rest : HeldOccupied G N K V S T d g h b w → N
   occupied_rest o = o.rest
 
-  -- the same of the entry of a key
+  -- the `rest` of an entry
   abbrev pub entry_rest : HeldEntry G N K V S T d g h b w → N
   entry_rest (Occupied o) = o.rest
   entry_rest (Vacant e) = e.rest
 
-  -- the same of the answer of a replacement
+  -- the `rest` of the result of a replacement
   abbrev pub replaced_rest : HeldReplace G N K V S T d g h b w → N
   replaced_rest (Replaced o k) = o.rest
   replaced_rest (NotReplaced e) = e.rest
 
-  -- p goes on from where o does
+  -- p has the `rest` of o
   abbrev pub HasSameRest : HeldOccupied G N K V S T d g h b w → HeldOccupied G N K V S T d g h b w → Type 0
   HasSameRest o p = p.rest ≡ o.rest
 
@@ -39,7 +39,7 @@ module _ {G O H K V S T : Type 0} {d : guard.Ghosts G (Contents (K × V) S)} {g 
   abbrev pub occupied_stripe : HeldOccupied G (Seat O H) K V S T d g h b w → ℕ
   occupied_stripe o = seat_stripe o.rest
 
-  -- an entry holds one of those stripes
+  -- the entry holds one of the stripes
   abbrev pub HasSeatIn : Striped O H → HeldOccupied G (Seat O H) K V S T d g h b w → Type 0
   HasSeatIn stripes o = IsSeatIn stripes (seat_stripe o.rest) o.rest
 

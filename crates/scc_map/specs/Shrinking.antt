@@ -9,104 +9,107 @@ use Rattle.scc_table.specs.Places.{StandsAt, index_of}
 use Rattle.scc_table.specs.Relocations.{RelocatesNone}
 
 module _ {E S : Type 0} (Distinct : Contents E S → Type 0) where
-  -- what a removal of the pair at a place, which it answers, does
+  -- the contract of `remove_at`: it removes the pair at the place, returns it, and turns c into d
   pub record RemovesAtByRule (c : Contents E S) (place : Place) (result : E) (d : Contents E S) : Type 0 where
-    -- the answer is the pair that stood there
+    -- the result is the pair that stood at the place
     pub pair : slice_get (entries c) (index_of c place) ≡ Some result
     -- the others stay
     pub others : Holds c (remove (entries c) (index_of c place)) d
-    -- the number of buckets changes only by a shrink of the size that the pairs and the minimum name
+    -- the number of buckets changes only by a shrink to the size that the pairs and the minimum name
     pub smaller : bucket_count d ≢ bucket_count c → IsSmaller (minimum_of c) (length (entries d)) (bucket_count c) (bucket_count d)
-    -- a shrink that is due comes, unless memory for it was refused
+    -- a due shrink is made, unless memory for it was refused
     pub due : ShrinksWhenDue c d
-    -- no bucket takes its entries over
+    -- it relocates no bucket
     pub relocates : RelocatesNone c d
     -- no two keys are equal
     pub unique : Distinct d
 
-  -- what `take_with_next` at a place, which answers a pair and the next place, does
+  -- the contract of `take_with_next`: it takes the pair out of the place, returns it with the next place, and turns c
+  -- into d
   pub record TakesWithNextByRule (c : Contents E S) (place : Place) (result : E × Option Place) (d : Contents E S) : Type 0 where
-    -- the answer is the pair that stood there
+    -- the result is the pair that stood at the place
     pub pair : slice_get (entries c) (index_of c place) ≡ Some result.0
     -- the others stay in their order
     pub others : HoldsExactly c (remove (entries c) (index_of c place)) d
-    -- the note of refused memory stays
+    -- note and mark stay
     pub noted : refused_of d ≡ refused_of c
-    -- the same buckets wait
+    -- the same buckets wait as before
     pub waiting : waiting_of d ≡ waiting_of c
-    -- the place is that of the pair that followed
+    -- the next place is the place of the pair that followed
     pub next : MatchOption result.1 (suc (index_of c place) ≡ length (entries c)) (StandsAt d (index_of c place))
     -- no two keys are equal
     pub unique : Distinct d
 
-  -- what `clear_sync` does
+  -- the contract of `clear_sync`: it turns c into d
   pub record ClearsByRule (c d : Contents E S) : Type 0 where
-    -- nothing is left
+    -- no entry is left
     pub empty : entries d ≡ []
-    -- the settings stay, and the array is not lowered below the minimum
+    -- the settings stay, and the array doesn't shrink below the minimum
     pub holds : Holds c [] d
     -- the number of buckets changes only by a shrink to the size of the minimum
     pub smaller : bucket_count d ≢ bucket_count c → IsSmaller (minimum_of c) 0 (bucket_count c) (bucket_count d)
-    -- a shrink that is due comes, unless memory for it was refused
+    -- a due shrink is made, unless memory for it was refused
     pub due : ShrinksWhenDue c d
-    -- no bucket takes its entries over
+    -- it relocates no bucket
     pub relocates : RelocatesNone c d
     -- no two keys are equal
     pub unique : Distinct d
 
-  -- what `retain_sync` does to the array, where Step says what it asks and what stays
+  -- the contract of `retain_sync`: it turns c into d; Step says which calls it makes and which pairs stay
   pub record RetainsByRule (Step : Type 0) (c d : Contents E S) : Type 0 where
-    -- what is asked, and what stays
+    -- which calls it makes, and which pairs stay
     pub step : Step
-    -- the number of buckets changes only by a shrink of the size that what stays and the minimum name
+    -- the number of buckets changes only by a shrink to the size that the remaining pairs and the minimum name
     pub smaller : bucket_count d ≢ bucket_count c → IsSmaller (minimum_of c) (length (entries d)) (bucket_count c) (bucket_count d)
-    -- a shrink that is due comes, unless memory for it was refused
+    -- a due shrink is made, unless memory for it was refused
     pub due : ShrinksWhenDue c d
-    -- no bucket takes its entries over
+    -- it relocates no bucket
     pub relocates : RelocatesNone c d
     -- no two keys were equal
     pub was_unique : Distinct c
-    -- and none are
+    -- no two keys are equal
     pub unique : Distinct d
 
 module _ {E S L X R Q : Type 0} (Distinct : Contents E S → Type 0) (taken_of : L → List X) (count_of capacity_of : L → ℕ) where
-  -- what `iter_mut_sync`, answered so, does to the array and to the list for what it takes, where Step says what it asks, what stays and what is taken
+  -- the contract of `iter_mut_sync`: it returns `result`, and turns c into d and the list `before` into `after`; Step
+  -- says which calls it makes, which pairs stay and which are taken
   pub record TakesByRule (Step : Type 0) (c : Contents E S) (before : L) (result : Result R Q) (d : Contents E S) (after : L) : Type 0 where
-    -- what is asked, what stays and what is taken
+    -- which calls it makes, which pairs stay and which are taken
     pub step : Step
-    -- where nothing was taken, the number of buckets stays
+    -- if nothing was taken, the number of buckets stays
     pub still : taken_of after ≡ taken_of before → bucket_count d ≡ bucket_count c
-    -- and the note of refused memory
+    -- if nothing was taken, note and mark stay
     pub noted : taken_of after ≡ taken_of before → refused_of d ≡ refused_of c
-    -- and the same buckets wait
+    -- if nothing was taken, the same buckets wait as before
     pub rests : taken_of after ≡ taken_of before → waiting_of d ≡ waiting_of c
-    -- the number of buckets changes only by a shrink of the size that what stays and the minimum name
+    -- the number of buckets changes only by a shrink to the size that the remaining pairs and the minimum name
     pub smaller : bucket_count d ≢ bucket_count c → IsSmaller (minimum_of c) (length (entries d)) (bucket_count c) (bucket_count d)
-    -- an error comes only where the list is full
+    -- it fails only if the list is full
     pub full : OnErr result (capacity_of after ≤ count_of after)
     -- the list has no less room than before
     pub room : capacity_of before ≤ capacity_of after
-    -- where something was taken and a shrink is due, it comes, unless memory for it was refused
+    -- if something was taken and a shrink is due, it is made, unless memory for it was refused
     pub due : (taken_of after ≡ taken_of before → ⊥) → ShrinksWhenDue c d
-    -- no bucket takes its entries over
+    -- it relocates no bucket
     pub relocates : RelocatesNone c d
     -- no two keys were equal
     pub was_unique : Distinct c
-    -- and none are
+    -- no two keys are equal
     pub unique : Distinct d
 
 module _ {E S L : Type 0} (taken_of : L → List E) (capacity_of : L → ℕ) where
-  -- what `take_into` at a place, which answers the next place, does to the map and to the list that takes the pair
+  -- the contract of `take_into`: it moves the pair at the place into the list, returns the next place, and turns c
+  -- into d and the list `before` into `after`
   pub record TakesIntoByRule (c : Contents E S) (place : Place) (before : L) (result : Option Place) (d : Contents E S) (after : L) : Type 0 where
-    -- the pair that stood there is at the list's end
+    -- the pair that stood at the place is at the list's end
     pub taken : (e : E) × (slice_get (entries c) (index_of c place) ≡ Some e) × (taken_of after ≡ taken_of before ++ e ∷ [])
     -- the others stay in their order
     pub others : HoldsExactly c (remove (entries c) (index_of c place)) d
-    -- the note of refused memory stays
+    -- note and mark stay
     pub noted : refused_of d ≡ refused_of c
-    -- the same buckets wait
+    -- the same buckets wait as before
     pub waiting : waiting_of d ≡ waiting_of c
-    -- the place is that of the pair that followed
+    -- the next place is the place of the pair that followed
     pub next : MatchOption result (suc (index_of c place) ≡ length (entries c)) (StandsAt d (index_of c place))
-    -- the list has the room that it had
+    -- the capacity of the list stays
     pub capacity : capacity_of after ≡ capacity_of before

@@ -1,4 +1,4 @@
-//! The entries of a map that is borrowed.
+//! The entries of a borrowed map.
 
 mod insertions;
 mod methods;
@@ -8,7 +8,7 @@ use crate::Owned;
 use crate::held::{HeldEntry, HeldOccupied, HeldReplace, HeldVacant};
 use std::hash::{BuildHasherDefault, FoldHasher};
 
-/// The entry of a key. While it is held, the map is borrowed.
+/// The entry of a key. It borrows the map.
 pub type Entry<'a, K, V, H = BuildHasherDefault<FoldHasher>> = HeldEntry<
     &'a mut Owned<K, V, H>,
     (),
@@ -17,7 +17,7 @@ pub type Entry<'a, K, V, H = BuildHasherDefault<FoldHasher>> = HeldEntry<
     H,
 >;
 
-/// An entry that the map has, at its place.
+/// An occupied entry: the place of a pair of the map.
 pub type OccupiedEntry<'a, K, V, H = BuildHasherDefault<FoldHasher>> = HeldOccupied<
     &'a mut Owned<K, V, H>,
     (),
@@ -26,7 +26,7 @@ pub type OccupiedEntry<'a, K, V, H = BuildHasherDefault<FoldHasher>> = HeldOccup
     H,
 >;
 
-/// A key that the map lacks, with its hash.
+/// A vacant entry: a key that the map lacks, with its hash.
 pub type VacantEntry<'a, K, V, H = BuildHasherDefault<FoldHasher>> = HeldVacant<
     &'a mut Owned<K, V, H>,
     (),
@@ -35,7 +35,8 @@ pub type VacantEntry<'a, K, V, H = BuildHasherDefault<FoldHasher>> = HeldVacant<
     H,
 >;
 
-/// The answer of `replace_sync`: the entry with its new key and the old key, or the key that the map lacks.
+/// The result of `replace_sync`: the entry with its new key and the old key, or the vacant entry of a key that the map
+/// lacks.
 pub type ReplaceResult<'a, K, V, H = BuildHasherDefault<FoldHasher>> = HeldReplace<
     &'a mut Owned<K, V, H>,
     (),

@@ -1,4 +1,4 @@
-//! A hash map over the table of `scc_table`, for one owner, and the entries of one that stands behind a lock.
+//! A hash map for one owner, over the table of `scc_table`, and its entries, which also serve a locked map.
 #![tactic(auto)]
 
 ghost use Rattle.scc_contents.specs.Closures.{Reads};
@@ -33,10 +33,10 @@ use std::hash::{BuildHasher, BuildHasherDefault, FoldHasher, Hash};
 use std::marker::Model;
 pub use walk::sink::Sink;
 
-/// A map from keys to values, no two keys equal. A contract sees its pairs in the map's own order as `entries m`, the
-/// number of its buckets as `bucket_count m`, and its hasher and sizes as `settings_of m`.
+/// A map from keys to values, in which no two keys are equal. A contract sees its pairs in the map's own order as
+/// `entries m`, the number of its buckets as `bucket_count m`, and its hasher and sizes as `settings_of m`.
 ///
-/// The default hasher has a fixed seed. For keys that an attacker picks, write `Owned::with_hasher(alloc,
+/// The default hasher has a fixed seed. For keys that an attacker chooses, use `Owned::with_hasher(alloc,
 /// RandomState::new(&rt)?)`.
 #[derive(Drop)]
 pub struct Owned<K: Eq + Hash, V, H: BuildHasher = BuildHasherDefault<FoldHasher>> {
@@ -52,7 +52,7 @@ impl<K: Eq + Hash, V, H: BuildHasher> Model for Owned<K, V, H> {
 }
 
 impl<K: Eq + Hash, V, H: BuildHasher> Owned<K, V, H> {
-    /// The number of pairs.
+    /// Returns the number of pairs.
     #[inline(always)]
     pub fn len(&self) -> usize
         ensures len { result ≡ length (entries self.now) }
@@ -61,7 +61,7 @@ impl<K: Eq + Hash, V, H: BuildHasher> Owned<K, V, H> {
         self.table.len()
     }
 
-    /// Whether there is no pair.
+    /// Returns whether there is no pair.
     #[inline(always)]
     pub fn is_empty(&self) -> bool
         ensures { IsTrue result ↔ (entries self.now ≡ []) }
@@ -69,8 +69,8 @@ impl<K: Eq + Hash, V, H: BuildHasher> Owned<K, V, H> {
         self.table.len() == 0
     }
 
-    /// Whether memory was refused for the last resize that was due. The next one that is made lowers it. Where it is
-    /// false after a call that had to resize, the map has the size that the rules ask for.
+    /// Returns whether memory was refused for the last resize that was due. The next resize that is made clears this
+    /// note. If the result is false after a call that had to resize, the map has the size that the rules ask for.
     #[inline(always)]
     pub fn is_resize_refused(&self) -> bool
         ensures { result ≡ (refused_of self.now).0 }
@@ -78,7 +78,8 @@ impl<K: Eq + Hash, V, H: BuildHasher> Owned<K, V, H> {
         self.table.is_resize_refused()
     }
 
-    /// The slots of the array, 32 a bucket; 0 without an array. It is no bound on the number of pairs.
+    /// Returns the number of slots of the array, 32 a bucket, or 0 without an array. There may be more pairs than
+    /// slots.
     #[inline(always)]
     pub fn capacity(&self) -> usize
         ensures { result ≡ 32 * bucket_count self.now }
@@ -86,8 +87,8 @@ impl<K: Eq + Hash, V, H: BuildHasher> Owned<K, V, H> {
         32 * self.table.bucket_count()
     }
 
-    /// Whether there is an array and the bucket of `k` holds fewer than 32 pairs. An insertion of `k` then takes no
-    /// memory and can't be refused.
+    /// Returns whether there is an array and the bucket of `k` holds fewer than 32 pairs. If so, an insertion of `k`
+    /// can't be refused memory, and allocates nothing unless it relocates another bucket of more than 32 pairs.
     #[inline(always)]
     pub fn has_room(&self, k: &K) -> bool
         ensures { IsTrue result ↔ HasRoom (hash_in ⟦<H as Hashes<K>>⟧.hash_of self.now) self.now k.now }
@@ -95,7 +96,7 @@ impl<K: Eq + Hash, V, H: BuildHasher> Owned<K, V, H> {
         self.table.has_room(k)
     }
 
-    /// Whether a key equals `k`.
+    /// Returns whether a key equals `k`.
     #[inline(always)]
     pub fn contains_sync(&self, k: &K) -> bool
         ensures { IsTrue result ↔ IsSome (find K.eq (entries self.now) k.now) }
@@ -107,7 +108,7 @@ impl<K: Eq + Hash, V, H: BuildHasher> Owned<K, V, H> {
         }
     }
 
-    /// The same, by the hash of `k` under some hasher, as `read_by_hint`.
+    /// Returns whether a key equals `k`, as `contains_sync` does. The search begins with `hint`, as in `read_by_hint`.
     #[inline(always)]
     pub fn contains_by_hint(&self, hint: u64, k: &K) -> bool
         ensures { IsTrue result ↔ IsSome (find K.eq (entries self.now) k.now) }
@@ -118,7 +119,7 @@ impl<K: Eq + Hash, V, H: BuildHasher> Owned<K, V, H> {
         }
     }
 
-    /// The answer of `f` on the pair of `k`, or None where there is none; then `f` isn't called.
+    /// Returns the result of `f` on the pair of `k`. If no key equals `k`, returns `None` and doesn't call `f`.
     #[inline(always)]
     pub fn read_sync<R, F: FnOnce(&K, &V) -> R>(&self, k: &K, f: F) -> Option<R>
         requires { (a : Bor K) (b : Bor V) → find K.eq (entries self.now) k.now ≡ Some (a.now, b.now) → F.pre f a b }
@@ -131,8 +132,8 @@ impl<K: Eq + Hash, V, H: BuildHasher> Owned<K, V, H> {
         }
     }
 
-    /// The same, by the hash of `k` under some hasher. Where the map's own hasher gives the same, and the pair is there,
-    /// `k` isn't hashed again, but for a pair past its bucket's places or while some bucket waits.
+    /// Reads the pair of `k` as `read_sync` does. The search begins with `hint`, the hash of `k` under some hasher. If
+    /// the map's own hasher gives the same hash, the pair is there and no bucket waits, `k` isn't hashed again.
     #[inline(always)]
     pub fn read_by_hint<R, F: FnOnce(&K, &V) -> R>(&self, hint: u64, k: &K, f: F) -> Option<R>
         requires { (a : Bor K) (b : Bor V) → find K.eq (entries self.now) k.now ≡ Some (a.now, b.now) → F.pre f a b }
@@ -144,8 +145,9 @@ impl<K: Eq + Hash, V, H: BuildHasher> Owned<K, V, H> {
         }
     }
 
-    /// Inserts the pair where no key equals `k`. Where one does, the map stays as it is, and the supplied pair comes
-    /// back; so it does where a growth that the insertion needs is refused.
+    /// Inserts the pair if no key equals `k`. If a key equals `k`, the map stays as it is and the supplied pair comes
+    /// back. The pair also comes back if memory for the first array, for the pairs that its bucket waits for or for
+    /// its overflow list is refused. A doubling whose memory is refused doesn't make the insertion fail.
     #[inline(always)]
     pub fn insert_sync(&mut self, k: K, v: V) -> Result<(), InsertError<K, V>>
         ensures { InsertsByRule K.eq ⟦<H as Hashes<K>>⟧.hash_of self.old (k, v) result self.new }
@@ -160,11 +162,11 @@ impl<K: Eq + Hash, V, H: BuildHasher> Owned<K, V, H> {
         }
     }
 
-    /// Makes what an insertion of `k` wants, at most one resize: the first array, or twice as many buckets where that
-    /// is due, all of which wait then. A key that is there wants nothing. A growth that is refused is noted,
-    /// and marked: the insertion of `k` that follows doesn't try it again, so that it makes no resize in any case. A
-    /// growth that is made takes note and mark away; where none is due, both stay. This fails only where the first
-    /// array is refused, and then nothing changes.
+    /// Makes what an insertion of `k` would have to make first, at most one resize: the first array, or an array of
+    /// twice as many buckets if a growth is due; then all buckets wait. If a key equals `k`, nothing is made. A growth
+    /// whose memory is refused is noted and marked: the insertion of `k` that follows doesn't try the growth again, so
+    /// it makes no resize in any case. A growth that is made takes note and mark away; if no growth is due, both stay.
+    /// Fails only if memory for the first array is refused, and then nothing changes.
     pub fn prepare(&mut self, k: &K) -> Result<(), MakeError>
         ensures { PreparesByRule K.eq ⟦<H as Hashes<K>>⟧.hash_of self.old k.now result self.new }
     {
@@ -178,8 +180,8 @@ impl<K: Eq + Hash, V, H: BuildHasher> Owned<K, V, H> {
         }
     }
 
-    /// Takes the mark of a refused growth away, and changes nothing else: an insertion tries a growth that is due, also
-    /// where `prepare` was refused it.
+    /// Takes the mark of a refused growth away, and changes nothing else. An insertion then tries a growth that is
+    /// due, even if `prepare` was refused memory for it.
     pub fn drop_mark(&mut self)
         ensures same { IsUnchanged self.old self.new }
         ensures lists { lists_of self.new ≡ lists_of self.old }
@@ -190,8 +192,9 @@ impl<K: Eq + Hash, V, H: BuildHasher> Owned<K, V, H> {
         self.table.drop_mark();
     }
 
-    /// Stores `v` at `k`. A key that is there stays the stored one, the supplied one is dropped, and the old value is
-    /// answered; this takes no memory. A new key is inserted, and None is answered; refused, the pair comes back.
+    /// Stores `v` under `k`. If a key equals `k`, the stored key stays, `k` is dropped, and the old value is returned;
+    /// this allocates nothing. If no key equals `k`, the pair is inserted and `None` is returned; if memory is
+    /// refused, the pair comes back.
     #[inline(always)]
     pub fn upsert_sync(&mut self, k: K, v: V) -> Result<Option<V>, InsertError<K, V>>
     where
@@ -208,8 +211,8 @@ impl<K: Eq + Hash, V, H: BuildHasher> Owned<K, V, H> {
         }
     }
 
-    /// Lends the pair of `k` to `u`, the value to write, and answers what `u` answered; None where there is no such
-    /// pair, and then `u` isn't called.
+    /// Calls `u` on the pair of `k`, with the value to write, and returns its result. If no key equals `k`, returns
+    /// `None` and doesn't call `u`.
     #[inline(always)]
     pub fn update_sync<R, U: FnOnce(&K, &mut V) -> R>(&mut self, k: &K, u: U) -> Option<R>
         requires { (a : Bor K) (b : MutBor V) → find K.eq (entries self.old) k.now ≡ Some (a.now, b.now) → U.pre u a b }
@@ -219,8 +222,9 @@ impl<K: Eq + Hash, V, H: BuildHasher> Owned<K, V, H> {
         self.table.update(hash, k, u)
     }
 
-    /// Takes out the pair of `k` where `f` answers true on its value. What `f` wrote goes with the pair, and stays
-    /// where it answers false; then the answer is None. After a removal the array may become smaller.
+    /// Calls `f` on the value of `k`. If `f` returns true, removes the pair, with what `f` wrote, and returns it. If
+    /// `f` returns false, what it wrote stays and the result is `None`. If no key equals `k`, `f` isn't called and the
+    /// result is `None`. After a removal the array may shrink.
     #[inline(always)]
     pub fn remove_if_sync<F: FnOnce(&mut V) -> bool>(&mut self, k: &K, f: F) -> Option<(K, V)>
         requires { (p : K × V) → find K.eq (entries self.old) k.now ≡ Some p → FnOnceTakesAtMut F.FnOnce f p.1 }
@@ -236,8 +240,8 @@ impl<K: Eq + Hash, V, H: BuildHasher> Owned<K, V, H> {
         }
     }
 
-    /// Takes out the pair whose key equals `k`, and answers it, or None where there is none. After a removal the array
-    /// may become smaller.
+    /// Removes the pair whose key equals `k` and returns it, or returns `None` if there is none. After a removal the
+    /// array may shrink.
     #[inline(always)]
     pub fn remove_sync(&mut self, k: &K) -> Option<(K, V)>
         ensures { RemovesByRule K.eq (Removes K.eq self.old k.now result self.new) self.old k.now result self.new }
@@ -246,8 +250,8 @@ impl<K: Eq + Hash, V, H: BuildHasher> Owned<K, V, H> {
         self.table.remove(hash, k)
     }
 
-    /// Calls `f` on the pairs in some order, each at most once, until its first false, and answers false where it
-    /// stopped.
+    /// Calls `f` on the pairs in some order, each at most once, until `f` returns false. Returns false if it did, else
+    /// true.
     #[inline(always)]
     pub fn iter_sync<F: FnMut(&K, &V) -> bool>(&self, f: F) -> bool
         requires { (es : List (K × V)) → IsPermutation (entries self.now) es → CallableWhile F.FnMut true f es }

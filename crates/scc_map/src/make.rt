@@ -1,4 +1,4 @@
-//! How a map is made: empty, or of items.
+//! How a map is made: empty, or from items.
 ghost use Rattle.scc_contents.specs.Contents.{entries, settings_of, hash_in};
 ghost use Rattle.scc_contents.specs.Pairs.{IsUnique};
 ghost use Rattle.scc_map.specs.Collections.{FindsItems, IsCollected, UpsertsAll};
@@ -16,14 +16,15 @@ use std::hash::{BuildHasher, BuildHasherDefault, Hash};
 use std::sync::Arc;
 
 impl<K: Eq + Hash, V> Owned<K, V> {
-    /// An empty map without an array. It takes no memory.
+    /// Returns an empty map without an array. Allocates nothing.
     pub fn new(alloc: Global) -> Self
         ensures { IsNew (settings_of result).hasher result }
     {
         Owned::with_hasher(alloc, BuildHasherDefault::new())
     }
 
-    /// An empty map with an array for at least so many pairs at one a slot, by the rules of `with_capacity_and_hasher`.
+    /// Returns an empty map with an array for at least `capacity` pairs at one a slot, by the rules of
+    /// `with_capacity_and_hasher`.
     pub fn with_capacity(alloc: Global, capacity: usize) -> Result<Self, MakeError>
         ensures { MakesEmpty (λ m. (settings_of m).hasher) 0 capacity result }
     {
@@ -32,8 +33,8 @@ impl<K: Eq + Hash, V> Owned<K, V> {
 }
 
 impl<K: Eq + Hash, V, H: BuildHasher> Owned<K, V, Shared<H>> {
-    /// An empty map that skips so many bits of each hash, and hashes as each other part of that hasher does. Else as
-    /// `with_capacity_and_hasher`.
+    /// Returns an empty map that skips `skipped` bits of each hash and shares `hasher` with the other parts. Otherwise
+    /// as `with_capacity_and_hasher`.
     pub fn part(
         alloc: Global,
         skipped: u32,
@@ -50,7 +51,7 @@ impl<K: Eq + Hash, V, H: BuildHasher> Owned<K, V, Shared<H>> {
 }
 
 impl<K: Eq + Hash, V, H: BuildHasher> Owned<K, V, H> {
-    /// An empty map without an array. It takes no memory.
+    /// Returns an empty map without an array. Allocates nothing.
     pub fn with_hasher(alloc: Global, hasher: H) -> Self
         ensures { IsNew hasher result }
     {
@@ -59,8 +60,9 @@ impl<K: Eq + Hash, V, H: BuildHasher> Owned<K, V, H> {
         }
     }
 
-    /// An empty map with an array of the least power of two of slots that is at least `capacity` and at least 64;
-    /// without an array for 0. These slots are then its minimum. A size that can't be had is refused.
+    /// Returns an empty map with an array of the least power of two of slots that is at least `capacity` and at least
+    /// 64, or without an array if `capacity` is 0. These slots are the map's minimum. Fails if an array of that size
+    /// can't be allocated.
     pub fn with_capacity_and_hasher(
         alloc: Global,
         capacity: usize,
@@ -76,7 +78,7 @@ impl<K: Eq + Hash, V, H: BuildHasher> Owned<K, V, H> {
         }
     }
 
-    /// As `with_capacity_and_hasher`, but skips so many bits of each hash.
+    /// Makes what `with_capacity_and_hasher` makes, but skips `skipped` bits of each hash.
     pub fn skipping(
         alloc: Global,
         skipped: u32,
@@ -94,9 +96,9 @@ impl<K: Eq + Hash, V, H: BuildHasher> Owned<K, V, H> {
         }
     }
 
-    /// A map of the items, upserted in their order, so that the last value of a key wins. Its array is made for as many
-    /// pairs as there are items; without items there is none. It is refused for want of memory, and then the items are
-    /// dropped. The iterator has to end.
+    /// Returns a map of the items, upserted in their order, so that the last value of a key wins. The array is made
+    /// for one pair an item; without items there is no array. Fails if memory is refused, and then drops the items.
+    /// The iterator must end.
     pub fn try_from_iter<I: IntoIterator<Item = (K, V)>>(
         alloc: Global,
         items: I,
@@ -120,7 +122,7 @@ impl<K: Eq + Hash, V, H: BuildHasher> Owned<K, V, H> {
         Ok(made)
     }
 
-    /// Upserts the pairs in their order, up to the first that is refused.
+    /// Upserts the pairs in their order. Stops with an error at the first pair for which memory is refused.
     fn upsert_all(&mut self, pairs: Vec<(K, V)>) -> Result<(), MakeError>
     where
         K: Drop,

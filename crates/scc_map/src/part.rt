@@ -1,4 +1,4 @@
-//! How a part of a shared map keeps its share of what all parts together keep at least.
+//! How a part of a shared map follows its share of the minimum.
 ghost use Rattle.scc_stripes.specs.Minimums.{FollowsMinimum};
 ghost use Rattle.std.specs.Prelude.{◌≤◌, ◌^◌};
 
@@ -10,9 +10,9 @@ use std::hash::{BuildHasher, Hash};
 use std::sync::Arc;
 
 impl<K: Eq + Hash, V, H: BuildHasher> Owned<K, V, H> {
-    /// Makes so many slots the minimum, what was asked for at making among them. A raised minimum lets an array that is
-    /// there grow to it, a lowered one lets it become smaller, unless memory is refused. Fewer slots than were asked
-    /// for change nothing.
+    /// Makes `share` slots the minimum, which includes the slots asked for at making. If the minimum rises, an array
+    /// that is there grows to it; if it falls, the array may shrink; both unless memory is refused. A `share` below
+    /// the slots asked for changes nothing.
     #[inline(always)]
     pub fn follow_minimum(&mut self, share: usize)
         requires { share ≤ 2 ^ 63 }
@@ -25,7 +25,7 @@ impl<K: Eq + Hash, V, H: BuildHasher> Owned<K, V, H> {
         }
     }
 
-    /// The same apart from the callers: a share seldom changes.
+    /// Changes the minimum for `follow_minimum`. It is kept out of line, since a share seldom changes.
     #[cold]
     fn change_minimum(&mut self, share: usize)
         requires { share ≤ 2 ^ 63 }

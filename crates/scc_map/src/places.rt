@@ -1,4 +1,4 @@
-//! What is done at a place of a map.
+//! The calls at a place of a map.
 ghost use Rattle.scc_contents.specs.Contents.{entries, hash_in};
 ghost use Rattle.scc_contents.specs.Pairs.{find, IsUnique, with_pair_key, with_pair_value};
 ghost use Rattle.scc_map.specs.Insertions.{InsertsNewByRule};
@@ -14,14 +14,14 @@ use scc_contents::Hashes;
 use std::hash::{BuildHasher, Hash};
 
 impl<K: Eq + Hash, V, H: BuildHasher> Owned<K, V, H> {
-    /// The hash of a key.
+    /// Returns the hash of `k`.
     pub(crate) fn hash_of(&self, k: &K) -> u64
         ensures { result ≡ hash_in ⟦<H as Hashes<K>>⟧.hash_of self.now k.now }
     {
         self.table.hash(k)
     }
 
-    /// The place of the pair of `k`, whose hash it is.
+    /// Returns the place of the pair of `k`, or `None`. `hash` must be the hash of `k`.
     pub(crate) fn place_of(&self, hash: u64, k: &K) -> Option<Place>
         requires { hash ≡ hash_in ⟦<H as Hashes<K>>⟧.hash_of self.now k.now }
         ensures place { MatchOption result (find K.eq (entries self.now) k.now ≡ None)
@@ -31,7 +31,7 @@ impl<K: Eq + Hash, V, H: BuildHasher> Owned<K, V, H> {
         self.table.search(hash, k)
     }
 
-    /// The pair at the place.
+    /// Returns the pair at `place`.
     pub fn pair_at(&self, place: Place) -> (&K, &V)
         requires { IsPlace self.now place }
         ensures { slice_get (entries self.now) (index_of self.now place) ≡ Some (result.0.now, result.1.now) }
@@ -39,7 +39,7 @@ impl<K: Eq + Hash, V, H: BuildHasher> Owned<K, V, H> {
         self.table.pair_at(place)
     }
 
-    /// The value at the place, to write.
+    /// Returns the value at `place`, to write.
     pub(crate) fn value_mut_at(&mut self, place: Place) -> &mut V
         requires { IsPlace self.old place }
         ensures* writes_back { sem 𝓛 (lends_value K.row V.row H.row H.Hasher.row K.Hash H.BuildHasher H.Hasher.Hasher
@@ -50,7 +50,7 @@ impl<K: Eq + Hash, V, H: BuildHasher> Owned<K, V, H> {
         self.table.value_mut_at(place)
     }
 
-    /// Writes the value at the place, and answers the old one.
+    /// Writes `value` at `place`, and returns the old value.
     pub(crate) fn write_at(&mut self, place: Place, value: V) -> V
         requires { IsPlace self.old place }
         ensures old { (p : K × V) × (slice_get (entries self.old) (index_of self.old place) ≡ Some p) × (result ≡ p.1) }
@@ -62,7 +62,7 @@ impl<K: Eq + Hash, V, H: BuildHasher> Owned<K, V, H> {
         old
     }
 
-    /// The key at the place, and the value to write.
+    /// Returns the key at `place`, and the value to write.
     pub(crate) fn parts_mut_at(&mut self, place: Place) -> (&K, &mut V)
         requires { IsPlace self.old place }
         ensures* writes_back { sem 𝓛 (lends_value K.row V.row H.row H.Hasher.row K.Hash H.BuildHasher H.Hasher.Hasher
@@ -72,7 +72,7 @@ impl<K: Eq + Hash, V, H: BuildHasher> Owned<K, V, H> {
         self.table.parts_mut_at(place)
     }
 
-    /// Puts the key in the place of the one there, which it equals.
+    /// Puts `key` in the place of the key at `place`, which must equal it, and returns the old key.
     pub(crate) fn replace_key_at(&mut self, place: Place, key: K) -> K
         requires within { IsPlace self.old place }
         requires same { (p : K × V) → slice_get (entries self.old) (index_of self.old place) ≡ Some p
@@ -83,7 +83,7 @@ impl<K: Eq + Hash, V, H: BuildHasher> Owned<K, V, H> {
         self.table.replace_key_at(place, key)
     }
 
-    /// Takes the pair out of its place, and answers it. Then the array may become smaller.
+    /// Removes the pair at `place` and returns it. Then the array may shrink.
     pub fn remove_at(&mut self, place: Place) -> (K, V)
         requires { IsPlace self.old place }
         ensures { RemovesAtByRule (IsUnique K.eq) self.old place result self.new }
@@ -91,7 +91,8 @@ impl<K: Eq + Hash, V, H: BuildHasher> Owned<K, V, H> {
         self.table.remove_at(place)
     }
 
-    /// Puts in a pair whose key is new, and answers its place.
+    /// Inserts a pair whose key is new, and returns its place. `hash` must be the hash of `k`. If memory is refused,
+    /// the pair comes back.
     pub(crate) fn insert_new(&mut self, hash: u64, k: K, v: V) -> Result<Place, (K, V)>
         requires hashed { hash ≡ hash_in ⟦<H as Hashes<K>>⟧.hash_of self.old k }
         requires absent { find K.eq (entries self.old) k ≡ None }

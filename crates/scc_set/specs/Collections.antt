@@ -1,4 +1,4 @@
--- A set that is made of items, or of another set's keys.
+-- A set that is made from items, or from another set's keys.
 use Rattle.std.specs.Prelude.{◌≡◌, ◌*◌, ◌<◌, Bool, List, [], ◌∷◌, ◌++◌, length, None, IsSome, MatchOption, ◌⊎◌}
 use Rattle.std.specs.List.{FoldsTo}
 use Rattle.std.specs.Option.{IsSomeAnd}
@@ -8,7 +8,7 @@ use Rattle.scc_contents.specs.Steps.{Holds, IsUnchanged, Rests}
 use Rattle.scc_set.specs.Keys.{find}
 
 module _ {K S : Type 0} (eq : K → K → Bool) where
-  -- an insertion that is not refused for memory: a new key is added, one that equals a key that is there changes nothing
+  -- an insertion that isn't refused memory: a new key is added; if an equal key is there, nothing changes
   abbrev pub InsertsOne : Contents K S → K → Contents K S → Type 0
   InsertsOne c k d = ((find eq (entries c) k ≡ None) × Holds c (k ∷ entries c) d) ⊎ (IsSome (find eq (entries c) k) × IsUnchanged c d)
 
@@ -20,7 +20,7 @@ module _ {K S : Type 0} (eq : K → K → Bool) where
   abbrev pub StopsAt : Contents K S → List K → K → Contents K S → Type 0
   StopsAt c ks k d = (before : List K) × (after : List K) × (made : Contents K S) × (ks ≡ before ++ k ∷ after) × InsertsAll c before made × (find eq (entries made) k ≡ None) × Rests made d
 
-  -- d is what insertions of the keys, in their order, make of an empty set with an array for as many keys
+  -- d is made from an empty set, with an array for `length ks` keys, by insertions of the keys in their order
   pub record IsCollected (ks : List K) (d : Contents K S) : Type 0 where
     pub made : Contents K S
     pub empty : entries made ≡ []
@@ -33,10 +33,11 @@ module _ {K S : Type 0} (eq : K → K → Bool) where
     pub run : InsertsAll made ks d
 
 module _ {K : Type 0} where
-  -- a look-up of k in the keys finds the first item that equals k; nothing where there is none
+  -- a look-up of k in the keys finds the first item that equals k, or nothing if there is no such item
   pub record FindsItems (eq : K → K → Bool) (items keys : List K) : Type 0 where
     pub finds : (k : K) → find eq keys k ≡ find eq items k
 
-  -- where a look-up of k finds a key in the old keys, it finds a clone of it, by C, in the new ones; else nothing
+  -- if a look-up of k finds a key in the old keys, it finds a clone of it, by C, in the new ones; else it finds
+  -- nothing there
   pub record FindsClones (eq : K → K → Bool) (C : K → K → Type 0) (old new : List K) : Type 0 where
     pub finds : (k : K) → MatchOption (find eq old k) (find eq new k ≡ None) (λ q. IsSomeAnd (find eq new k) (C q))

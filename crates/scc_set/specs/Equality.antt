@@ -1,4 +1,4 @@
--- Equality of two lists of keys, each of which has the keys of the other, is an equivalence.
+-- Equality of two lists of keys, each of which has the keys of the other list, is an equivalence.
 use Rattle.std.proofs.Common.{◌≡◌, Bool, true, false, cond, ◌&&◌, ◌||◌, List, [], ◌∷◌, ◌++◌, Option, None, Some, is_some, refl, sym, ap, subst, ◌∙◌, append_assoc}
 use Rattle.std.specs.Cmp.{IsEquivalence, first_so, second_so}
 use Rattle.std.specs.HashMap.{entries_eq}
@@ -7,7 +7,7 @@ use Rattle.std.specs.Map.{keys_of, lookup_entry}
 use Rattle.std.specs.Option.{option_eq}
 use Rattle.std.specs.Set.{is_member}
 
--- whether each key of either list is in the other
+-- whether each key of either list is in the other list
 unfoldable pub keys_eq : {K : Type 0} → (K → K → Bool) → List K → List K → Bool
 keys_eq eq ks ls = list_all (is_member eq ls) ks && list_all (is_member eq ks) ls
 
@@ -57,7 +57,7 @@ second-some None (Some y) h = refl
 second-some (Some x) (Some y) h = refl
 
 module _ {K : Type 0} (eq : K → K → Bool) where
-  -- equality of sets goes both ways
+  -- equality of sets is symmetric
   pub keys_eq-symm : (ks ls : List K) → keys_eq eq ks ls ≡ keys_eq eq ls ks
   unfolding keys_eq
   keys_eq-symm ks ls = and-comm (list_all (is_member eq ls) ks) (list_all (is_member eq ks) ls)
@@ -72,7 +72,7 @@ module _ {K : Type 0} (eq : K → K → Bool) where
     all-through (k ∷ ks) ls ms a b =
         both (all-any (is_member eq ms) (eq k) (is_member eq ms k) (λ l p q. any-alike k l q ms ∙ p) ls b (first_so (is_member eq ls k) (list_all (is_member eq ls) ks) a)) (all-through ks ls ms (second_so (is_member eq ls k) (list_all (is_member eq ls) ks) a) b)
 
-    -- what equals the same set is equal
+    -- equality of sets is transitive
     pub keys_eq-trans : (ks ls ms : List K) → keys_eq eq ks ls ≡ true → keys_eq eq ls ms ≡ true → keys_eq eq ks ms ≡ true
     unfolding keys_eq
     keys_eq-trans ks ls ms a b =
@@ -90,12 +90,12 @@ module _ {K : Type 0} (eq : K → K → Bool) where
     all-own : (ks : List K) → list_all (is_member eq ks) ks ≡ true
     all-own ks = all-own-from [] ks
 
-    -- a set equals itself
+    -- equality of sets is reflexive
     pub keys_eq-refl : (ks : List K) → keys_eq eq ks ks ≡ true
     unfolding keys_eq
     keys_eq-refl ks = both (all-own ks) (all-own ks)
 
-    -- maps with unit values are equal where their keys are
+    -- maps with unit values are equal if their keys are equal, and only then
     pub keys_eq-pairs : (es fs : List (K × Unit {0})) → entries_eq eq (λ _ _. true) es fs ≡ keys_eq eq (keys_of es) (keys_of fs)
     unfolding keys_eq entries_eq
     keys_eq-pairs es fs =

@@ -10,20 +10,20 @@ module _ {K : Type 0} (eq : K → K → Bool) where
   abbrev pub find : List K → K → Option K
   find ks k = first_passing (eq k) ks
 
-  -- the other keys
+  -- the keys that don't equal k
   abbrev pub without : List K → K → List K
   without ks k = remove_key (eq k) ks
 
-  -- with k in the place of the key that equals it
+  -- the keys with k in the place of the key that equals k
   abbrev pub with_key : List K → K → List K
   with_key ks k = swap_key (eq k) ks k
 
-  -- a look-up of k finds `there` in the new keys, and one of another key what it found in the old ones
+  -- a look-up of k finds `there` in the new keys, and every other look-up what it found in the old keys
   pub record FindsInstead (old : List K) (k : K) (there : Option K) (new : List K) : Type 0 where
     pub finds : (q : K) → find new q ≡ cond (eq q k) there (find old q)
 
 module _ {K S : Type 0} where
-  -- what a set sees of a map with unit values
+  -- the contents of a set over a map with unit values
   abbrev pub of_map : Contents (K × Unit {0}) S → Contents K S
   of_map c = mapped (λ p. p.0) c
 

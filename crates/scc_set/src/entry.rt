@@ -1,4 +1,4 @@
-//! A key's place in a set, found once and held.
+//! The occupied entry of a set: the place of a key.
 ghost use Rattle.scc_contents.specs.Contents.{entries};
 ghost use Rattle.scc_set.specs.SetWalks.{CallableWhile, PassesAt, PassesNone};
 ghost use Rattle.scc_table.specs.Places.{IsPlace};
@@ -10,7 +10,7 @@ use crate::Owned;
 use scc_buckets::Place;
 use std::hash::{BuildHasher, BuildHasherDefault, FoldHasher, Hash};
 
-/// An entry that the set has, at its place. While it is held, the set is borrowed.
+/// An occupied entry: the place of a key of the set. It borrows the set.
 #[derive(Drop)]
 pub struct OccupiedEntry<'a, K: Eq + Hash, H: BuildHasher = BuildHasherDefault<FoldHasher>> {
     set: &'a mut Owned<K, H>,
@@ -19,7 +19,7 @@ pub struct OccupiedEntry<'a, K: Eq + Hash, H: BuildHasher = BuildHasherDefault<F
     ghost within: { IsPlace set.now (record { bucket = bucket; slot = slot }) },
 }
 
-/// A key that was taken out.
+/// A key that was removed.
 #[derive(Debug, Drop, PartialEq)]
 pub struct Removed<K> {
     pub key: K,
@@ -28,7 +28,7 @@ pub struct Removed<K> {
 impl<K: Eq + Hash, H: BuildHasher> Owned<K, H> {
     ghost use Rattle.scc_set.specs.SetEntries.{StandsIn, occupied_key, occupied_front, rests_if_none};
 
-    /// The first entry of the set's list, or None where the set is empty.
+    /// Returns the first entry of the set's list, or `None` if the set is empty.
     pub fn begin_sync(&mut self) -> Option<OccupiedEntry<'_, K, H>>
         ensures same_set { IfSome result (λ o. o.set.ghost_name ≡ self.entry.ghost_name) }
         ensures first { IfSome result (λ o. StandsIn self.old o × (occupied_front o ≡ [])) }
@@ -46,8 +46,8 @@ impl<K: Eq + Hash, H: BuildHasher> Owned<K, H> {
         }
     }
 
-    /// The first entry of the set's list on whose key `p` answers true, or None where there is none. `p` is called on
-    /// the keys in the order of the list, up to that one.
+    /// Returns the first entry of the set's list on whose key `p` returns true, or `None` if there is none. Calls `p`
+    /// on the keys in the order of the list until it returns true.
     pub fn any_sync<P: FnMut(&K) -> bool>(&mut self, p: P) -> Option<OccupiedEntry<'_, K, H>>
         requires { CallableWhile P.FnMut (λ answer. answer ≡ false) p (entries self.old) }
         ensures same_set { IfSome result (λ o. o.set.ghost_name ≡ self.entry.ghost_name) }
@@ -71,7 +71,7 @@ impl<K: Eq + Hash, H: BuildHasher> Owned<K, H> {
 impl<'a, K: Eq + Hash, H: BuildHasher> OccupiedEntry<'a, K, H> {
     ghost use Rattle.scc_set.specs.SetEntries.{IsNext, RemovesWithNext, RemovesEntryByRule, occupied_key, occupied_back, rests_if_none, rests_removed};
 
-    /// The stored key.
+    /// Returns the stored key.
     pub fn get(&self) -> &K
         ensures { result.now ≡ occupied_key self.now }
     {
@@ -82,7 +82,7 @@ impl<'a, K: Eq + Hash, H: BuildHasher> OccupiedEntry<'a, K, H> {
         })
     }
 
-    /// Removes the key, and answers it. Then the array may become smaller.
+    /// Removes the key, and returns it. The array may shrink.
     pub fn remove_entry(self) -> K
         ensures { RemovesEntryByRule K.eq self.entry result self.exit.0.now }
     {
@@ -91,7 +91,7 @@ impl<'a, K: Eq + Hash, H: BuildHasher> OccupiedEntry<'a, K, H> {
         self.set.remove_at(Place { bucket, slot })
     }
 
-    /// The entry that stands next in the set's list, or None where this one is the last. Nothing is resized.
+    /// Returns the entry that stands next in the set's list, or `None` if this entry is the last. Resizes nothing.
     pub fn next_sync(self) -> Option<OccupiedEntry<'a, K, H>>
         ensures next { IfSome result (IsNext self.entry) }
         ensures last { IfNone result (occupied_back self.entry ≡ []) }
@@ -109,8 +109,8 @@ impl<'a, K: Eq + Hash, H: BuildHasher> OccupiedEntry<'a, K, H> {
         }
     }
 
-    /// Takes out the key, and answers it with the entry that stood next in the set's list; alone, as an `Err`, where it
-    /// was the last. Nothing is resized.
+    /// Removes the key, and returns it with the entry that stood next in the set's list. If the key was the last,
+    /// returns it alone, as an `Err`. Resizes nothing.
     pub fn remove_and_sync(self) -> Result<(Removed<K>, OccupiedEntry<'a, K, H>), K>
         ensures removes { RemovesWithNext K.eq self.entry result }
         ensures* kept { sem 𝓛 (rests_removed K.row H.row H.Hasher.row K.Hash H.BuildHasher H.Hasher.Hasher self.entry

@@ -1,4 +1,4 @@
-//! The places of keys, as an entry goes from one to the next.
+//! The calls at a place of a set, by which an entry goes from key to key.
 ghost use Rattle.scc_contents.specs.Contents.{entries};
 ghost use Rattle.scc_set.specs.Removals.{RemovesAtByRule, TakesWithNextByRule};
 ghost use Rattle.scc_set.specs.SetWalks.{CallableWhile, PassesAt, PassesNone};
@@ -12,14 +12,14 @@ use scc_buckets::Place;
 use std::hash::{BuildHasher, Hash};
 
 impl<K: Eq + Hash, H: BuildHasher> Owned<K, H> {
-    /// The place of the first key of the list, or None where the set is empty.
+    /// Returns the place of the first key of the list, or `None` if the set is empty.
     pub(crate) fn first_place(&self) -> Option<Place>
         ensures { MatchOption result (entries self.now ≡ []) (StandsAt self.now 0) }
     {
         self.map.first_place()
     }
 
-    /// The place after that one, or None where it is the last.
+    /// Returns the place after `place`, or `None` if `place` is the last.
     pub(crate) fn next_place(&self, place: Place) -> Option<Place>
         requires { IsPlace self.now place }
         ensures { MatchOption result (suc (index_of self.now place) ≡ length (entries self.now))
@@ -28,7 +28,7 @@ impl<K: Eq + Hash, H: BuildHasher> Owned<K, H> {
         self.map.next_place(place)
     }
 
-    /// The key at the place.
+    /// Returns the key at `place`.
     pub(crate) fn key_at(&self, place: Place) -> &K
         requires { IsPlace self.now place }
         ensures { slice_get (entries self.now) (index_of self.now place) ≡ Some result.now }
@@ -36,7 +36,8 @@ impl<K: Eq + Hash, H: BuildHasher> Owned<K, H> {
         self.map.pair_at(place).0
     }
 
-    /// The place of the first key on which `p` answers true. It is called on the keys in their order, up to that one.
+    /// Returns the place of the first key on which `p` returns true, or `None`. Calls `p` on the keys in the order of
+    /// the list until it returns true.
     pub(crate) fn first_passing<P: FnMut(&K) -> bool>(&self, mut p: P) -> Option<Place>
         requires { CallableWhile P.FnMut (λ answer. answer ≡ false) p (entries self.now) }
         ensures { MatchOption result (PassesNone (CalledAt P.FnMut) p (entries self.now))
@@ -54,7 +55,7 @@ impl<K: Eq + Hash, H: BuildHasher> Owned<K, H> {
         None
     }
 
-    /// Takes the key out of its place. Then the array may become smaller.
+    /// Removes the key at `place` and returns it. Then the array may shrink.
     pub(crate) fn remove_at(&mut self, place: Place) -> K
         requires { IsPlace self.old place }
         ensures { RemovesAtByRule K.eq self.old place result self.new }
@@ -62,7 +63,7 @@ impl<K: Eq + Hash, H: BuildHasher> Owned<K, H> {
         self.map.remove_at(place).0
     }
 
-    /// Takes the key out of its place, with no resize, and answers it with the place of the key that followed.
+    /// Removes the key at `place` without a resize, and returns it with the place of the key that followed.
     pub(crate) fn take_with_next(&mut self, place: Place) -> (K, Option<Place>)
         requires { IsPlace self.old place }
         ensures { TakesWithNextByRule K.eq self.old place result self.new }

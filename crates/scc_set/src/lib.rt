@@ -1,4 +1,4 @@
-//! A hash set over the map of `scc_map`, for one owner.
+//! A hash set for one owner, over the map of `scc_map`.
 #![tactic(auto)]
 
 ghost use Rattle.scc_contents.specs.Contents.{entries, bucket_count, lists_of, settings_of, refused_of, waiting_of, hash_in};
@@ -29,10 +29,10 @@ use scc_map::borrowed::ReplaceResult;
 use std::hash::{BuildHasher, BuildHasherDefault, FoldHasher, Hash};
 use std::marker::Model;
 
-/// A set of keys, no two equal. A contract sees the keys in the set's own order as `entries s`, the number of its
-/// buckets as `bucket_count s`, and its hasher and sizes as `settings_of s`.
+/// A set of keys, in which no two keys are equal. A contract sees the keys in the set's own order as `entries s`, the
+/// number of its buckets as `bucket_count s`, and its hasher and sizes as `settings_of s`.
 ///
-/// The default hasher has a fixed seed. For keys that an attacker picks, write `Owned::with_hasher(alloc,
+/// The default hasher has a fixed seed. For keys that an attacker chooses, use `Owned::with_hasher(alloc,
 /// RandomState::new(&rt)?)`.
 #[derive(Drop)]
 pub struct Owned<K: Eq + Hash, H: BuildHasher = BuildHasherDefault<FoldHasher>> {
@@ -49,7 +49,7 @@ impl<K: Eq + Hash, H: BuildHasher> Model for Owned<K, H> {
 }
 
 impl<K: Eq + Hash, H: BuildHasher> Owned<K, H> {
-    /// The number of keys.
+    /// Returns the number of keys.
     #[inline(always)]
     pub fn len(&self) -> usize
         ensures len { result ≡ length (entries self.now) }
@@ -58,7 +58,7 @@ impl<K: Eq + Hash, H: BuildHasher> Owned<K, H> {
         self.map.len()
     }
 
-    /// Whether there is no key.
+    /// Returns whether there is no key.
     #[inline(always)]
     pub fn is_empty(&self) -> bool
         ensures { IsTrue result ↔ (entries self.now ≡ []) }
@@ -66,7 +66,8 @@ impl<K: Eq + Hash, H: BuildHasher> Owned<K, H> {
         self.map.is_empty()
     }
 
-    /// The slots of the array, 32 a bucket; 0 without an array. It is no bound on the number of keys.
+    /// Returns the number of slots of the array, 32 a bucket, or 0 without an array. There may be more keys than
+    /// slots.
     #[inline(always)]
     pub fn capacity(&self) -> usize
         ensures { result ≡ 32 * bucket_count self.now }
@@ -74,8 +75,8 @@ impl<K: Eq + Hash, H: BuildHasher> Owned<K, H> {
         self.map.capacity()
     }
 
-    /// Whether memory was refused for the last resize that was due. The next one that is made lowers it. Where it is
-    /// false after a call that had to resize, the set has the size that the rules ask for.
+    /// Returns whether memory was refused for the last resize that was due. The next resize that is made clears this
+    /// note. If the result is false after a call that had to resize, the set has the size that the rules ask for.
     #[inline(always)]
     pub fn is_resize_refused(&self) -> bool
         ensures { result ≡ (refused_of self.now).0 }
@@ -83,8 +84,8 @@ impl<K: Eq + Hash, H: BuildHasher> Owned<K, H> {
         self.map.is_resize_refused()
     }
 
-    /// Whether there is an array and the bucket of `k` holds fewer than 32 keys. An insertion of `k` then takes no
-    /// memory and can't be refused.
+    /// Returns whether there is an array and the bucket of `k` holds fewer than 32 keys. If so, an insertion of `k`
+    /// can't be refused memory, and allocates nothing unless it relocates another bucket of more than 32 keys.
     #[inline(always)]
     pub fn has_room(&self, k: &K) -> bool
         ensures { IsTrue result ↔ HasRoom (hash_in ⟦<H as Hashes<K>>⟧.hash_of self.now) self.now k.now }
@@ -92,7 +93,7 @@ impl<K: Eq + Hash, H: BuildHasher> Owned<K, H> {
         self.map.has_room(k)
     }
 
-    /// Whether a key equals `k`.
+    /// Returns whether a key equals `k`.
     #[inline(always)]
     pub fn contains_sync(&self, k: &K) -> bool
         ensures { IsTrue result ↔ IsSome (find K.eq (entries self.now) k.now) }
@@ -100,7 +101,8 @@ impl<K: Eq + Hash, H: BuildHasher> Owned<K, H> {
         self.map.contains_sync(k)
     }
 
-    /// The answer of `f` on the key that equals `k`, or None where there is none; then `f` isn't called.
+    /// Returns the result of `f` on the key that equals `k`. If no key equals `k`, returns `None` and doesn't call
+    /// `f`.
     #[inline(always)]
     pub fn read_sync<R, F: FnOnce(&K) -> R>(&self, k: &K, f: F) -> Option<R>
         requires { (q : K) → find K.eq (entries self.now) k.now ≡ Some q → FnOnceTakesAt F.FnOnce f q }
@@ -115,8 +117,9 @@ impl<K: Eq + Hash, H: BuildHasher> Owned<K, H> {
         )
     }
 
-    /// Inserts the key where no key equals it. Where one does, the set stays as it is, and the supplied key comes back;
-    /// so it does where a growth that the insertion needs is refused.
+    /// Inserts the key if no key equals `k`. If a key equals `k`, the set stays as it is and the supplied key comes
+    /// back. The key also comes back if memory for the first array, for the keys that its bucket waits for or for its
+    /// overflow list is refused. A doubling whose memory is refused doesn't make the insertion fail.
     #[inline(always)]
     pub fn insert_sync(&mut self, k: K) -> Result<(), KeyError<K>>
         ensures { InsertsByRule K.eq ⟦<H as Hashes<K>>⟧.hash_of self.old k result self.new }
@@ -124,19 +127,19 @@ impl<K: Eq + Hash, H: BuildHasher> Owned<K, H> {
         key_answer(self.map.insert_sync(k, ()))
     }
 
-    /// Makes what an insertion of `k` wants, at most one resize: the first array, or twice as many buckets where that
-    /// is due, all of which wait then. A key that is there wants nothing. A growth that is refused is noted,
-    /// and marked: the insertion of `k` that follows doesn't try it again, so that it makes no resize in any case. A
-    /// growth that is made takes note and mark away; where none is due, both stay. This fails only where the first
-    /// array is refused, and then nothing changes.
+    /// Makes what an insertion of `k` would have to make first, at most one resize: the first array, or an array of
+    /// twice as many buckets if a growth is due; then all buckets wait. If a key equals `k`, nothing is made. A growth
+    /// whose memory is refused is noted and marked: the insertion of `k` that follows doesn't try the growth again, so
+    /// it makes no resize in any case. A growth that is made takes note and mark away; if no growth is due, both stay.
+    /// Fails only if memory for the first array is refused, and then nothing changes.
     pub fn prepare(&mut self, k: &K) -> Result<(), MakeError>
         ensures { PreparesByRule K.eq ⟦<H as Hashes<K>>⟧.hash_of self.old k.now result self.new }
     {
         self.map.prepare(k)
     }
 
-    /// Takes the mark of a refused growth away, and changes nothing else: an insertion tries a growth that is due, also
-    /// where `prepare` was refused it.
+    /// Takes the mark of a refused growth away, and changes nothing else. An insertion then tries a growth that is
+    /// due, even if `prepare` was refused memory for it.
     pub fn drop_mark(&mut self)
         ensures same { IsUnchanged self.old self.new }
         ensures lists { lists_of self.new ≡ lists_of self.old }
@@ -147,8 +150,8 @@ impl<K: Eq + Hash, H: BuildHasher> Owned<K, H> {
         self.map.drop_mark();
     }
 
-    /// Puts `k` in the place of the key that equals it, and answers the old one; this takes no memory. Where no key
-    /// equals it, it is inserted, and None is answered; refused, it comes back.
+    /// Puts `k` in the place of the key that equals it, and returns the old key; this allocates nothing. If no key
+    /// equals `k`, `k` is inserted and `None` is returned; if memory is refused, `k` comes back.
     #[inline(always)]
     pub fn replace_sync(&mut self, k: K) -> Result<Option<K>, KeyError<K>>
         ensures { ReplacesByRule K.eq ⟦<H as Hashes<K>>⟧.hash_of self.old k result self.new }
@@ -162,8 +165,8 @@ impl<K: Eq + Hash, H: BuildHasher> Owned<K, H> {
         }
     }
 
-    /// Puts `k` in the place of the key that equals it, and answers the old one; `k` itself, as an `Err`, where there
-    /// is none.
+    /// Puts `k` in the place of the key that equals it, and returns the old key. If no key equals `k`, returns `k`, as
+    /// an `Err`.
     pub(crate) fn swap_key(&mut self, k: K) -> Result<K, K>
         ensures swapped { IfOk result (λ old. (find K.eq (entries self.old) k ≡ Some old)
             × HoldsExactly self.old (with_key K.eq (entries self.old) k) self.new
@@ -177,8 +180,8 @@ impl<K: Eq + Hash, H: BuildHasher> Owned<K, H> {
         swap_in_map(&mut self.map, k)
     }
 
-    /// Takes out the key that equals `k` where `f` answers true; the condition is asked only where there is one. Else
-    /// the answer is None. After a removal the array may become smaller.
+    /// Calls `f` if a key equals `k`. If `f` returns true, removes the key that equals `k` and returns it. If `f`
+    /// returns false or no key equals `k`, the result is `None`. After a removal the array may shrink.
     #[inline(always)]
     pub fn remove_if_sync<F: FnOnce() -> bool>(&mut self, k: &K, f: F) -> Option<K>
         requires { IsSome (find K.eq (entries self.old) k.now) → F.pre f }
@@ -195,8 +198,8 @@ impl<K: Eq + Hash, H: BuildHasher> Owned<K, H> {
         key_alone(pair)
     }
 
-    /// Takes out the key that equals `k`, and answers it, or None where there is none. After a removal the array may
-    /// become smaller.
+    /// Removes the key that equals `k` and returns it, or returns `None` if there is none. After a removal the array
+    /// may shrink.
     #[inline(always)]
     pub fn remove_sync(&mut self, k: &K) -> Option<K>
         ensures { RemovesByRule K.eq (Removes K.eq self.old k.now result self.new) self.old k.now result self.new }
@@ -205,7 +208,7 @@ impl<K: Eq + Hash, H: BuildHasher> Owned<K, H> {
     }
 }
 
-/// The answer of the map without the unit value.
+/// Returns `answer`, the result of a call of the map, without the unit value.
 #[inline(always)]
 fn key_answer<K, R>(answer: Result<R, InsertError<K, ()>>) -> Result<R, KeyError<K>>
     ensures { result ≡ key_answer_of answer }
@@ -217,8 +220,8 @@ fn key_answer<K, R>(answer: Result<R, InsertError<K, ()>>) -> Result<R, KeyError
     }
 }
 
-/// Puts `k` in the place of the map's key that equals it, and answers the old one; `k` itself, as an `Err`, where there
-/// is none.
+/// Puts `k` in the place of the map's key that equals it, and returns the old key. If no key equals `k`, returns `k`,
+/// as an `Err`.
 fn swap_in_map<K: Eq + Hash, H: BuildHasher>(
     map: &mut scc_map::Owned<K, (), H>,
     k: K,
@@ -236,7 +239,7 @@ fn swap_in_map<K: Eq + Hash, H: BuildHasher>(
     }
 }
 
-/// The key of the pair, if there is one.
+/// Returns the key of the pair, if there is a pair.
 #[inline(always)]
 fn key_alone<K>(pair: Option<(K, ())>) -> Option<K>
     ensures { result ≡ option_map (λ p. p.0) pair }

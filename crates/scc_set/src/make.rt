@@ -1,4 +1,4 @@
-//! How a set is made: empty, or of items.
+//! How a set is made: empty, or from items.
 ghost use Rattle.scc_contents.specs.Contents.{entries, settings_of};
 ghost use Rattle.scc_set.specs.Collections.{FindsItems, InsertsAll, IsCollected, StopsAt};
 ghost use Rattle.scc_set.specs.Keys.{find, IsUnique};
@@ -15,14 +15,15 @@ use std::hash::{BuildHasher, BuildHasherDefault, Hash};
 use std::sync::Arc;
 
 impl<K: Eq + Hash> Owned<K> {
-    /// An empty set without an array. It takes no memory.
+    /// Returns an empty set without an array. Allocates nothing.
     pub fn new(alloc: Global) -> Self
         ensures { IsNew (settings_of result).hasher result }
     {
         Owned::with_hasher(alloc, BuildHasherDefault::new())
     }
 
-    /// An empty set with an array for at least so many keys at one a slot, by the rules of `with_capacity_and_hasher`.
+    /// Returns an empty set with an array for at least `capacity` keys at one a slot, by the rules of
+    /// `with_capacity_and_hasher`.
     pub fn with_capacity(alloc: Global, capacity: usize) -> Result<Self, MakeError>
         ensures { MakesEmpty (λ s. (settings_of s).hasher) 0 capacity result }
     {
@@ -31,8 +32,8 @@ impl<K: Eq + Hash> Owned<K> {
 }
 
 impl<K: Eq + Hash, H: BuildHasher> Owned<K, Shared<H>> {
-    /// An empty set that skips so many bits of each hash, and hashes as each other part of that hasher does. Else as
-    /// `with_capacity_and_hasher`.
+    /// Returns an empty set that skips `skipped` bits of each hash and shares `hasher` with the other parts. Otherwise
+    /// as `with_capacity_and_hasher`.
     pub fn part(
         alloc: Global,
         skipped: u32,
@@ -49,7 +50,7 @@ impl<K: Eq + Hash, H: BuildHasher> Owned<K, Shared<H>> {
 }
 
 impl<K: Eq + Hash, H: BuildHasher> Owned<K, H> {
-    /// An empty set without an array. It takes no memory.
+    /// Returns an empty set without an array. Allocates nothing.
     pub fn with_hasher(alloc: Global, hasher: H) -> Self
         ensures { IsNew hasher result }
     {
@@ -58,8 +59,9 @@ impl<K: Eq + Hash, H: BuildHasher> Owned<K, H> {
         }
     }
 
-    /// An empty set with an array of the least power of two of slots that is at least `capacity` and at least 64;
-    /// without an array for 0. These slots are then its minimum. A size that can't be had is refused.
+    /// Returns an empty set with an array of the least power of two of slots that is at least `capacity` and at least
+    /// 64, or without an array if `capacity` is 0. These slots are the set's minimum. Fails if an array of that size
+    /// can't be allocated.
     pub fn with_capacity_and_hasher(
         alloc: Global,
         capacity: usize,
@@ -75,7 +77,7 @@ impl<K: Eq + Hash, H: BuildHasher> Owned<K, H> {
         }
     }
 
-    /// As `with_capacity_and_hasher`, but skips so many bits of each hash.
+    /// Makes what `with_capacity_and_hasher` makes, but skips `skipped` bits of each hash.
     pub fn skipping(
         alloc: Global,
         skipped: u32,
@@ -93,9 +95,9 @@ impl<K: Eq + Hash, H: BuildHasher> Owned<K, H> {
         }
     }
 
-    /// A set of the items, inserted in their order, so that the first of equal keys stays. Its array is made for as
-    /// many keys as there are items; without items there is none. It is refused for want of memory, and then the items
-    /// are dropped. The iterator has to end.
+    /// Returns a set of the items, inserted in their order, so that the first of equal keys stays. The array is made
+    /// for one key an item; without items there is no array. Fails if memory is refused, and then drops the items. The
+    /// iterator must end.
     pub fn try_from_iter<I: IntoIterator<Item = K>>(
         alloc: Global,
         items: I,
@@ -119,8 +121,8 @@ impl<K: Eq + Hash, H: BuildHasher> Owned<K, H> {
         Ok(made)
     }
 
-    /// Inserts the keys in their order, up to the first for which memory is refused, which comes back. The call of
-    /// `len` is there for its contract: no two keys are equal.
+    /// Inserts the keys in their order. Stops at the first key for which memory is refused, and returns that key.
+    /// Calls `len` for its contract: no two keys are equal.
     fn insert_all(&mut self, keys: Vec<K>) -> Result<(), K>
     where
         K: Drop,

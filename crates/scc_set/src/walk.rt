@@ -14,8 +14,8 @@ use scc_common::{Verdict, WalkError};
 use std::hash::{BuildHasher, Hash};
 
 impl<K: Eq + Hash, H: BuildHasher> Owned<K, H> {
-    /// Calls `f` on the keys in some order, each at most once, until its first false, and answers false where it
-    /// stopped.
+    /// Calls `f` on the keys in some order, each at most once, until `f` returns false. Returns false if it did, else
+    /// true.
     #[inline(always)]
     pub fn iter_sync<F: FnMut(&K) -> bool>(&self, mut f: F) -> bool
         requires { (ks : List K) → IsPermutation (entries self.now) ks
@@ -31,8 +31,8 @@ impl<K: Eq + Hash, H: BuildHasher> Owned<K, H> {
         )
     }
 
-    /// Calls `f` on every key once, in some order, and takes out the keys on which it answers false. Then the array may
-    /// become smaller.
+    /// Calls `f` on every key once, in some order, and removes the keys on which `f` returns false. Then the array may
+    /// shrink.
     pub fn retain_sync<F: FnMut(&K) -> bool>(&mut self, mut f: F)
     where
         K: Drop,
@@ -49,10 +49,10 @@ impl<K: Eq + Hash, H: BuildHasher> Owned<K, H> {
         );
     }
 
-    /// Calls `f` on the keys in some order, each at most once, until it stops, and answers false where it stopped. A
-    /// key on which it answers `Take` or `TakeStop` goes to the end of `taken`. Room for one key is made in `taken`
-    /// before each call of `f`; where it can't be had, the walk ends with an error, and what it did so far stays. Where
-    /// a key was taken, the array may become smaller.
+    /// Calls `f` on the keys in some order, each at most once, until `f` stops the walk. Returns false if `f` stopped
+    /// it, else true. A key on which `f` returns `Take` or `TakeStop` goes to the end of `taken`. Before each call of
+    /// `f`, room for one key is made in `taken`; if its memory is refused, the walk ends with an error, and what the
+    /// walk did so far stays. If a key was taken, the array may shrink.
     pub fn iter_mut_sync<F: FnMut(&K) -> Verdict>(
         &mut self,
         mut f: F,
@@ -74,7 +74,7 @@ impl<K: Eq + Hash, H: BuildHasher> Owned<K, H> {
         )
     }
 
-    /// Takes out all keys. Then the array may become smaller.
+    /// Removes all keys. Then the array may shrink.
     pub fn clear_sync(&mut self)
     where
         K: Drop,

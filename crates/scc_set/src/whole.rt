@@ -1,4 +1,4 @@
-//! What is done with a whole set: comparisons and clones.
+//! The calls on a whole set: comparisons and clones.
 ghost use Rattle.scc_contents.specs.Clones.{HasClones};
 ghost use Rattle.scc_contents.specs.Contents.{entries, refused_of, waiting_of};
 ghost use Rattle.scc_contents.specs.Copies.{IsCopied};
@@ -12,7 +12,7 @@ use std::alloc::AllocError;
 use std::hash::{BuildHasher, Hash};
 
 impl<K: Eq + Hash, H: BuildHasher> Owned<K, H> {
-    /// A clone of the stored key that equals `k`, or None where there is none.
+    /// Returns a clone of the stored key that equals `k`, or `None` if there is none.
     pub fn cloned_key(&self, k: &K) -> Result<Option<K>, AllocError>
     where
         K: Clone,
@@ -22,9 +22,9 @@ impl<K: Eq + Hash, H: BuildHasher> Owned<K, H> {
         self.map.cloned_key(k)
     }
 
-    /// A set with clones of all keys under a clone of the hasher, of the same capacity, which is its minimum; no bucket
-    /// of it waits, and no resize of it was refused. It is refused for want of memory, and where a clone can't be had
-    /// or two keys' clones are equal.
+    /// Returns a set with clones of all keys and of the hasher. It has the capacity of this set as its capacity and
+    /// its minimum; no bucket of it waits, and no refused resize is noted. Fails if memory is refused, a clone fails,
+    /// or the clones of two keys are equal.
     pub fn try_clone(&self) -> Result<Self, MakeError>
     where
         K: Clone,
@@ -54,7 +54,7 @@ impl<K: Eq + Hash, H: BuildHasher> PartialEq for Owned<K, H> {
           K.Eq.laws (entries l) (entries m) (entries n);
     } };
 
-    /// Whether each key of either set is in the other.
+    /// Returns whether each key of either set is in the other set.
     fn eq(&self, other: &Self) -> bool {
         self.map == other.map
     }

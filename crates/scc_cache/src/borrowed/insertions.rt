@@ -1,4 +1,4 @@
-//! The insertions of an entry of a borrowed cache. Each goes on at the place that the search found.
+//! The puts through an entry of a borrowed cache. Each goes on from the search that made the entry.
 ghost use Rattle.scc_cache.specs.Entries.{entry_guard, entry_key, IsVacant, OrPuts, OrPutsSome, Refuses, RefusesSome, SetsEntry, rests_if_refused};
 ghost use Rattle.std.specs.Borrow.{sem};
 ghost use Rattle.std.specs.Fn.{FnOnceTakesAt, FnOnceReturnsAt};
@@ -11,8 +11,8 @@ use scc_common::InsertError;
 use std::hash::{BuildHasher, Hash};
 
 impl<'a, K: Eq + Hash, V, H: BuildHasher> HeldEntry<&'a mut Owned<K, V, H>, (), K, V, H> {
-    /// Puts in `default` where the entry is vacant, by the rules of `put_sync`, and answers the pair that it drove out
-    /// and the occupied entry. An occupied one stays as it is, and can't be refused.
+    /// Puts in `default` if the entry is vacant, by the rules of `put_sync`, and returns the evicted pair, if any, and
+    /// the occupied entry. An occupied entry stays as it is, and never fails.
     pub fn or_put(
         self,
         default: V,
@@ -33,7 +33,7 @@ impl<'a, K: Eq + Hash, V, H: BuildHasher> HeldEntry<&'a mut Owned<K, V, H>, (), 
         }
     }
 
-    /// Puts in the answer of `f` where the entry is vacant, as `or_put`. `f` isn't called on an occupied one.
+    /// Puts in the result of `f` if the entry is vacant, as `or_put` does. `f` isn't called on an occupied entry.
     pub fn or_put_with<F: FnOnce() -> V>(
         self,
         f: F,
@@ -53,8 +53,8 @@ impl<'a, K: Eq + Hash, V, H: BuildHasher> HeldEntry<&'a mut Owned<K, V, H>, (), 
         }
     }
 
-    /// Puts in the answer of `f` on the key where the entry is vacant, as `or_put`. `f` isn't called on an occupied
-    /// one.
+    /// Puts in the result of `f` on the key if the entry is vacant, as `or_put` does. `f` isn't called on an occupied
+    /// entry.
     pub fn or_put_with_key<F: FnOnce(&K) -> V>(
         self,
         f: F,
@@ -74,7 +74,7 @@ impl<'a, K: Eq + Hash, V, H: BuildHasher> HeldEntry<&'a mut Owned<K, V, H>, (), 
         }
     }
 
-    /// Puts in the default value where the entry is vacant, as `or_put`.
+    /// Puts in the default value if the entry is vacant, as `or_put` does.
     pub fn or_default(
         self,
     ) -> Result<(EvictedEntry<K, V>, OccupiedEntry<'a, K, V, H>), InsertError<K, V>>
@@ -94,7 +94,8 @@ impl<'a, K: Eq + Hash, V, H: BuildHasher> HeldEntry<&'a mut Owned<K, V, H>, (), 
         }
     }
 
-    /// Sets the value of an occupied entry, which keeps its key and its place; puts it in at a vacant one, as `or_put`.
+    /// Sets the value of an occupied entry, which keeps its key and its place, or puts in `value` at a vacant entry,
+    /// as `or_put` does.
     pub fn put_entry(
         self,
         value: V,
@@ -131,7 +132,7 @@ impl<'a, K: Eq + Hash, V, H: BuildHasher> HeldEntry<&'a mut Owned<K, V, H>, (), 
 }
 
 impl<'a, K: Eq + Hash, V, H: BuildHasher> HeldOccupied<&'a mut Owned<K, V, H>, (), K, V, H> {
-    /// The entry as it is, as a put that drives nothing out answers it.
+    /// Returns the entry as it is, as the result of a put that evicts nothing.
     fn as_it_is(self) -> Result<(EvictedEntry<K, V>, OccupiedEntry<'a, K, V, H>), InsertError<K, V>>
         ensures same { result ≡ Ok (None, self.entry) }
         ensures* kept { sem 𝓛 (rests_if_refused K.row V.row H.row H.Hasher.row K.Hash H.BuildHasher H.Hasher.Hasher

@@ -1,5 +1,5 @@
-//! What makes an entry of a borrowed cache, and what lets the cache go. The search is made once, and an entry holds its
-//! place.
+//! The calls that make an entry of a borrowed cache, and those that end the borrow. An entry holds the place that one
+//! search found.
 ghost use Rattle.scc_cache.specs.CacheSteps.{IsAbsent, Puts, TakesAt};
 ghost use Rattle.scc_cache.specs.Caches.{IsCacheState};
 ghost use Rattle.scc_cache.specs.Entries.{Memory, occupied_cache, occupied_pair, entry_guard, IsEntryOf, IsRefreshed, IsPut, rests_if_refused, rests_if_none, replaced_guard, Replaces};
@@ -17,9 +17,9 @@ use std::hash::{BuildHasher, Hash};
 use std::marker::PhantomData;
 
 impl<K: Eq + Hash, V, H: BuildHasher> Owned<K, V, H> {
-    /// The entry of `k`: occupied at the stored pair, which becomes the most recent of its bucket, or vacant with `k`,
-    /// and then nothing changes. It takes no memory and makes no array. Where the bucket of a stored pair waits, it
-    /// takes its pairs over first, and no other does.
+    /// Returns the entry of `k`: occupied at the stored pair, which becomes the most recent of its bucket, or vacant
+    /// with `k`, and then nothing changes. Allocates nothing and makes no array. If the bucket of a stored pair waits,
+    /// it is relocated first, and no other bucket is.
     pub fn entry_sync(&mut self, k: K) -> Entry<'_, K, V, H>
     where
         K: Drop,
@@ -44,9 +44,9 @@ impl<K: Eq + Hash, V, H: BuildHasher> Owned<K, V, H> {
         }
     }
 
-    /// The occupied entry of `k`, whose pair becomes the most recent of its bucket; None where no key equals it, and
-    /// then nothing changes. It takes no memory. Where that bucket waits, it takes its pairs over first, and no other
-    /// does.
+    /// Returns the occupied entry of `k`, whose pair becomes the most recent of its bucket. If no key equals `k`,
+    /// returns `None`, and nothing changes. Allocates nothing. If the bucket of the pair waits, it is relocated first,
+    /// and no other bucket is.
     pub fn get_sync(&mut self, k: &K) -> Option<OccupiedEntry<'_, K, V, H>>
         ensures same_cache { IfSome result (λ o. o.guard.ghost_name ≡ self.entry.ghost_name) }
         ensures entry { IfSome result (IsRefreshed K.eq self.old k.now) }
@@ -68,9 +68,9 @@ impl<K: Eq + Hash, V, H: BuildHasher> Owned<K, V, H> {
     }
 
     /// Puts `k` in the place of the key that equals it, keeps the value, makes the pair the most recent of its bucket,
-    /// and answers the entry with the old key. Where no key equals it, nothing changes, and it answers the vacant
-    /// entry. It takes no memory. Where the bucket of a stored pair waits, it takes its pairs over first, and no other
-    /// does.
+    /// and returns the entry with the old key. If no key equals `k`, nothing changes, and the vacant entry is
+    /// returned. Allocates nothing. If the bucket of a stored pair waits, it is relocated first, and no other bucket
+    /// is.
     pub fn replace_sync(&mut self, k: K) -> ReplaceResult<'_, K, V, H>
         ensures same_cache { (replaced_guard result).ghost_name ≡ self.entry.ghost_name }
         ensures step { Replaces K.eq self.old k result }
@@ -101,7 +101,7 @@ impl<K: Eq + Hash, V, H: BuildHasher> Owned<K, V, H> {
 }
 
 impl<'a, N, K: Eq + Hash, V, H: BuildHasher> HeldOccupied<&'a mut Owned<K, V, H>, N, K, V, H> {
-    /// Removes the pair, and answers its value. The array may become smaller.
+    /// Removes the pair, and returns its value. The array may shrink.
     pub fn remove(self) -> V
     where
         N: Drop,
@@ -118,7 +118,7 @@ impl<'a, N, K: Eq + Hash, V, H: BuildHasher> HeldOccupied<&'a mut Owned<K, V, H>
         value
     }
 
-    /// Removes the pair, and answers it. The array may become smaller.
+    /// Removes the pair, and returns it. The array may shrink.
     pub fn remove_entry(self) -> (K, V)
     where
         N: Drop,
@@ -136,7 +136,7 @@ impl<'a, N, K: Eq + Hash, V, H: BuildHasher> HeldOccupied<&'a mut Owned<K, V, H>
 }
 
 impl<'a, K: Eq + Hash, V, H: BuildHasher> HeldVacant<&'a mut Owned<K, V, H>, (), K, V, H> {
-    /// Gives the key back, and leaves the cache as it is.
+    /// Returns the key, and leaves the cache as it is.
     pub fn into_key(self) -> K
         ensures key { result ≡ self.entry.key }
         ensures unchanged { self.exit.0.now ≡ self.entry.guard.now }
@@ -144,8 +144,7 @@ impl<'a, K: Eq + Hash, V, H: BuildHasher> HeldVacant<&'a mut Owned<K, V, H>, (),
         self.key
     }
 
-    /// Puts in the key with `value`, as `put_entry` does, and lets the cache go: the answer is the pair that it drove
-    /// out.
+    /// Puts in the key with `value`, as `put_entry` does, ends the borrow, and returns the evicted pair, if any.
     pub fn put(self, value: V) -> Result<EvictedEntry<K, V>, InsertError<K, V>>
         ensures step { Puts (hash_in ⟦<H as Hashes<K>>⟧.hash_of self.entry.guard.now.contents) K.eq
             self.entry.guard.now (self.entry.key, value) result self.exit.0.now }
@@ -163,9 +162,9 @@ impl<'a, K: Eq + Hash, V, H: BuildHasher> HeldVacant<&'a mut Owned<K, V, H>, (),
         }
     }
 
-    /// Puts in the key with `value` as the most recent pair of its bucket, by the rules of `put_sync`, and answers the
-    /// pair that it drove out and its entry. Refused for want of memory, which comes only where there is no array, key
-    /// and value come back and nothing changed.
+    /// Puts in the key with `value` as the most recent pair of its bucket, by the rules of `put_sync`, and returns the
+    /// evicted pair, if any, and the new pair's entry. Memory is refused only if there is no array; then key and value
+    /// come back and nothing changes.
     pub fn put_entry(
         self,
         value: V,

@@ -1,5 +1,5 @@
-//! How an entry is made of what holds a cache, the same under each. The pair of the key becomes the most recent of its
-//! bucket first.
+//! How an entry is made from a guard of a cache, alike for all guards. The pair of the key first becomes the most
+//! recent of its bucket.
 ghost use Rattle.scc_cache.specs.CacheSteps.{IsAbsent};
 ghost use Rattle.scc_cache.specs.Caches.{IsCacheState};
 ghost use Rattle.scc_cache.specs.Entries.{entry_guard, occupied_cache, IsEntryOf, IsRefreshed, replaced_guard, Replaces};
@@ -20,8 +20,8 @@ impl<G: Guard<Inner = Owned<K, V, H>>, N, K: Eq + Hash, V, H: BuildHasher> HeldE
     V,
     H,
 > {
-    /// The entry of `k` in the cache that is held: occupied at the stored pair, which becomes the most recent of its
-    /// bucket, or vacant with `k`. It takes no memory and makes no array.
+    /// Returns the entry of `k` in the cache of `guard`: occupied at the stored pair, which becomes the most recent of
+    /// its bucket, or vacant with `k`. Allocates nothing and makes no array.
     pub fn of(guard: G, k: K, rest: N) -> Self
     where
         K: Drop,
@@ -57,8 +57,8 @@ impl<G: Guard<Inner = Owned<K, V, H>>, N, K: Eq + Hash, V, H: BuildHasher> HeldO
     V,
     H,
 > {
-    /// The occupied entry of `k`, whose pair becomes the most recent of its bucket, or None where no key equals it;
-    /// then nothing changes, and the cache is let go.
+    /// Returns the occupied entry of `k` in the cache of `guard`, whose pair becomes the most recent of its bucket. If
+    /// no key equals `k`, changes nothing, drops the guard and returns `None`.
     pub fn of(guard: G, k: &K, rest: N) -> Option<Self>
     where
         G: Drop,
@@ -91,8 +91,8 @@ impl<G: Guard<Inner = Owned<K, V, H>>, N, K: Eq + Hash, V, H: BuildHasher> HeldR
     V,
     H,
 > {
-    /// Puts `k` in the place of the key that equals it, makes the pair the most recent of its bucket, and answers the
-    /// entry with the old key; or the vacant entry of `k`.
+    /// Puts `k` in the place of the key that equals it, makes the pair the most recent of its bucket, and returns the
+    /// entry with the old key. If no key equals `k`, returns the vacant entry of `k`.
     pub fn of(guard: G, k: K, rest: N) -> Self
         ensures step { Replaces K.eq (G.inner guard) k result }
         ensures state { IsCacheState K.eq (hash_in ⟦<H as Hashes<K>>⟧.hash_of

@@ -1,4 +1,4 @@
-//! What an entry does while it keeps its guard, the same under each.
+//! The calls of an entry that keep its guard, alike for all guards.
 ghost use Rattle.scc_cache.specs.Entries.{occupied_pair, occupied_lends, entry_key, IsWritten, with_value, TakesEntry, Modifies};
 ghost use Rattle.std.specs.Borrow.{sem};
 ghost use Rattle.std.specs.Prelude.{◌≡◌};
@@ -15,21 +15,21 @@ impl<G: Guard<Inner = Owned<K, V, H>>, N, K: Eq + Hash, V, H: BuildHasher> HeldO
     V,
     H,
 > {
-    /// The stored key.
+    /// Returns the stored key.
     pub fn key(&self) -> &K
         ensures { result.now ≡ (occupied_pair self.now).0 }
     {
         self.guard.look().pair_in(self.place).0
     }
 
-    /// The value.
+    /// Returns the value.
     pub fn get(&self) -> &V
         ensures { result.now ≡ (occupied_pair self.now).1 }
     {
         self.guard.look().pair_in(self.place).1
     }
 
-    /// The value, to write. The order of the pairs stays.
+    /// Returns the value, to write. The order of the pairs stays.
     pub fn get_mut(&mut self) -> &mut V
         ensures* writes_back { sem 𝓛 (occupied_lends G.row N.row K.row V.row H.row H.Hasher.row self.entry result) }
         ensures value { result.now ≡ (occupied_pair self.old).1 }
@@ -39,8 +39,7 @@ impl<G: Guard<Inner = Owned<K, V, H>>, N, K: Eq + Hash, V, H: BuildHasher> HeldO
         self.guard.lend().value_mut_at(place)
     }
 
-    /// Sets the value, and answers the old one. It drives nothing out, takes no memory, and leaves the order of the
-    /// pairs.
+    /// Sets the value, and returns the old value. Evicts nothing, allocates nothing, and keeps the order of the pairs.
     pub fn put(&mut self, value: V) -> V
         ensures old { result ≡ (occupied_pair self.old).1 }
         ensures written { IsWritten self.old value self.new }
@@ -57,7 +56,7 @@ impl<G: Guard<Inner = Owned<K, V, H>>, N, K: Eq + Hash, V, H: BuildHasher> HeldV
     V,
     H,
 > {
-    /// The key that would go in.
+    /// Returns the key that an insertion would store.
     pub fn key(&self) -> &K
         ensures { result.now ≡ self.now.key }
     {
@@ -72,7 +71,7 @@ impl<G: Guard<Inner = Owned<K, V, H>>, N, K: Eq + Hash, V, H: BuildHasher> HeldE
     V,
     H,
 > {
-    /// The stored key, or the one that was asked for.
+    /// Returns the stored key of an occupied entry, or the key of a vacant entry.
     pub fn key(&self) -> &K
         ensures { result.now ≡ entry_key self.now }
     {
@@ -82,7 +81,7 @@ impl<G: Guard<Inner = Owned<K, V, H>>, N, K: Eq + Hash, V, H: BuildHasher> HeldE
         }
     }
 
-    /// Calls `f` on the value of an occupied entry, and answers the entry. `f` isn't called on a vacant one.
+    /// Calls `f` on the value if the entry is occupied, and returns the entry. `f` isn't called on a vacant entry.
     pub fn and_modify<F: FnOnce(&mut V)>(self, f: F) -> Self
         requires { TakesEntry F.FnOnce f self }
         ensures { Modifies F.FnOnce f self result }

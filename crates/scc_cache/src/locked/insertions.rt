@@ -1,4 +1,4 @@
-//! The insertions of an entry of a locked stripe.
+//! The puts through an entry of a locked stripe.
 ghost use Rattle.scc_cache.specs.Entries.{entry_key, IsVacant, OrPuts, OrPutsSome, Refuses, RefusesSome, SetsEntry};
 ghost use Rattle.std.specs.Fn.{FnOnceTakesAt, FnOnceReturnsAt};
 ghost use Rattle.std.specs.Prelude.{IfOk, IfErr};
@@ -17,8 +17,8 @@ impl<'a, K: Eq + Hash, V, H: BuildHasher> HeldEntry<
     V,
     Shared<H>,
 > {
-    /// Puts in `default` where the entry is vacant, by the rules of `put_sync`, and answers the pair that it drove out
-    /// and the occupied entry. An occupied one stays as it is, and can't be refused.
+    /// Puts in `default` if the entry is vacant, by the rules of `put_sync`, and returns the evicted pair, if any, and
+    /// the occupied entry. An occupied entry stays as it is, and never fails.
     pub fn or_put(
         self,
         default: V,
@@ -37,7 +37,7 @@ impl<'a, K: Eq + Hash, V, H: BuildHasher> HeldEntry<
         }
     }
 
-    /// Puts in the answer of `f` where the entry is vacant, as `or_put`. `f` isn't called on an occupied one.
+    /// Puts in the result of `f` if the entry is vacant, as `or_put` does. `f` isn't called on an occupied entry.
     pub fn or_put_with<F: FnOnce() -> V>(
         self,
         f: F,
@@ -55,8 +55,8 @@ impl<'a, K: Eq + Hash, V, H: BuildHasher> HeldEntry<
         }
     }
 
-    /// Puts in the answer of `f` on the key where the entry is vacant, as `or_put`. `f` isn't called on an occupied
-    /// one.
+    /// Puts in the result of `f` on the key if the entry is vacant, as `or_put` does. `f` isn't called on an occupied
+    /// entry.
     pub fn or_put_with_key<F: FnOnce(&K) -> V>(
         self,
         f: F,
@@ -74,7 +74,7 @@ impl<'a, K: Eq + Hash, V, H: BuildHasher> HeldEntry<
         }
     }
 
-    /// Puts in the default value where the entry is vacant, as `or_put`.
+    /// Puts in the default value if the entry is vacant, as `or_put` does.
     pub fn or_default(
         self,
     ) -> Result<(EvictedEntry<K, V>, OccupiedEntry<'a, K, V, H>), InsertError<K, V>>
@@ -92,7 +92,8 @@ impl<'a, K: Eq + Hash, V, H: BuildHasher> HeldEntry<
         }
     }
 
-    /// Sets the value of an occupied entry, which keeps its key and its place; puts it in at a vacant one, as `or_put`.
+    /// Sets the value of an occupied entry, which keeps its key and its place, or puts in `value` at a vacant entry,
+    /// as `or_put` does.
     pub fn put_entry(
         self,
         value: V,

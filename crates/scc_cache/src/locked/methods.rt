@@ -1,4 +1,4 @@
-//! What lets a locked stripe go, and what puts a pair into it.
+//! The calls of an entry of a locked stripe that release the lock, and those that put in a pair.
 ghost use Rattle.scc_cache.specs.Entries.{Memory, occupied_pair, IsPut};
 ghost use Rattle.scc_contents.specs.Contents.{bucket_count};
 ghost use Rattle.std.specs.Prelude.{◌≡◌, IfOk, IfErr};
@@ -19,7 +19,7 @@ impl<'a, K: Eq + Hash, V, H: BuildHasher> HeldOccupied<
     V,
     Shared<H>,
 > {
-    /// Removes the pair, answers its value, and lets the stripe go. The array may become smaller.
+    /// Removes the pair, returns its value, and releases the lock. The array may shrink.
     pub fn remove(self) -> V
     where
         K: Drop,
@@ -29,7 +29,7 @@ impl<'a, K: Eq + Hash, V, H: BuildHasher> HeldOccupied<
         value
     }
 
-    /// Removes the pair, answers it, and lets the stripe go. The array may become smaller.
+    /// Removes the pair, returns it, and releases the lock. The array may shrink.
     pub fn remove_entry(self) -> (K, V)
         ensures pair { result ≡ occupied_pair self.entry }
     {
@@ -50,7 +50,7 @@ impl<'a, K: Eq + Hash, V, H: BuildHasher> HeldVacant<
     V,
     Shared<H>,
 > {
-    /// Gives the key back, and lets the stripe go.
+    /// Returns the key, and releases the lock.
     pub fn into_key(self) -> K
         ensures key { result ≡ self.entry.key }
     {
@@ -64,9 +64,9 @@ impl<'a, K: Eq + Hash, V, H: BuildHasher> HeldVacant<
         key
     }
 
-    /// Puts in the key with `value` as the most recent pair of its bucket, and answers the pair that it drove out and
-    /// its entry. Refused for want of memory, which comes only where the stripe has no array, key and value come back,
-    /// and the stripe is let go.
+    /// Puts in the key with `value` as the most recent pair of its bucket, and returns the evicted pair, if any, and
+    /// the new pair's entry. Memory is refused only if the stripe has no array; then key and value come back and the
+    /// lock is released.
     pub fn put_entry(
         self,
         value: V,

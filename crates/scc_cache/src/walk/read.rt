@@ -16,8 +16,8 @@ use scc_contents::Hashes;
 use std::hash::{BuildHasher, Hash};
 
 impl<K: Eq + Hash, V, H: BuildHasher> Owned<K, V, H> {
-    /// Calls `f` on the pairs in some order, each at most once, until its first false, and answers false where it
-    /// stopped. The order of the pairs stays.
+    /// Calls `f` on the pairs in some order, each at most once, until `f` returns false. Returns false if it did, else
+    /// true. The order of the pairs stays.
     #[inline(always)]
     pub fn iter_sync<F: FnMut(&K, &V) -> bool>(&self, f: F) -> bool
         requires { (es : List (K × V)) → IsPermutation (entries self.now.contents) es
@@ -28,7 +28,7 @@ impl<K: Eq + Hash, V, H: BuildHasher> Owned<K, V, H> {
         self.table.walk(f)
     }
 
-    /// Takes out all pairs. Then the array may become smaller, and every bucket of the new one waits.
+    /// Removes all pairs. Then the array may shrink, and every bucket of the new array waits.
     pub fn clear_sync(&mut self)
     where
         K: Drop,
@@ -43,7 +43,7 @@ impl<K: Eq + Hash, V, H: BuildHasher> Owned<K, V, H> {
         self.table.shrink_within();
     }
 
-    /// Takes out all pairs, with no resize.
+    /// Removes all pairs, without a resize.
     fn take_all(&mut self)
     where
         K: Drop,
@@ -62,7 +62,7 @@ impl<K: Eq + Hash, V, H: BuildHasher> Owned<K, V, H> {
         let _ = self.len();
     }
 
-    /// The place after that one, or None where it is the last.
+    /// Returns the place after `place`, or `None` if `place` is the last.
     pub(crate) fn next_place(&self, place: Place) -> Option<Place>
         requires { IsPlace self.now.contents place }
         ensures { MatchOption result (suc (index_of self.now.contents place) ≡ length (entries self.now.contents))
@@ -71,7 +71,7 @@ impl<K: Eq + Hash, V, H: BuildHasher> Owned<K, V, H> {
         self.table.next_place(place)
     }
 
-    /// Takes the pair out of its place, with no resize, and answers it with the place of the pair that followed.
+    /// Removes the pair at `place` without a resize, and returns it with the place of the pair that followed.
     pub(crate) fn take_with_next(&mut self, place: Place) -> ((K, V), Option<Place>)
         requires { IsPlace self.old.contents place }
         ensures { TakesOutWithNext self.old place result self.new }
@@ -79,8 +79,8 @@ impl<K: Eq + Hash, V, H: BuildHasher> Owned<K, V, H> {
         self.table.take_with_next(place)
     }
 
-    /// Calls `f` on the pairs in the order of the lists until its first false, and answers false where it stopped. The
-    /// closure is lent, and goes on to other caches.
+    /// Calls `f` on the pairs in the order of the lists until `f` returns false. Returns false if it did, else true.
+    /// The closure is lent, and can go on to other caches.
     pub fn iter_lent<F: FnMut(&K, &V) -> bool>(&self, f: &mut F) -> bool
         requires { CallableWhile F.FnMut true f.old (entries self.now.contents) }
         ensures { Walks (CalledOn F.FnMut) f.old (entries self.now.contents) result f.new }

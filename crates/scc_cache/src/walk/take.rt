@@ -17,11 +17,11 @@ use scc_contents::Hashes;
 use std::hash::{BuildHasher, Hash};
 
 impl<K: Eq + Hash, V, H: BuildHasher> Owned<K, V, H> {
-    /// Calls `f` on the pairs in some order, each at most once, with the value to write, until it stops, and answers
-    /// false where it stopped. A pair on which it answers `Take` or `TakeStop` goes to the end of `taken`; the others
-    /// keep the order of their list. Room for one pair is made in `taken` before each call of `f`; where it can't be
-    /// had, the walk ends with an error, and what it did so far stays. Where a pair was taken, the array may become
-    /// smaller, and then every bucket of the new one waits.
+    /// Calls `f` on the pairs in some order, each at most once, with the value to write, until `f` stops the walk.
+    /// Returns false if `f` stopped it, else true. A pair on which `f` returns `Take` or `TakeStop` goes to the end of
+    /// `taken`; the other pairs keep the order of their list. Before each call of `f`, room for one pair is made in
+    /// `taken`; if its memory is refused, the walk ends with an error, and what the walk did so far stays. If a pair
+    /// was taken, the array may shrink, and then every bucket of the new array waits.
     pub fn iter_mut_sync<F: FnMut(&K, &mut V) -> Verdict>(
         &mut self,
         f: F,
@@ -41,7 +41,7 @@ impl<K: Eq + Hash, V, H: BuildHasher> Owned<K, V, H> {
         self.iter_mut_lent(&mut f, taken)
     }
 
-    /// The same with a closure that is lent, and goes on to other caches.
+    /// As `iter_mut_sync`, but the closure is lent, and can go on to other caches.
     pub fn iter_mut_lent<F: FnMut(&K, &mut V) -> Verdict>(
         &mut self,
         f: &mut F,
@@ -66,7 +66,7 @@ impl<K: Eq + Hash, V, H: BuildHasher> Owned<K, V, H> {
         result
     }
 
-    /// The same in the order of the list, with no resize.
+    /// Walks as `iter_mut_lent` does, in the order of the list and without a resize.
     fn take_walk<F: FnMut(&K, &mut V) -> Verdict>(
         &mut self,
         f: &mut F,
@@ -101,7 +101,7 @@ impl<K: Eq + Hash, V, H: BuildHasher> Owned<K, V, H> {
         Ok(true)
     }
 
-    /// Moves the pair out of its place to the end of `taken`, which has room, and answers the place of the pair that
+    /// Moves the pair at `place` to the end of `taken`, which has room, and returns the place of the pair that
     /// followed.
     fn take_into(&mut self, place: Place, taken: &mut Vec<(K, V)>) -> Option<Place>
         requires within { IsPlace self.old.contents place }

@@ -18,9 +18,9 @@ use scc_contents::Hashes;
 use std::hash::{BuildHasher, Hash};
 
 impl<K: Eq + Hash, V, H: BuildHasher> Owned<K, V, H> {
-    /// Calls `f` on every pair once, in some order, with the value to write, and takes out the pairs on which it
-    /// answers false. The others keep the order of their list. Then the array may become smaller, and every bucket of
-    /// the new one waits.
+    /// Calls `f` on every pair once, in some order, with the value to write, and removes the pairs on which `f`
+    /// returns false. The other pairs keep the order of their list. Then the array may shrink, and every bucket of the
+    /// new array waits.
     pub fn retain_sync<F: FnMut(&K, &mut V) -> bool>(&mut self, f: F)
     where
         K: Drop,
@@ -41,7 +41,7 @@ impl<K: Eq + Hash, V, H: BuildHasher> Owned<K, V, H> {
         self.retain_lent(&mut f);
     }
 
-    /// The same with a closure that is lent, and goes on to other caches.
+    /// As `retain_sync`, but the closure is lent, and can go on to other caches.
     pub fn retain_lent<F: FnMut(&K, &mut V) -> bool>(&mut self, f: &mut F)
     where
         K: Drop,
@@ -63,7 +63,7 @@ impl<K: Eq + Hash, V, H: BuildHasher> Owned<K, V, H> {
         self.table.shrink_within();
     }
 
-    /// The same in the order of the list, with no resize.
+    /// Walks as `retain_lent` does, in the order of the list and without a resize.
     fn retain_all<F: FnMut(&K, &mut V) -> bool>(&mut self, f: &mut F)
     where
         K: Drop,
@@ -86,7 +86,7 @@ impl<K: Eq + Hash, V, H: BuildHasher> Owned<K, V, H> {
         }
     }
 
-    /// Calls `f` on the pair at the place, with the value to write.
+    /// Calls `f` on the pair at `place`, with the value to write.
     pub(crate) fn visit<R, F: FnMut(&K, &mut V) -> R>(&mut self, place: Place, f: &mut F) -> R
         requires within { IsPlace self.old.contents place }
         requires callable { (p : K × V) → slice_get (entries self.old.contents) (index_of self.old.contents place)

@@ -1,5 +1,5 @@
-//! The insertions of an entry of a borrowed index. Each goes on at the place that the search found. Where an entry is
-//! occupied, `len` is called for its contract: no two keys are equal.
+//! The insertions through an entry of a borrowed index. Each goes on from the search that made the entry. At an
+//! occupied entry `len` is called for its contract: no two keys are equal.
 ghost use Rattle.scc_contents.specs.Pairs.{IsUnique};
 ghost use Rattle.scc_index.specs.Entries.{occupied_index, entry_guard, entry_key, InsertsThrough, IsVacant, OrInserts, OrInsertsSome, Refuses, RefusesSome, occupied_pair, rests_if_refused};
 ghost use Rattle.std.specs.Borrow.{sem};
@@ -14,8 +14,8 @@ use scc_contents::Hashes;
 use std::hash::{BuildHasher, Hash};
 
 impl<'a, K: Eq + Hash, V, H: BuildHasher> HeldEntry<&'a mut Owned<K, V, H>, (), K, V, H> {
-    /// Inserts `default` where the entry is vacant, and answers the occupied entry. An occupied one stays as it is, and
-    /// can't be refused.
+    /// Inserts `default` if the entry is vacant, and returns the occupied entry. An occupied entry stays as it is, and
+    /// never fails.
     pub fn or_insert(self, default: V) -> Result<OccupiedEntry<'a, K, V, H>, InsertError<K, V>>
     where
         V: Drop,
@@ -33,8 +33,8 @@ impl<'a, K: Eq + Hash, V, H: BuildHasher> HeldEntry<&'a mut Owned<K, V, H>, (), 
         }
     }
 
-    /// Inserts the answer of `f` where the entry is vacant, and answers the occupied entry. `f` isn't called on an
-    /// occupied one.
+    /// Inserts the result of `f` if the entry is vacant, and returns the occupied entry. `f` isn't called on an
+    /// occupied entry.
     pub fn or_insert_with<F: FnOnce() -> V>(
         self,
         f: F,
@@ -54,8 +54,8 @@ impl<'a, K: Eq + Hash, V, H: BuildHasher> HeldEntry<&'a mut Owned<K, V, H>, (), 
         }
     }
 
-    /// Inserts the answer of `f` on the key where the entry is vacant, and answers the occupied entry. `f` isn't called
-    /// on an occupied one.
+    /// Inserts the result of `f` on the key if the entry is vacant, and returns the occupied entry. `f` isn't called
+    /// on an occupied entry.
     pub fn or_insert_with_key<F: FnOnce(&K) -> V>(
         self,
         f: F,
@@ -76,7 +76,7 @@ impl<'a, K: Eq + Hash, V, H: BuildHasher> HeldEntry<&'a mut Owned<K, V, H>, (), 
         }
     }
 
-    /// Inserts the default value where the entry is vacant, and answers the occupied entry.
+    /// Inserts the default value if the entry is vacant, and returns the occupied entry.
     pub fn or_default(self) -> Result<OccupiedEntry<'a, K, V, H>, InsertError<K, V>>
     where
         V: Default,
@@ -96,7 +96,7 @@ impl<'a, K: Eq + Hash, V, H: BuildHasher> HeldEntry<&'a mut Owned<K, V, H>, (), 
 }
 
 impl<'a, K: Eq + Hash, V, H: BuildHasher> HeldOccupied<&'a mut Owned<K, V, H>, (), K, V, H> {
-    /// The entry as it is, as an insertion answers it.
+    /// Returns the entry as it is, as the result of an insertion.
     fn as_it_is(self) -> Result<OccupiedEntry<'a, K, V, H>, InsertError<K, V>>
         ensures same { result ≡ Ok self.entry }
         ensures unique { IsUnique K.eq (occupied_index self.entry) }

@@ -1,5 +1,5 @@
-//! What makes an entry of a borrowed index, and what lets the index go. The search is made once, and an entry holds its
-//! place.
+//! The calls that make an entry of a borrowed index, and those that end the borrow. An entry holds the place that one
+//! search found.
 ghost use Rattle.scc_contents.specs.Contents.{entries, bucket_count, minimum_of};
 ghost use Rattle.scc_contents.specs.Pairs.{find, IsUnique};
 ghost use Rattle.scc_contents.specs.Sizes.{IsSmaller};
@@ -18,7 +18,8 @@ use std::hash::{BuildHasher, Hash};
 use std::marker::PhantomData;
 
 impl<K: Eq + Hash, V, H: BuildHasher> Owned<K, V, H> {
-    /// The entry of `k`: occupied at the stored pair, or vacant with `k`. It takes no memory and makes no array.
+    /// Returns the entry of `k`: occupied at the stored pair, or vacant with `k`. Allocates nothing and makes no
+    /// array.
     pub fn entry_sync(&mut self, k: K) -> Entry<'_, K, V, H>
     where
         K: Drop,
@@ -44,7 +45,7 @@ impl<K: Eq + Hash, V, H: BuildHasher> Owned<K, V, H> {
         }
     }
 
-    /// The occupied entry of `k`, or None where no key equals it.
+    /// Returns the occupied entry of `k`, or `None` if no key equals `k`.
     pub fn get_sync(&mut self, k: &K) -> Option<OccupiedEntry<'_, K, V, H>>
         ensures same_index { IfSome result (λ o. o.guard.ghost_name ≡ self.entry.ghost_name) }
         ensures entry { IfSome result (IsOccupiedAt K.eq self.old k.now) }
@@ -67,7 +68,7 @@ impl<K: Eq + Hash, V, H: BuildHasher> Owned<K, V, H> {
 }
 
 impl<'a, N, K: Eq + Hash, V, H: BuildHasher> HeldOccupied<&'a mut Owned<K, V, H>, N, K, V, H> {
-    /// Removes the version. Who kept it keeps it. The array may become smaller.
+    /// Removes the version. Holders of the version keep it. The array may shrink.
     pub fn remove_entry(self)
     where
         N: Drop,
@@ -88,7 +89,7 @@ impl<'a, N, K: Eq + Hash, V, H: BuildHasher> HeldOccupied<&'a mut Owned<K, V, H>
 }
 
 impl<'a, K: Eq + Hash, V, H: BuildHasher> HeldVacant<&'a mut Owned<K, V, H>, (), K, V, H> {
-    /// Gives the key back, and leaves the index as it is.
+    /// Returns the key, and leaves the index as it is.
     pub fn into_key(self) -> K
         ensures key { result ≡ self.entry.key }
         ensures unchanged { self.exit.0.now ≡ self.entry.guard.now }
@@ -96,7 +97,7 @@ impl<'a, K: Eq + Hash, V, H: BuildHasher> HeldVacant<&'a mut Owned<K, V, H>, (),
         self.key
     }
 
-    /// Inserts the key with `value`, and answers its entry. Refused for want of memory, key and value come back.
+    /// Inserts the key with `value`, and returns its entry. If memory is refused, key and value come back.
     pub fn insert_entry(self, value: V) -> Result<OccupiedEntry<'a, K, V, H>, InsertError<K, V>>
         ensures inserts { InsertsAtVacant K.eq ⟦<H as Hashes<K>>⟧.hash_of self.entry value result }
         ensures* kept { sem 𝓛 (rests_if_refused K.row V.row H.row H.Hasher.row K.Hash H.BuildHasher H.Hasher.Hasher

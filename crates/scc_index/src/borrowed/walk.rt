@@ -15,7 +15,7 @@ use std::hash::{BuildHasher, Hash};
 use std::marker::PhantomData;
 
 impl<K: Eq + Hash, V, H: BuildHasher> Owned<K, V, H> {
-    /// The first entry of the index's list, or None where the index is empty.
+    /// Returns the first entry of the index's list, or `None` if the index is empty.
     pub fn begin_sync(&mut self) -> Option<OccupiedEntry<'_, K, V, H>>
         ensures same_index { IfSome result (λ o. o.guard.ghost_name ≡ self.entry.ghost_name) }
         ensures first { IfSome result (λ o. StandsIn self.old o × (occupied_front o ≡ [])) }
@@ -34,8 +34,8 @@ impl<K: Eq + Hash, V, H: BuildHasher> Owned<K, V, H> {
         }
     }
 
-    /// The first entry of the index's list on whose pair `p` answers true, or None where there is none. `p` is called
-    /// on the pairs in the order of the list, up to that one.
+    /// Returns the first entry of the index's list on whose pair `p` returns true, or `None` if there is none. Calls
+    /// `p` on the pairs in the order of the list until it returns true.
     pub fn any_sync<P: FnMut(&K, &V) -> bool>(&mut self, p: P) -> Option<OccupiedEntry<'_, K, V, H>>
         requires { CallableWhile P.FnMut false p (entries self.old) }
         ensures same_index { IfSome result (λ o. o.guard.ghost_name ≡ self.entry.ghost_name) }
@@ -59,7 +59,7 @@ impl<K: Eq + Hash, V, H: BuildHasher> Owned<K, V, H> {
 }
 
 impl<'a, K: Eq + Hash, V, H: BuildHasher> HeldOccupied<&'a mut Owned<K, V, H>, (), K, V, H> {
-    /// The entry that stands next in the index's list, or None where this one is the last. Nothing is resized.
+    /// Returns the entry that stands next in the index's list, or `None` if this entry is the last. Resizes nothing.
     pub fn next_sync(self) -> Option<OccupiedEntry<'a, K, V, H>>
         ensures next { IfSome result (IsNext self.entry) }
         ensures last { IfNone result (occupied_back self.entry ≡ []) }
@@ -83,8 +83,8 @@ impl<'a, K: Eq + Hash, V, H: BuildHasher> HeldOccupied<&'a mut Owned<K, V, H>, (
         }
     }
 
-    /// Removes the version, and answers the entry that stood next in the index's list, or None where it was the last.
-    /// Nothing is resized. Who kept the version keeps it.
+    /// Removes the version, and returns the entry that stood next in the index's list, or `None` if the version was
+    /// the last. Resizes nothing. Holders of the version keep it.
     pub fn remove_and_sync(self) -> Option<OccupiedEntry<'a, K, V, H>>
     where
         K: Drop,

@@ -1,4 +1,4 @@
-//! How an entry is made of what holds an index, the same under each.
+//! How an entry is made from a guard of an index, alike for all guards.
 ghost use Rattle.scc_contents.specs.Contents.{entries};
 ghost use Rattle.scc_contents.specs.PairWalks.{Declines, PassesAt};
 ghost use Rattle.scc_contents.specs.Pairs.{find, IsUnique};
@@ -21,8 +21,8 @@ impl<G: Guard<Inner = Owned<K, V, H>>, N, K: Eq + Hash, V, H: BuildHasher> HeldE
     V,
     H,
 > {
-    /// The entry of `k` in the index that is held: occupied at the stored pair, or vacant with `k`. It takes no memory
-    /// and makes no array.
+    /// Returns the entry of `k` in the index of `guard`: occupied at the stored pair, or vacant with `k`. Allocates
+    /// nothing and makes no array.
     pub fn of(guard: G, k: K, rest: N) -> Self
     where
         K: Drop,
@@ -57,7 +57,8 @@ impl<G: Guard<Inner = Owned<K, V, H>>, N, K: Eq + Hash, V, H: BuildHasher> HeldO
     V,
     H,
 > {
-    /// The occupied entry of `k`, or None where no key equals it; then the index is let go.
+    /// Returns the occupied entry of `k` in the index of `guard`. If no key equals `k`, drops the guard and returns
+    /// `None`.
     pub fn of(guard: G, k: &K, rest: N) -> Option<Self>
     where
         G: Drop,
@@ -80,8 +81,7 @@ impl<G: Guard<Inner = Owned<K, V, H>>, N, K: Eq + Hash, V, H: BuildHasher> HeldO
         }
     }
 
-    /// The first entry of the index that is held; where it is empty, the index is let go, and what is kept for going on
-    /// comes back.
+    /// Returns the first entry of the index of `guard`. If the index is empty, drops the guard and returns `rest`.
     pub fn first(guard: G, rest: N) -> Result<Self, N>
     where
         G: Drop,
@@ -101,8 +101,8 @@ impl<G: Guard<Inner = Owned<K, V, H>>, N, K: Eq + Hash, V, H: BuildHasher> HeldO
         }
     }
 
-    /// The first entry of the index that is held on whose pair `p` answers true; where there is none, the index is let
-    /// go, and what is kept for going on comes back.
+    /// Returns the first entry of the index of `guard` on whose pair `p` returns true. If there is none, drops the
+    /// guard and returns `rest`.
     pub fn passing<P: FnMut(&K, &V) -> bool>(guard: G, p: &mut P, rest: N) -> Result<Self, N>
     where
         G: Drop,

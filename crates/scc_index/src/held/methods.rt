@@ -1,4 +1,4 @@
-//! What an entry does while it keeps its guard, the same under each.
+//! The calls of an entry that keep its guard, alike for all guards.
 ghost use Rattle.scc_contents.specs.Contents.{waiting_of};
 ghost use Rattle.scc_contents.specs.Pairs.{IsUnique};
 ghost use Rattle.scc_index.specs.Entries.{occupied_index, occupied_pair, entry_guard, entry_key, IsUpdated, TakesEntry, Modifies, RefusesModify};
@@ -16,23 +16,23 @@ impl<G: Guard<Inner = Owned<K, V, H>>, N, K: Eq + Hash, V, H: BuildHasher> HeldO
     V,
     H,
 > {
-    /// The stored key.
+    /// Returns the stored key.
     pub fn key(&self) -> &K
         ensures { result.now ≡ (occupied_pair self.now).0 }
     {
         self.guard.look().pair_at(self.place).0
     }
 
-    /// The value.
+    /// Returns the value.
     pub fn get(&self) -> &V
         ensures { result.now ≡ (occupied_pair self.now).1 }
     {
         self.guard.look().pair_at(self.place).1
     }
 
-    /// Puts a new version of the key's clone and `value` in the place of the stored one, which lives on with whoever
-    /// kept it. Refused for want of memory, and where the clone of the key can't be had or differs from the key, it
-    /// hands `value` back, and nothing changed.
+    /// Puts a new version of `value` and a clone of the key in the place of the stored version, which its holders
+    /// keep. If memory is refused, the clone fails or the clone differs from the key, `value` comes back and nothing
+    /// changes.
     pub fn update(&mut self, value: V) -> Result<(), V>
     where
         K: Clone + Drop,
@@ -55,7 +55,7 @@ impl<G: Guard<Inner = Owned<K, V, H>>, N, K: Eq + Hash, V, H: BuildHasher> HeldO
         }
     }
 
-    /// A look at the index, for what its type says: no two keys are equal.
+    /// Calls `len` of the index for its contract: no two keys are equal.
     pub(crate) fn look_at_index(&self)
         ensures { IsUnique K.eq (occupied_index self.now) }
     {
@@ -70,14 +70,14 @@ impl<G: Guard<Inner = Owned<K, V, H>>, N, K: Eq + Hash, V, H: BuildHasher> HeldV
     V,
     H,
 > {
-    /// The key that would go in.
+    /// Returns the key that an insertion would store.
     pub fn key(&self) -> &K
         ensures { result.now ≡ self.now.key }
     {
         &self.key
     }
 
-    /// A look at the index, for what its type says: no two keys are equal.
+    /// Calls `len` of the index for its contract: no two keys are equal.
     pub(crate) fn look_at_index(&self)
         ensures { IsUnique K.eq (G.inner self.now.guard) }
     {
@@ -92,7 +92,7 @@ impl<G: Guard<Inner = Owned<K, V, H>>, N, K: Eq + Hash, V, H: BuildHasher> HeldE
     V,
     H,
 > {
-    /// The stored key, or the one that was asked for.
+    /// Returns the stored key of an occupied entry, or the key of a vacant entry.
     pub fn key(&self) -> &K
         ensures { result.now ≡ entry_key self.now }
     {
@@ -102,8 +102,8 @@ impl<G: Guard<Inner = Owned<K, V, H>>, N, K: Eq + Hash, V, H: BuildHasher> HeldE
         }
     }
 
-    /// Publishes a new version with the answer of `f` on the value of an occupied entry, and answers the entry; `f`
-    /// isn't called on a vacant one. Where `update` refuses, it answers the unchanged entry and what `f` answered.
+    /// Publishes a new version with the result of `f` on the value if the entry is occupied, and returns the entry.
+    /// `f` isn't called on a vacant entry. If `update` fails, returns the unchanged entry and the result of `f`.
     pub fn and_modify<F: FnOnce(&V) -> V>(self, f: F) -> Result<Self, (Self, V)>
     where
         K: Clone + Drop,

@@ -1,4 +1,4 @@
-//! The insertions of an entry of a locked stripe.
+//! The insertions through an entry of a locked stripe.
 ghost use Rattle.scc_index.specs.Entries.{entry_key, InsertsThrough, IsVacant, OrInserts, OrInsertsSome, Refuses, RefusesSome};
 ghost use Rattle.std.specs.Fn.{FnOnceReturnsAt, FnOnceTakesAt};
 
@@ -18,8 +18,8 @@ impl<'a, K: Eq + Hash, V, H: BuildHasher> HeldEntry<
     V,
     Shared<H>,
 > {
-    /// Inserts `default` where the entry is vacant, and answers the occupied entry. An occupied one stays as it is, and
-    /// can't be refused.
+    /// Inserts `default` if the entry is vacant, and returns the occupied entry. An occupied entry stays as it is, and
+    /// never fails.
     pub fn or_insert(self, default: V) -> Result<OccupiedEntry<'a, K, V, H>, InsertError<K, V>>
     where
         V: Drop,
@@ -36,8 +36,8 @@ impl<'a, K: Eq + Hash, V, H: BuildHasher> HeldEntry<
         }
     }
 
-    /// Inserts the answer of `f` where the entry is vacant, and answers the occupied entry. `f` isn't called on an
-    /// occupied one.
+    /// Inserts the result of `f` if the entry is vacant, and returns the occupied entry. `f` isn't called on an
+    /// occupied entry.
     pub fn or_insert_with<F: FnOnce() -> V>(
         self,
         f: F,
@@ -58,8 +58,8 @@ impl<'a, K: Eq + Hash, V, H: BuildHasher> HeldEntry<
         }
     }
 
-    /// Inserts the answer of `f` on the key where the entry is vacant, and answers the occupied entry. `f` isn't called
-    /// on an occupied one.
+    /// Inserts the result of `f` on the key if the entry is vacant, and returns the occupied entry. `f` isn't called
+    /// on an occupied entry.
     pub fn or_insert_with_key<F: FnOnce(&K) -> V>(
         self,
         f: F,
@@ -81,7 +81,7 @@ impl<'a, K: Eq + Hash, V, H: BuildHasher> HeldEntry<
         }
     }
 
-    /// Inserts the default value where the entry is vacant, and answers the occupied entry.
+    /// Inserts the default value if the entry is vacant, and returns the occupied entry.
     pub fn or_default(self) -> Result<OccupiedEntry<'a, K, V, H>, InsertError<K, V>>
     where
         V: Default,

@@ -1,4 +1,4 @@
-//! What lets a locked stripe go, and what inserts into it.
+//! The calls of an entry of a locked stripe that release the lock, and those that insert.
 ghost use Rattle.scc_index.specs.Entries.{InsertsAtVacant};
 ghost use Rattle.std.specs.Prelude.{◌≡◌};
 
@@ -19,7 +19,7 @@ impl<'a, K: Eq + Hash, V, H: BuildHasher> HeldOccupied<
     V,
     Shared<H>,
 > {
-    /// Removes the version, and lets the stripe go. Who kept the version keeps it. The array may become smaller.
+    /// Removes the version, and releases the lock. Holders of the version keep it. The array may shrink.
     pub fn remove_entry(self)
     where
         K: Drop,
@@ -43,7 +43,7 @@ impl<'a, K: Eq + Hash, V, H: BuildHasher> HeldVacant<
     V,
     Shared<H>,
 > {
-    /// Gives the key back, and lets the stripe go.
+    /// Returns the key, and releases the lock.
     pub fn into_key(self) -> K
         ensures key { result ≡ self.entry.key }
     {
@@ -57,8 +57,8 @@ impl<'a, K: Eq + Hash, V, H: BuildHasher> HeldVacant<
         key
     }
 
-    /// Inserts the key with `value`, and answers its entry. Refused for want of memory, key and value come back, and
-    /// the stripe is let go.
+    /// Inserts the key with `value`, and returns its entry. If memory is refused, key and value come back and the lock
+    /// is released.
     pub fn insert_entry(self, value: V) -> Result<OccupiedEntry<'a, K, V, H>, InsertError<K, V>>
         ensures { InsertsAtVacant K.eq ⟦<H as Hashes<K>>⟧.hash_of self.entry value result }
     {

@@ -1,6 +1,6 @@
-//! The insertions of an entry of a borrowed map. Each goes on at the place that the search found, and all but
-//! `insert_entry` call `or_insert_with_key`. At an occupied entry that one calls `len` for its contract: no two keys
-//! are equal.
+//! The insertions through an entry of a borrowed map. Each goes on from the search that made the entry, and all but
+//! `insert_entry` call `or_insert_with_key`. At an occupied entry `or_insert_with_key` calls `len` for its contract:
+//! no two keys are equal.
 ghost use Rattle.scc_map.specs.Entries.{entry_guard, entry_key, InsertsThrough, IsVacant, OrInserts, OrInsertsSome, Refuses, RefusesSome, SetsEntry, rests_if_refused};
 ghost use Rattle.std.specs.Borrow.{sem};
 ghost use Rattle.std.specs.Fn.{FnOnceTakesAt, FnOnceReturnsAt};
@@ -15,8 +15,8 @@ use std::hash::{BuildHasher, Hash};
 use std::marker::PhantomData;
 
 impl<'a, K: Eq + Hash, V, H: BuildHasher> HeldEntry<&'a mut Owned<K, V, H>, (), K, V, H> {
-    /// Inserts `default` where the entry is vacant, and answers the occupied entry. An occupied one stays as it is, and
-    /// can't be refused.
+    /// Inserts `default` if the entry is vacant, and returns the occupied entry. An occupied entry stays as it is, and
+    /// never fails.
     pub fn or_insert(self, default: V) -> Result<OccupiedEntry<'a, K, V, H>, InsertError<K, V>>
     where
         V: Drop,
@@ -32,8 +32,8 @@ impl<'a, K: Eq + Hash, V, H: BuildHasher> HeldEntry<&'a mut Owned<K, V, H>, (), 
         )
     }
 
-    /// Inserts the answer of `f` where the entry is vacant, and answers the occupied entry. `f` isn't called on an
-    /// occupied one.
+    /// Inserts the result of `f` if the entry is vacant, and returns the occupied entry. `f` isn't called on an
+    /// occupied entry.
     pub fn or_insert_with<F: FnOnce() -> V>(
         self,
         f: F,
@@ -52,8 +52,8 @@ impl<'a, K: Eq + Hash, V, H: BuildHasher> HeldEntry<&'a mut Owned<K, V, H>, (), 
         )
     }
 
-    /// Inserts the answer of `f` on the key where the entry is vacant, and answers the occupied entry. `f` isn't called
-    /// on an occupied one.
+    /// Inserts the result of `f` on the key if the entry is vacant, and returns the occupied entry. `f` isn't called
+    /// on an occupied entry.
     pub fn or_insert_with_key<F: FnOnce(&K) -> V>(
         self,
         f: F,
@@ -103,7 +103,7 @@ impl<'a, K: Eq + Hash, V, H: BuildHasher> HeldEntry<&'a mut Owned<K, V, H>, (), 
         }
     }
 
-    /// Inserts the default value where the entry is vacant, and answers the occupied entry.
+    /// Inserts the default value if the entry is vacant, and returns the occupied entry.
     pub fn or_default(self) -> Result<OccupiedEntry<'a, K, V, H>, InsertError<K, V>>
     where
         V: Default,
@@ -119,7 +119,8 @@ impl<'a, K: Eq + Hash, V, H: BuildHasher> HeldEntry<&'a mut Owned<K, V, H>, (), 
         )
     }
 
-    /// Sets the value of an occupied entry, which keeps its key; inserts it at a vacant one. It answers the entry.
+    /// Sets the value of an occupied entry, which keeps its key, or inserts `value` at a vacant entry. Returns the
+    /// entry.
     pub fn insert_entry(self, value: V) -> Result<OccupiedEntry<'a, K, V, H>, InsertError<K, V>>
     where
         V: Drop,

@@ -1,5 +1,5 @@
-//! What makes an entry of a borrowed map, and what lets the map go. The search is made once, and an entry holds its
-//! place.
+//! The calls that make an entry of a borrowed map, and those that end the borrow. An entry holds the place that one
+//! search found.
 ghost use Rattle.scc_contents.specs.Contents.{entries, refused_of, waiting_of};
 ghost use Rattle.scc_contents.specs.Pairs.{find, IsUnique};
 ghost use Rattle.scc_map.specs.Entries.{entry_guard, InsertsAtVacant, IsOccupiedAt, IsEntryOf, rests_if_refused, rests_if_none, replaced_guard, Replaces};
@@ -16,7 +16,8 @@ use std::hash::{BuildHasher, Hash};
 use std::marker::PhantomData;
 
 impl<K: Eq + Hash, V, H: BuildHasher> Owned<K, V, H> {
-    /// The entry of `k`: occupied at the stored pair, or vacant with `k`. It takes no memory and makes no array.
+    /// Returns the entry of `k`: occupied at the stored pair, or vacant with `k`. Allocates nothing and makes no
+    /// array.
     pub fn entry_sync(&mut self, k: K) -> Entry<'_, K, V, H>
     where
         K: Drop,
@@ -42,7 +43,7 @@ impl<K: Eq + Hash, V, H: BuildHasher> Owned<K, V, H> {
         }
     }
 
-    /// The occupied entry of `k`, or None where no key equals it.
+    /// Returns the occupied entry of `k`, or `None` if no key equals `k`.
     pub fn get_sync(&mut self, k: &K) -> Option<OccupiedEntry<'_, K, V, H>>
         ensures same_map { IfSome result (λ o. o.guard.ghost_name ≡ self.entry.ghost_name) }
         ensures entry { IfSome result (IsOccupiedAt K.eq self.old k.now) }
@@ -63,8 +64,8 @@ impl<K: Eq + Hash, V, H: BuildHasher> Owned<K, V, H> {
         }
     }
 
-    /// Puts `k` in the place of the key that equals it, keeps the value, and answers the entry with the old key. Where
-    /// no key equals it, it inserts nothing and answers the vacant entry. It takes no memory.
+    /// Puts `k` in the place of the key that equals it, keeps the value, and returns the entry with the old key. If no
+    /// key equals `k`, inserts nothing and returns the vacant entry. Allocates nothing.
     pub fn replace_sync(&mut self, k: K) -> ReplaceResult<'_, K, V, H>
         ensures same_map { (replaced_guard result).ghost_name ≡ self.entry.ghost_name }
         ensures step { Replaces K.eq self.old k result }
@@ -98,7 +99,7 @@ impl<K: Eq + Hash, V, H: BuildHasher> Owned<K, V, H> {
 }
 
 impl<'a, N, K: Eq + Hash, V, H: BuildHasher> HeldOccupied<&'a mut Owned<K, V, H>, N, K, V, H> {
-    /// Removes the pair, and answers its value. The array may become smaller.
+    /// Removes the pair, and returns its value. The array may shrink.
     pub fn remove(self) -> V
     where
         N: Drop,
@@ -109,7 +110,7 @@ impl<'a, N, K: Eq + Hash, V, H: BuildHasher> HeldOccupied<&'a mut Owned<K, V, H>
         value
     }
 
-    /// Removes the pair, and answers it. The array may become smaller.
+    /// Removes the pair, and returns it. The array may shrink.
     pub fn remove_entry(self) -> (K, V)
     where
         N: Drop,
@@ -121,7 +122,7 @@ impl<'a, N, K: Eq + Hash, V, H: BuildHasher> HeldOccupied<&'a mut Owned<K, V, H>
 }
 
 impl<'a, K: Eq + Hash, V, H: BuildHasher> HeldVacant<&'a mut Owned<K, V, H>, (), K, V, H> {
-    /// Gives the key back, and leaves the map as it is.
+    /// Returns the key, and leaves the map as it is.
     pub fn into_key(self) -> K
         ensures key { result ≡ self.entry.key }
         ensures unchanged { self.exit.0.now ≡ self.entry.guard.now }
@@ -129,7 +130,7 @@ impl<'a, K: Eq + Hash, V, H: BuildHasher> HeldVacant<&'a mut Owned<K, V, H>, (),
         self.key
     }
 
-    /// Inserts the key with `value`, and answers its entry. Refused for want of memory, key and value come back.
+    /// Inserts the key with `value`, and returns its entry. If memory is refused, key and value come back.
     pub fn insert_entry(self, value: V) -> Result<OccupiedEntry<'a, K, V, H>, InsertError<K, V>>
         ensures inserts { InsertsAtVacant K.eq ⟦<H as Hashes<K>>⟧.hash_of self.entry value result }
         ensures* kept { sem 𝓛 (rests_if_refused K.row V.row H.row H.Hasher.row K.Hash H.BuildHasher H.Hasher.Hasher

@@ -14,7 +14,7 @@ use std::hash::{BuildHasher, Hash};
 use std::marker::PhantomData;
 
 impl<K: Eq + Hash, V, H: BuildHasher> Owned<K, V, H> {
-    /// The first entry of the map's list, or None where the map is empty.
+    /// Returns the first entry of the map's list, or `None` if the map is empty.
     pub fn begin_sync(&mut self) -> Option<OccupiedEntry<'_, K, V, H>>
         ensures same_map { IfSome result (λ o. o.guard.ghost_name ≡ self.entry.ghost_name) }
         ensures first { IfSome result (λ o. StandsIn self.old o × (occupied_front o ≡ [])) }
@@ -33,8 +33,8 @@ impl<K: Eq + Hash, V, H: BuildHasher> Owned<K, V, H> {
         }
     }
 
-    /// The first entry of the map's list on whose pair `p` answers true, or None where there is none. `p` is called on
-    /// the pairs in the order of the list, up to that one.
+    /// Returns the first entry of the map's list on whose pair `p` returns true, or `None` if there is none. Calls `p`
+    /// on the pairs in the order of the list until it returns true.
     pub fn any_sync<P: FnMut(&K, &V) -> bool>(&mut self, p: P) -> Option<OccupiedEntry<'_, K, V, H>>
         requires { CallableWhile P.FnMut false p (entries self.old) }
         ensures same_map { IfSome result (λ o. o.guard.ghost_name ≡ self.entry.ghost_name) }
@@ -58,7 +58,7 @@ impl<K: Eq + Hash, V, H: BuildHasher> Owned<K, V, H> {
 }
 
 impl<'a, K: Eq + Hash, V, H: BuildHasher> HeldOccupied<&'a mut Owned<K, V, H>, (), K, V, H> {
-    /// The entry that stands next in the map's list, or None where this one is the last. Nothing is resized.
+    /// Returns the entry that stands next in the map's list, or `None` if this entry is the last. Resizes nothing.
     pub fn next_sync(self) -> Option<OccupiedEntry<'a, K, V, H>>
         ensures next { IfSome result (IsNext self.entry) }
         ensures last { IfNone result (occupied_back self.entry ≡ []) }
@@ -82,8 +82,8 @@ impl<'a, K: Eq + Hash, V, H: BuildHasher> HeldOccupied<&'a mut Owned<K, V, H>, (
         }
     }
 
-    /// Takes out the pair, and answers it with the entry that stood next in the map's list; alone, as an `Err`, where
-    /// it was the last. Nothing is resized.
+    /// Removes the pair, and returns it with the entry that stood next in the map's list. If the pair was the last,
+    /// returns it alone, as an `Err`. Resizes nothing.
     pub fn remove_and_sync(self) -> Result<((K, V), OccupiedEntry<'a, K, V, H>), (K, V)>
         ensures removes { RemovesWithNext K.eq self.entry result }
         ensures* kept { sem 𝓛 (rests_removed K.row V.row H.row H.Hasher.row K.Hash H.BuildHasher H.Hasher.Hasher

@@ -1,4 +1,4 @@
-//! What an entry does while it keeps its guard, the same under each.
+//! The calls of an entry that keep its guard, alike for all guards.
 ghost use Rattle.scc_contents.specs.Contents.{waiting_of};
 ghost use Rattle.scc_contents.specs.Pairs.{IsUnique};
 ghost use Rattle.scc_map.specs.Entries.{occupied_map, occupied_pair, occupied_lends, entry_guard, entry_key, IsWritten, with_value, TakesEntry, Modifies};
@@ -17,21 +17,21 @@ impl<G: Guard<Inner = Owned<K, V, H>>, N, K: Eq + Hash, V, H: BuildHasher> HeldO
     V,
     H,
 > {
-    /// The stored key.
+    /// Returns the stored key.
     pub fn key(&self) -> &K
         ensures { result.now ≡ (occupied_pair self.now).0 }
     {
         self.guard.look().pair_at(self.place).0
     }
 
-    /// The value.
+    /// Returns the value.
     pub fn get(&self) -> &V
         ensures { result.now ≡ (occupied_pair self.now).1 }
     {
         self.guard.look().pair_at(self.place).1
     }
 
-    /// The value, to write.
+    /// Returns the value, to write.
     pub fn get_mut(&mut self) -> &mut V
         ensures* writes_back { sem 𝓛 (occupied_lends G.row N.row K.row V.row H.row H.Hasher.row self.entry result) }
         ensures value { result.now ≡ (occupied_pair self.old).1 }
@@ -42,7 +42,7 @@ impl<G: Guard<Inner = Owned<K, V, H>>, N, K: Eq + Hash, V, H: BuildHasher> HeldO
         self.guard.lend().value_mut_at(place)
     }
 
-    /// Sets the value, and answers the old one. It takes no memory.
+    /// Sets the value, and returns the old value. Allocates nothing.
     pub fn insert(&mut self, value: V) -> V
         ensures old { result ≡ (occupied_pair self.old).1 }
         ensures written { IsWritten self.old value self.new }
@@ -53,7 +53,7 @@ impl<G: Guard<Inner = Owned<K, V, H>>, N, K: Eq + Hash, V, H: BuildHasher> HeldO
         self.guard.lend().write_at(place, value)
     }
 
-    /// A look at the map, for what its type says: no two keys are equal.
+    /// Calls `len` of the map for its contract: no two keys are equal.
     pub(crate) fn look_at_map(&self)
         ensures { IsUnique K.eq (occupied_map self.now) }
     {
@@ -68,14 +68,14 @@ impl<G: Guard<Inner = Owned<K, V, H>>, N, K: Eq + Hash, V, H: BuildHasher> HeldV
     V,
     H,
 > {
-    /// The key that would go in.
+    /// Returns the key that an insertion would store.
     pub fn key(&self) -> &K
         ensures { result.now ≡ self.now.key }
     {
         &self.key
     }
 
-    /// A look at the map, for what its type says: no two keys are equal.
+    /// Calls `len` of the map for its contract: no two keys are equal.
     pub(crate) fn look_at_map(&self)
         ensures { IsUnique K.eq (G.inner self.now.guard) }
     {
@@ -90,7 +90,7 @@ impl<G: Guard<Inner = Owned<K, V, H>>, N, K: Eq + Hash, V, H: BuildHasher> HeldE
     V,
     H,
 > {
-    /// The stored key, or the one that was asked for.
+    /// Returns the stored key of an occupied entry, or the key of a vacant entry.
     pub fn key(&self) -> &K
         ensures { result.now ≡ entry_key self.now }
     {
@@ -100,7 +100,7 @@ impl<G: Guard<Inner = Owned<K, V, H>>, N, K: Eq + Hash, V, H: BuildHasher> HeldE
         }
     }
 
-    /// Calls `f` on the value of an occupied entry, and answers the entry. `f` isn't called on a vacant one.
+    /// Calls `f` on the value if the entry is occupied, and returns the entry. `f` isn't called on a vacant entry.
     pub fn and_modify<F: FnOnce(&mut V)>(self, f: F) -> Self
         requires { TakesEntry F.FnOnce f self }
         ensures modifies { Modifies F.FnOnce f self result }

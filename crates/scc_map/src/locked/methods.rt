@@ -1,4 +1,4 @@
-//! What lets a locked stripe go, and what inserts into it.
+//! The calls of an entry of a locked stripe that release the lock, and those that insert.
 ghost use Rattle.scc_map.specs.Entries.{occupied_pair, InsertsAtVacant};
 ghost use Rattle.std.specs.Prelude.{◌≡◌};
 
@@ -19,7 +19,7 @@ impl<'a, K: Eq + Hash, V, H: BuildHasher> HeldOccupied<
     V,
     Shared<H>,
 > {
-    /// Removes the pair, answers its value, and lets the stripe go. The array may become smaller.
+    /// Removes the pair, returns its value, and releases the lock. The array may shrink.
     pub fn remove(self) -> V
     where
         K: Drop,
@@ -29,7 +29,7 @@ impl<'a, K: Eq + Hash, V, H: BuildHasher> HeldOccupied<
         value
     }
 
-    /// Removes the pair, answers it, and lets the stripe go. The array may become smaller.
+    /// Removes the pair, returns it, and releases the lock. The array may shrink.
     pub fn remove_entry(self) -> (K, V)
         ensures pair { result ≡ occupied_pair self.entry }
     {
@@ -52,7 +52,7 @@ impl<'a, K: Eq + Hash, V, H: BuildHasher> HeldVacant<
     V,
     Shared<H>,
 > {
-    /// Gives the key back, and lets the stripe go.
+    /// Returns the key, and releases the lock.
     pub fn into_key(self) -> K
         ensures key { result ≡ self.entry.key }
     {
@@ -66,8 +66,8 @@ impl<'a, K: Eq + Hash, V, H: BuildHasher> HeldVacant<
         key
     }
 
-    /// Inserts the key with `value`, and answers its entry. Refused for want of memory, key and value come back, and
-    /// the stripe is let go.
+    /// Inserts the key with `value`, and returns its entry. If memory is refused, key and value come back and the lock
+    /// is released.
     pub fn insert_entry(self, value: V) -> Result<OccupiedEntry<'a, K, V, H>, InsertError<K, V>>
         ensures { InsertsAtVacant K.eq ⟦<H as Hashes<K>>⟧.hash_of self.entry value result }
     {

@@ -1,5 +1,5 @@
-//! From entry to entry, inside a stripe and on to later ones. The lock of a stripe is let go before the next one is
-//! taken.
+//! From entry to entry, inside a stripe and on to later stripes. The lock of a stripe is released before the next one
+//! is taken.
 ghost use Rattle.scc_map.specs.Entries.{occupied_map, occupied_pair, occupied_front, occupied_back};
 ghost use Rattle.scc_map.specs.EntrySteps.{StandsIn, IsNext, IsNextPastRemoved};
 ghost use Rattle.scc_map.specs.Seats.{occupied_rest, HasLaterSeat, HasSameRest};
@@ -15,7 +15,8 @@ use std::hash::{BuildHasher, Hash};
 use std::marker::PhantomData;
 use std::sync::{RwLockWriteGuard, Wait};
 
-/// The first entry of the stripes after that of the seat. It has the seat of its own stripe.
+/// Returns the first entry of the stripes after the stripe of `seat`, with the seat of its own stripe, or `None` if
+/// these stripes are empty.
 pub fn first_later<'a, K: Eq + Hash, V, H: BuildHasher>(
     rt: &impl Wait,
     seat: Seat<'a, Owned<K, V, Shared<H>>, H>,
@@ -41,8 +42,8 @@ impl<'a, K: Eq + Hash, V, H: BuildHasher> HeldOccupied<
     V,
     Shared<H>,
 > {
-    /// The entry that stands next in the stripe's list; where this one is the last of its stripe, the first of a later
-    /// stripe.
+    /// Returns the entry that stands next in the stripe's list. If this entry is the last of its stripe, returns the
+    /// first entry of a later stripe, or `None`.
     pub fn next_sync(self, rt: &impl Wait) -> Option<OccupiedEntry<'a, K, V, H>>
         ensures next { (occupied_back self.entry ≡ [] → ⊥) → IsSomeAnd result (IsNext self.entry) }
         ensures later { occupied_back self.entry ≡ []
@@ -70,8 +71,8 @@ impl<'a, K: Eq + Hash, V, H: BuildHasher> HeldOccupied<
         }
     }
 
-    /// Takes out the pair, and answers it with the entry that stood next in the stripe's list; where it was the last of
-    /// its stripe, with the first of a later stripe. Nothing is resized.
+    /// Removes the pair, and returns it with the entry that stood next in the stripe's list. If the pair was the last
+    /// of its stripe, returns it with the first entry of a later stripe, or `None`. Resizes nothing.
     pub fn remove_and_sync(self, rt: &impl Wait) -> ((K, V), Option<OccupiedEntry<'a, K, V, H>>)
         ensures pair { result.0 ≡ occupied_pair self.entry }
         ensures next { (occupied_back self.entry ≡ [] → ⊥) → IsSomeAnd result.1 (IsNextPastRemoved self.entry) }

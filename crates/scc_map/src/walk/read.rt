@@ -12,14 +12,14 @@ use scc_buckets::Place;
 use std::hash::{BuildHasher, Hash};
 
 impl<K: Eq + Hash, V, H: BuildHasher> Owned<K, V, H> {
-    /// The place of the first pair of the list, or None where the map is empty.
+    /// Returns the place of the first pair of the list, or `None` if the map is empty.
     pub fn first_place(&self) -> Option<Place>
         ensures { MatchOption result (entries self.now ≡ []) (StandsAt self.now 0) }
     {
         self.table.first_place()
     }
 
-    /// The place after that one, or None where it is the last.
+    /// Returns the place after `place`, or `None` if `place` is the last.
     pub fn next_place(&self, place: Place) -> Option<Place>
         requires { IsPlace self.now place }
         ensures { MatchOption result (suc (index_of self.now place) ≡ length (entries self.now))
@@ -28,7 +28,7 @@ impl<K: Eq + Hash, V, H: BuildHasher> Owned<K, V, H> {
         self.table.next_place(place)
     }
 
-    /// Takes the pair out of its place, with no resize, and answers it with the place of the pair that followed.
+    /// Removes the pair at `place` without a resize, and returns it with the place of the pair that followed.
     pub fn take_with_next(&mut self, place: Place) -> ((K, V), Option<Place>)
         requires { IsPlace self.old place }
         ensures { TakesWithNextByRule (IsUnique K.eq) self.old place result self.new }
@@ -36,7 +36,8 @@ impl<K: Eq + Hash, V, H: BuildHasher> Owned<K, V, H> {
         self.table.take_with_next(place)
     }
 
-    /// The place of the first pair on which `p` answers true. It is called on the pairs in their order, up to that one.
+    /// Returns the place of the first pair on which `p` returns true, or `None`. Calls `p` on the pairs in the order
+    /// of the list until it returns true.
     pub fn first_passing<P: FnMut(&K, &V) -> bool>(&self, p: &mut P) -> Option<Place>
         requires { CallableWhile P.FnMut false p.old (entries self.now) }
         ensures { MatchOption result (Declines (CalledOn P.FnMut) p.old (entries self.now) p.new)
@@ -54,8 +55,8 @@ impl<K: Eq + Hash, V, H: BuildHasher> Owned<K, V, H> {
         None
     }
 
-    /// Calls `f` on the pairs in the order of the list until its first false, and answers false where it stopped. The
-    /// closure is lent, and goes on to other maps.
+    /// Calls `f` on the pairs in the order of the list until `f` returns false. Returns false if it did, else true.
+    /// The closure is lent, and can go on to other maps.
     pub fn iter_lent<F: FnMut(&K, &V) -> bool>(&self, f: &mut F) -> bool
         requires { CallableWhile F.FnMut true f.old (entries self.now) }
         ensures { Walks (CalledOn F.FnMut) f.old (entries self.now) result f.new }

@@ -16,10 +16,10 @@ use scc_common::{Verdict, WalkError};
 use std::hash::{BuildHasher, Hash};
 
 impl<K: Eq + Hash, V, H: BuildHasher> Owned<K, V, H> {
-    /// Calls `f` on the pairs in some order, each at most once, with the value to write, until it stops, and answers
-    /// false where it stopped. A pair on which it answers `Take` or `TakeStop` goes to the end of `taken`. Room for one
-    /// pair is made in `taken` before each call of `f`; where it can't be had, the walk ends with an error, and what it
-    /// did so far stays. Where a pair was taken, the array may become smaller.
+    /// Calls `f` on the pairs in some order, each at most once, with the value to write, until `f` stops the walk.
+    /// Returns false if `f` stopped it, else true. A pair on which `f` returns `Take` or `TakeStop` goes to the end of
+    /// `taken`. Before each call of `f`, room for one pair is made in `taken`; if its memory is refused, the walk ends
+    /// with an error, and what the walk did so far stays. If a pair was taken, the array may shrink.
     pub fn iter_mut_sync<F: FnMut(&K, &mut V) -> Verdict>(
         &mut self,
         f: F,
@@ -35,7 +35,7 @@ impl<K: Eq + Hash, V, H: BuildHasher> Owned<K, V, H> {
         self.iter_mut_into(f, taken)
     }
 
-    /// As `iter_mut_sync`, where the taken pairs go to the end of any list that takes pairs.
+    /// As `iter_mut_sync`, but the taken pairs go to the end of any list that takes pairs.
     pub fn iter_mut_into<F: FnMut(&K, &mut V) -> Verdict, L: Sink<K, V>>(
         &mut self,
         f: F,
@@ -52,7 +52,7 @@ impl<K: Eq + Hash, V, H: BuildHasher> Owned<K, V, H> {
         self.iter_mut_lent(&mut f, taken)
     }
 
-    /// As `iter_mut_into`, with a closure that is lent, and goes on to other maps.
+    /// As `iter_mut_into`, but the closure is lent, and can go on to other maps.
     pub fn iter_mut_lent<F: FnMut(&K, &mut V) -> Verdict, L: Sink<K, V>>(
         &mut self,
         f: &mut F,
@@ -73,7 +73,7 @@ impl<K: Eq + Hash, V, H: BuildHasher> Owned<K, V, H> {
         result
     }
 
-    /// The same in the order of the list, with no resize.
+    /// Walks as `iter_mut_lent` does, in the order of the list and without a resize.
     fn take_walk<F: FnMut(&K, &mut V) -> Verdict, L: Sink<K, V>>(
         &mut self,
         f: &mut F,
@@ -111,7 +111,7 @@ impl<K: Eq + Hash, V, H: BuildHasher> Owned<K, V, H> {
         Ok(true)
     }
 
-    /// Moves the pair out of its place to the end of `taken`, which has room, and answers the place of the pair that
+    /// Moves the pair at `place` to the end of `taken`, which has room, and returns the place of the pair that
     /// followed.
     fn take_into<L: Sink<K, V>>(&mut self, place: Place, taken: &mut L) -> Option<Place>
         requires within { IsPlace self.old place }

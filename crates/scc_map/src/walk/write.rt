@@ -13,7 +13,7 @@ use scc_buckets::Place;
 use std::hash::{BuildHasher, Hash};
 
 impl<K: Eq + Hash, V, H: BuildHasher> Owned<K, V, H> {
-    /// Takes out all pairs. Then the array may become smaller.
+    /// Removes all pairs. Then the array may shrink.
     pub fn clear_sync(&mut self)
     where
         K: Drop,
@@ -24,7 +24,7 @@ impl<K: Eq + Hash, V, H: BuildHasher> Owned<K, V, H> {
         self.table.shrink();
     }
 
-    /// Takes out all pairs, with no resize.
+    /// Removes all pairs, without a resize.
     fn take_all(&mut self)
     where
         K: Drop,
@@ -40,8 +40,8 @@ impl<K: Eq + Hash, V, H: BuildHasher> Owned<K, V, H> {
         }
     }
 
-    /// Calls `f` on every pair once, in some order, with the value to write, and takes out the pairs on which it
-    /// answers false. Then the array may become smaller.
+    /// Calls `f` on every pair once, in some order, with the value to write, and removes the pairs on which `f`
+    /// returns false. Then the array may shrink.
     pub fn retain_sync<F: FnMut(&K, &mut V) -> bool>(&mut self, f: F)
     where
         K: Drop,
@@ -56,7 +56,7 @@ impl<K: Eq + Hash, V, H: BuildHasher> Owned<K, V, H> {
         self.retain_lent(&mut f);
     }
 
-    /// As `retain_sync`, with a closure that is lent, and goes on to other maps.
+    /// As `retain_sync`, but the closure is lent, and can go on to other maps.
     pub fn retain_lent<F: FnMut(&K, &mut V) -> bool>(&mut self, f: &mut F)
     where
         K: Drop,
@@ -72,7 +72,7 @@ impl<K: Eq + Hash, V, H: BuildHasher> Owned<K, V, H> {
         self.table.shrink();
     }
 
-    /// The same in the order of the list, with no resize.
+    /// Walks as `retain_lent` does, in the order of the list and without a resize.
     fn retain_all<F: FnMut(&K, &mut V) -> bool>(&mut self, f: &mut F)
     where
         K: Drop,
@@ -94,7 +94,7 @@ impl<K: Eq + Hash, V, H: BuildHasher> Owned<K, V, H> {
         }
     }
 
-    /// Calls `f` on the pair at the place, with the value to write.
+    /// Calls `f` on the pair at `place`, with the value to write.
     pub(crate) fn visit<R, F: FnMut(&K, &mut V) -> R>(&mut self, place: Place, f: &mut F) -> R
         requires within { IsPlace self.old place }
         requires callable { (p : K × V) → slice_get (entries self.old) (index_of self.old place) ≡ Some p
