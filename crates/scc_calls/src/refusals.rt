@@ -3,7 +3,7 @@
 use std::fmt::Debug;
 use thiserror::Error;
 
-/// Want of memory. The contents are unchanged.
+/// Memory for a call or for a clone was refused. The contents are unchanged.
 #[derive(Clone, Copy, Debug, PartialEq, Error)]
 #[error("out of memory")]
 pub struct Refused;
