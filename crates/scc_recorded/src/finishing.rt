@@ -257,8 +257,8 @@ pub enum FinishError {
     /// call, by stripe and then by index.
     #[error("misrouted record")]
     Misrouted { stripe: usize, index: usize },
-    /// Receipt `receipt` of pass `pass` and the call record of this number differ, or one of them is missing. It is
-    /// the first such receipt, by pass and then by receipt.
+    /// Receipt number `receipt` of pass `pass` differs from call record number `receipt` of this pass, or one of them
+    /// is missing. It is the first such receipt, by pass and then by receipt.
     #[error("receipt disagrees")]
     Disagrees { pass: usize, receipt: usize },
     /// Memory for a list was refused.
