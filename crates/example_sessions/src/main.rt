@@ -1,8 +1,8 @@
 //! Lets four workers open, touch, expire and count sessions in a map that they share, as the lines of standard input
 //! say.
 //!
-//! Each line is a step that all workers make at once, and prints how many sessions it met. The status is 2 where a line
-//! is no step, which is named, 3 where memory is refused, and 4 where a stream fails.
+//! Each line is a step that all workers make at once. For each line the program prints how many sessions the step met.
+//! The status is 2 if a line is no step, and this line is named; 3 if memory is refused; and 4 if a stream fails.
 #![tactic(auto)]
 
 mod sessions;
@@ -48,7 +48,7 @@ fn print_step<R: Threads + Sync + Wait + Print>(
     Ok(())
 }
 
-// Makes the steps of all lines, and says with which status.
+// Makes the steps of all lines, and returns the status.
 fn run<R: Threads + Sync + Wait + Print, I: Read + Drop>(
     rt: &R,
     alloc: Global,

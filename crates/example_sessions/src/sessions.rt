@@ -9,12 +9,13 @@ use std::sync::Wait;
 /// The ends of the sessions, by their tokens.
 pub type Sessions = HashMap<u64, u64>;
 
-/// No session.
+/// Returns a map without sessions.
 pub fn new_sessions(alloc: Global) -> io::Result<Sessions> {
     HashMap::new(alloc).map_err(|_| io::Error::from(io::ErrorKind::OutOfMemory))
 }
 
-/// Lets a session end at that time, and reads under the same lock when it ends: what was written there last.
+/// Sets the end of session `token` to `end`, and returns its end, read under the same lock. Returns `None` if there is
+/// no such session.
 pub fn touch<R: Wait>(rt: &R, sessions: &Sessions, token: u64, end: u64) -> Option<u64>
     ensures { IfSome result (λ left. left ≡ end) }
 {
@@ -23,7 +24,8 @@ pub fn touch<R: Wait>(rt: &R, sessions: &Sessions, token: u64, end: u64) -> Opti
     Some(*entry.get())
 }
 
-/// Takes a session out that has ended by now, with what it held.
+/// Removes session `token` if it has ended by `now`, and returns it with its end. Returns `None` if there is no such
+/// session or if it hasn't ended.
 pub fn expire<R: Wait>(rt: &R, sessions: &Sessions, token: u64, now: u64) -> Option<(u64, u64)>
     ensures { IfSome result (λ session. (session.0 ≡ token) × (session.1 ≤ now)) }
 {

@@ -1,24 +1,24 @@
-//! Steps that are read from lines.
+//! The steps, and how they are read from lines.
 
-/// What all workers do at once.
+/// A step that all workers make at once.
 #[derive(Clone, Copy, Drop)]
 pub enum Step {
-    /// `open N END`: so many sessions are opened that end at that time.
+    /// `open N END`: opens N sessions that end at END.
     Open(usize, u64),
-    /// `touch END`: each session ends at that time.
+    /// `touch END`: lets each session end at END.
     Touch(u64),
-    /// `expire NOW`: the sessions that have ended by now are taken out.
+    /// `expire NOW`: removes the sessions that have ended by NOW.
     Expire(u64),
-    /// `count`: the sessions are counted.
+    /// `count`: counts the sessions.
     Count,
 }
 
-// The number that a word writes.
+// Returns the number that `word` writes, or `None` if it writes none.
 fn number(word: Option<&str>) -> Option<u64> {
     word?.parse::<u64>().ok()
 }
 
-/// The step of a line.
+/// Returns the step that `line` means, or `None` if it is no step.
 pub fn parse_step(line: &str) -> Option<Step> {
     let mut words = line.split_whitespace();
     let step = match words.next()? {

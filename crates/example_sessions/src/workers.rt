@@ -1,4 +1,4 @@
-//! Workers that make a step on the sessions of the tokens that are theirs.
+//! Workers that make a step, each on the sessions of its own tokens.
 use crate::sessions::{Sessions, expire, touch};
 use crate::steps::Step;
 use rand::rngs::SmallRng;
@@ -8,10 +8,10 @@ use std::io;
 use std::sync::Wait;
 use std::thread::{Threads, map_indices};
 
-/// How many workers there are.
+/// The number of workers.
 const WORKERS: usize = 4;
 
-/// So many new tokens, the same in each run of the program.
+/// Returns `number` new tokens, which are the same in each run of the program.
 pub fn draw_tokens(alloc: Global, seed: usize, number: usize) -> Result<Vec<u64>, AllocError> {
     let mut random = SmallRng::seed_from_u64(seed as u64);
     let mut tokens = Vec::new(alloc);
@@ -21,7 +21,8 @@ pub fn draw_tokens(alloc: Global, seed: usize, number: usize) -> Result<Vec<u64>
     Ok(tokens)
 }
 
-// Makes the step on one session, and says whether there was one that it met; None where memory is refused.
+// Makes the step on the session of `token`, and returns whether there was such a session, or for `open` whether there
+// was none. Returns `None` if memory is refused.
 fn meets<R: Wait>(rt: &R, sessions: &Sessions, token: u64, step: Step) -> Option<bool> {
     match step {
         Step::Open(_, end) => match sessions.insert_sync(rt, token, end) {
@@ -35,7 +36,7 @@ fn meets<R: Wait>(rt: &R, sessions: &Sessions, token: u64, step: Step) -> Option
     }
 }
 
-// Makes the step on every fourth token from that of the worker on.
+// Makes the step on every fourth token, from number `worker` on, and returns how many sessions it met.
 fn make_part<R: Wait>(
     rt: &R,
     sessions: &Sessions,
@@ -52,7 +53,7 @@ fn make_part<R: Wait>(
     Some(met)
 }
 
-/// Lets all workers make the step, each on its tokens, and adds up how many sessions they met.
+/// Lets all workers make the step, each on its own tokens, and returns how many sessions they met.
 pub fn make_step<R: Threads + Sync + Wait>(
     rt: &R,
     alloc: Global,
