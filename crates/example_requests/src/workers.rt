@@ -1,4 +1,4 @@
-//! Workers with a cache each. A worker serves the requests that leave its number as rest.
+//! Workers with a cache each. A worker serves the requests that leave its number as rest by the number of workers.
 use crate::serving::{Answers, Tally, serve};
 use std::alloc::Global;
 use std::hash::BuildHasherDefault;

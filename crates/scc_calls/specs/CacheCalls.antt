@@ -33,7 +33,7 @@ module _ {K V : Type 0} where
   abbrev pub keys_in : List (List (K × V)) → List K
   keys_in ls = keys_of (flat_map (λ l. l) ls)
 
-  -- the key of a call, or None if the call concerns all keys
+  -- the key of a call, or `None` if the call concerns all keys
   abbrev pub cache_key : CacheCall K V → Option K
   cache_key (Put k v) = Some k
   cache_key (Get k) = Some k

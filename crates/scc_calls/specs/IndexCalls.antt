@@ -13,7 +13,7 @@ use Rattle.scc_calls.specs.declared.replies.Reply.{Reply}
 use Rattle.scc_calls.specs.declared.replies.Reply.TheVariants.{Inserted, Exists, Old, Key, Pair, Value, Has, Cleared, Count}
 
 module _ {K V : Type 0} where
-  -- the key of a call, or None if the call concerns all keys
+  -- the key of a call, or `None` if the call concerns all keys
   abbrev pub index_key : IndexCall K V → Option K
   index_key (Insert k v) = Some k
   index_key (Update k v) = Some k

@@ -15,7 +15,7 @@ use Rattle.scc_calls.specs.declared.replies.Reply.{Reply}
 use Rattle.scc_calls.specs.declared.replies.Reply.TheVariants.{Inserted, Exists, Old, Key, Pair, Value, Has, Cleared, Count}
 
 module _ {K V : Type 0} where
-  -- the key of a call, or None if the call concerns all keys
+  -- the key of a call, or `None` if the call concerns all keys
   abbrev pub map_key : MapCall K V → Option K
   map_key (Insert k v) = Some k
   map_key (Upsert k v) = Some k

@@ -13,7 +13,7 @@ use Rattle.scc_calls.specs.declared.replies.Reply.{Reply}
 use Rattle.scc_calls.specs.declared.replies.Reply.TheVariants.{Inserted, Exists, Key, Has, Cleared, Count}
 
 module _ {K : Type 0} where
-  -- the key of a call, or None if the call concerns all keys
+  -- the key of a call, or `None` if the call concerns all keys
   abbrev pub key_of_set : SetCall K → Option K
   key_of_set (Insert k) = Some k
   key_of_set (Replace k) = Some k

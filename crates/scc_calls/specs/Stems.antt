@@ -14,7 +14,7 @@ use Rattle.scc_calls.specs.declared.calls_as_values.MapCall.TheVariants.{Read as
 use Rattle.scc_calls.specs.declared.calls_as_values.SetCall.{SetCall}
 use Rattle.scc_calls.specs.declared.calls_as_values.SetCall.TheVariants.{Read as SetRead}
 
--- a clone of an optional value equals the value, or both are None
+-- a clone of an optional value equals the value, or both are `None`
 alike_copied : {X Z : Type 0} {clone : Z → Z → Type 0} {same : Z → Z → Bool} (clones : ClonesEqual clone same) (wrap : Option X → Z) (copy : X → X → Type 0) (none : same (wrap None) (wrap None) ≡ true) (some : (x y : X) → copy x y → clone (wrap (Some x)) (wrap (Some y)))
     → (o w : Option X) → IsCopied copy o w → Alike same (wrap o) (wrap w)
 alike_copied clones wrap copy none some None None h = inr none

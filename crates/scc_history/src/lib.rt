@@ -150,7 +150,7 @@ pub enum CallError {
     /// changed.
     #[error("no room for the record")]
     Room,
-    /// The container refused the call because memory was refused. Its contents are unchanged; a resize that it made is
+    /// The container refused the call because memory was refused. Its entries are unchanged; a resize that it made is
     /// in the history.
     #[error("out of memory")]
     Container,

@@ -25,8 +25,8 @@ abbrev pub all_calls : {A : Type 0} → List (WorkerCall A) → List A
 all_calls calls = map (λ c. c.call) calls
 
 -- the answer is the output of what the workers did, which for one worker on one stripe is the output of a run of the
--- script's calls; or the text for the cause why the run was not finished; or no text, if the receipts are not those of
--- the script's calls
+-- script's calls; or the text for the cause why the run was not finished; or no text, if what was recorded is not what
+-- the script has
 abbrev pub AnswersBy : (List ℕ → Type 0) → (List ℕ → Type 0) → ℕ → ℕ → ℕ → List ℕ → Type 0
 AnswersBy alone among workers stripes status text =
     ((status ≡ 0) × among text × (workers ≡ 1 → stripes ≡ 1 → ∥ alone text ∥₁))

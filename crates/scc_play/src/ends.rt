@@ -20,6 +20,6 @@ pub enum End {
     Played(String),
     /// The run was not finished.
     Unfinished(Cause),
-    /// The receipts are not those of the script's calls.
+    /// What was recorded is not what the script has.
     Differs,
 }

@@ -35,7 +35,7 @@ pub const STREAM_FAILED: u8 = 4;
 /// The run can't be finished: its histories and receipts don't agree.
 pub const UNFINISHED: u8 = 5;
 
-/// The receipts are not those of the script's calls.
+/// What was recorded is not what the script has.
 pub const DIFFERS: u8 = 6;
 
 // The text that is printed if memory is refused.
@@ -221,7 +221,7 @@ fn finish<W: Write>(writer: &mut W, text: &str, status: u8) -> u8
 /// - [`STREAM_FAILED`]: if the read failed, nothing was written; if a write failed, nothing was written after it.
 /// - [`UNFINISHED`]: writes only the line `finish N`. N is 7 if a pass is missing, 8 if a record is misrouted, and 9
 ///   if a receipt differs from its record.
-/// - [`DIFFERS`]: writes nothing. The receipts are not those of the script's calls.
+/// - [`DIFFERS`]: writes nothing. What was recorded is not what the script has.
 pub fn play<T: Threads + Wait + Sync, R: Read, W: Write>(
     rt: &T,
     alloc: Global,

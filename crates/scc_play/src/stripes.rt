@@ -80,8 +80,8 @@ fn cause_of(error: FinishError) -> Result<Cause, AllocError>
     }
 }
 
-/// Returns the output of a run that is over, or why it isn't finished, or that its receipts are not those of the
-/// script's calls. Fails if memory is refused.
+/// Returns the output of a run that is over, or why it isn't finished, or that what was recorded is not what the
+/// script has. Fails if memory is refused.
 pub fn finish_run<P: Printed + Drop, L: Ledger, M: Site<P::Hasher>>(
     alloc: Global,
     workers: usize,

@@ -15,8 +15,8 @@ use std::sync::ledger::Ledger;
 impl<C: WholeCalls, L: Ledger, M: Site<C::Hasher>> Recorded<C, L, M> {
     /// Clears all stripes, stripe 0 first. Each stripe has a call, a stamp and a receipt of its own.
     ///
-    /// Fails only with `Room`: if a stripe has no room for the record or the receipt, or if no stamp is left. Then the
-    /// stripes before it are cleared and recorded, and their receipts are in the pass.
+    /// Fails only with `Room`: if memory for a record, a receipt or a clone of the call is refused, or if no stamp is
+    /// left. Then the stripes that were called before are cleared and recorded, and their receipts are in the pass.
     pub fn clear<R: Wait>(&self, rt: &R, pass: &mut Pass<C, L>) -> Result<(), CallError>
         requires calls { ClonesEqual C.Call.is_clone C.Call.eq }
         requires replies { ClonesEqual C.Reply.is_clone C.Reply.eq }
@@ -40,8 +40,8 @@ impl<C: WholeCalls, L: Ledger, M: Site<C::Hasher>> Recorded<C, L, M> {
     /// Returns the sum of the entries of all stripes, at most `usize::MAX`. The stripes are counted one after another;
     /// each has a call, a stamp and a receipt of its own.
     ///
-    /// Fails only with `Room`: if a stripe has no room for the record or the receipt, or if no stamp is left. Then the
-    /// stripes before it are counted and recorded, and their receipts are in the pass.
+    /// Fails only with `Room`: if memory for a record, a receipt or a clone of the call is refused, or if no stamp is
+    /// left. Then the stripes that were called before are counted and recorded, and their receipts are in the pass.
     pub fn len<R: Wait>(&self, rt: &R, pass: &mut Pass<C, L>) -> Result<usize, CallError>
         requires calls { ClonesEqual C.Call.is_clone C.Call.eq }
         requires replies { ClonesEqual C.Reply.is_clone C.Reply.eq }

@@ -1,8 +1,8 @@
 //! Reads a script of calls from standard input, makes the calls on the container that the script names, and writes
 //! their replies.
 //!
-//! The process ends with the status that [`play`] returns. If a reply is not of the script's calls, a line on standard
-//! error says so.
+//! The process ends with the status that [`play`] returns. If what was recorded is not what the script has, a line on
+//! standard error says so.
 #![tactic(auto)]
 
 use scc_play::play::DIFFERS;

@@ -13,7 +13,7 @@ use std::sync::{Arc, Wait};
 
 impl<K: Eq + Hash, V, H: BuildHasher> HashIndex<K, V, H> {
     /// Inserts a version of the pair if no key equals `k`. Fails if a key equals `k`, or if memory for the version or
-    /// for a growth that the insertion needs is refused; then `k` and `v` come back.
+    /// for the insertion is refused; then `k` and `v` come back.
     pub fn insert_sync(&self, rt: &impl Wait, k: K, v: V) -> Result<(), InsertError<K, V>>
         ensures back { IfErr result (λ e. (e ≡ Exists (k, v)) ⊎ (e ≡ Memory (k, v))) }
     {

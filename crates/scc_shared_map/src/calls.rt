@@ -10,7 +10,7 @@ use std::hash::{BuildHasher, Hash};
 use std::sync::Wait;
 
 impl<K: Eq + Hash, V, H: BuildHasher> HashMap<K, V, H> {
-    /// Inserts the pair if no key equals `k`. Fails if a key equals `k`, or if a growth that the insertion needs is
+    /// Inserts the pair if no key equals `k`. Fails if a key equals `k`, or if memory that the insertion needs is
     /// refused; then `k` and `v` come back.
     pub fn insert_sync(&self, rt: &impl Wait, k: K, v: V) -> Result<(), InsertError<K, V>>
         ensures back { IfErr result (λ e. (e ≡ Exists (k, v)) ⊎ (e ≡ Memory (k, v))) }

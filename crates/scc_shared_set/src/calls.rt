@@ -11,8 +11,8 @@ use std::hash::{BuildHasher, Hash};
 use std::sync::Wait;
 
 impl<K: Eq + Hash, H: BuildHasher> HashSet<K, H> {
-    /// Inserts `k` if no key equals `k`. Fails if a key equals `k`, or if a growth that the insertion needs is
-    /// refused; then `k` comes back.
+    /// Inserts `k` if no key equals `k`. Fails if a key equals `k`, or if memory that the insertion needs is refused;
+    /// then `k` comes back.
     pub fn insert_sync(&self, rt: &impl Wait, k: K) -> Result<(), KeyError<K>>
         ensures back { IfErr result (λ e. (e ≡ Exists k) ⊎ (e ≡ Memory k)) }
     {

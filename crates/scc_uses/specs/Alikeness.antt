@@ -9,7 +9,7 @@ use Rattle.scc_calls.specs.declared.calls_as_values.MapCall.TheVariants.{Insert,
 use Rattle.scc_calls.specs.declared.replies.Reply.{Reply}
 use Rattle.scc_calls.specs.declared.replies.Reply.TheVariants.{Inserted, Exists, Old, Key, Pair, Value, Has, Evicted, Cleared, Count}
 
--- both are None, or both have a value and the values are related
+-- both are `None`, or both have a value and the values are related
 abbrev pub Both : {X : Type 0} → (X → X → Type 0) → Option X → Option X → Type 0
 Both like None None = Unit {0}
 Both like (Some a) (Some b) = like a b

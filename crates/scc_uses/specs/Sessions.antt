@@ -9,7 +9,7 @@ module _ {S : Type 0} where
   unfoldable pub end_of : Contents (ℕ × ℕ) S → ℕ → Option ℕ
   end_of c id = option_map (λ p. p.1) (find nat_eq (entries c) id)
 
-  -- session `id` ends at `end`, or is missing if `end` is None; each other session is as before
+  -- session `id` ends at `end`, or is missing if `end` is `None`; each other session is as before
   pub record Sets (c : Contents (ℕ × ℕ) S) (id : ℕ) (end : Option ℕ) (d : Contents (ℕ × ℕ) S) : Type 0 where
     pub ends : (q : ℕ) → end_of d q ≡ cond (nat_eq q id) end (end_of c q)
 

@@ -49,7 +49,8 @@ type Fold = BuildHasherDefault<FoldHasher>;
 
 type Part = Owned<u64, u64, Shared<Fold>>;
 
-/// Makes two recorded parts, makes the calls on the part to which `key` routes, and returns this part.
+/// Makes two recorded parts, makes the calls on the part to which `key` routes, and returns this part. Fails if memory
+/// is refused.
 pub fn run_in_parts(
     alloc: Global,
     owner: Shared<Fold>,

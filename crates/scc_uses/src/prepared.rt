@@ -5,8 +5,8 @@ use scc_common::InsertError;
 use scc_map::Owned;
 use std::hash::{BuildHasher, Hash};
 
-/// Prepares the insertion of `k`, and then inserts the pair if no key equals `k`: the insertion itself allocates
-/// nothing and can't be refused. If the preparation is refused or a key equals `k`, the pair comes back.
+/// Makes room for `k`, and then inserts the pair if no key equals `k`: the insertion itself allocates nothing and
+/// can't be refused. If there is no room then, or a key equals `k`, the pair comes back.
 pub fn insert_prepared<K: Eq + Hash, V, H: BuildHasher>(
     map: &mut Owned<K, V, H>,
     k: K,

@@ -82,8 +82,8 @@ impl<S: Service> SharedRequests<S> {
     }
 }
 
-/// Returns the answers to `requests` in their order. Each is found by a thread of its own. Fails if memory or a thread
-/// is refused.
+/// Returns the answers to `requests` in their order. Each answer is found in a thread of its own if one can be made.
+/// Fails if memory is refused.
 pub fn answer_all<S: Service + Send + Sync, R: Threads + Wait + Sync>(
     rt: &R,
     alloc: Global,
