@@ -31,7 +31,7 @@ fn out_of_memory() -> io::Error {
 }
 
 /// Finishes a run. By contract every merge of the histories is then a run of the whole, from no entries to the entries
-/// that are there, and the records of each pass agree with its receipts.
+/// at the end, and the records of each pass agree with its receipts.
 fn audit<C: Calls + Drop, L: Ledger, M: Site<C::Hasher>>(
     recorded: Recorded<C, L, M>,
     passes: Vec<Pass<C, L>>,

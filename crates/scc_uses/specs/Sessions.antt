@@ -17,7 +17,7 @@ module _ {S : Type 0} where
   pub record IsAsBefore (c d : Contents (ℕ × ℕ) S) : Type 0 where
     pub ends : (q : ℕ) → end_of d q ≡ end_of c q
 
-  -- a session that is there ends at `end` or later
+  -- a stored session ends at `end` or later
   abbrev pub Renews : Option ℕ → Contents (ℕ × ℕ) S → ℕ → ℕ → Bool → Contents (ℕ × ℕ) S → Type 0
   Renews None c id end b d = (b ≡ false) × IsAsBefore c d
   Renews (Some old) c id end b d = (b ≡ true) × Sets c id (Some (max old end)) d

@@ -8,7 +8,7 @@ use std::alloc::Global;
 use std::hash::Hash;
 use std::sync::Wait;
 
-/// The words that were seen. Workers share the interner by reference. A word that is there is only read.
+/// The words that were seen. Workers share the interner by reference. A stored word is only read.
 #[derive(Drop)]
 pub struct SharedInterner<K: Eq + Hash> {
     words: HashSet<K>,

@@ -11,11 +11,11 @@ pub trait Work {
 
 /// The gate that each worker passes before and after a turn. All threads call it by reference.
 pub trait Gate {
-    /// Called before turn `j` of worker `worker`, both counted from 0. It may wait. If it returns false, the gate
+    /// Comes before turn `j` of worker `worker`, both counted from 0, and may wait. If it returns false, the gate
     /// gives up, and this worker makes no further turn.
     fn before(&self, worker: usize, j: usize) -> bool;
 
-    /// Called after each turn that was made, also after a turn that returned false.
+    /// Comes after each turn that was made, also after a turn that returned false.
     fn after(&self, worker: usize, j: usize);
 }
 
