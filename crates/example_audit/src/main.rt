@@ -1,8 +1,8 @@
-//! Publishes the routes of standard input, lines `DESTINATION HOP`, in a recorded index of four stripes, by two passes,
-//! and audits the run: by contract every merge of its histories is then a run of the whole index.
+//! Publishes the routes of standard input, lines `DESTINATION HOP`, in a recorded index of four stripes, by two
+//! passes, and audits the run. By contract every merge of its histories is then a run of the whole index.
 //!
-//! The status is 2 where a line isn't two numbers, which is named, 3 where memory is refused, 4 where a stream fails,
-//! and 5 where the recorded run can't be finished.
+//! The status is 2 if a line isn't two numbers, and this line is named; 3 if memory is refused; 4 if a stream fails;
+//! and 5 if the recorded run can't be finished.
 #![tactic(auto)]
 
 mod input;
@@ -15,7 +15,7 @@ use std::io::{self, Read};
 use std::process::ExitCode;
 use std::sync::Wait;
 
-// What standard input asks for, and the status.
+// Does what standard input asks for, and returns the status.
 fn run<R: Wait + Print, I: Read + Drop>(rt: &R, alloc: Global, reader: I) -> io::Result<u8> {
     match read_lines(alloc, reader)? {
         Input::Lines(lines) => {

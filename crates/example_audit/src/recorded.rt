@@ -20,18 +20,18 @@ type Fold = Shared<BuildHasherDefault<FoldHasher>>;
 
 type Routes = Owned<u64, u64, Fold>;
 
-/// The stripes of the recorded index.
+/// The number of stripes of the recorded index.
 const STRIPES: usize = 4;
 
-/// The passes, of which every line takes the next.
+/// The number of passes, which take the lines in turn.
 const PASSES: usize = 2;
 
 fn out_of_memory() -> io::Error {
     io::Error::from(io::ErrorKind::OutOfMemory)
 }
 
-/// Finishes a run. By contract every merge of the histories is then a run of the whole, from no entries to what is
-/// there, and the records of each pass are its receipts.
+/// Finishes a run. By contract every merge of the histories is then a run of the whole, from no entries to the entries
+/// at the end, and the records of each pass agree with its receipts.
 fn audit<C: Calls + Drop, L: Ledger, M: Site<C::Hasher>>(
     recorded: Recorded<C, L, M>,
     passes: Vec<Pass<C, L>>,
@@ -53,7 +53,8 @@ where
     }
 }
 
-// Publishes a route by the pass: a first one is inserted, a later one is updated.
+// Publishes a route by the pass: the first route to a destination is inserted, a later one is updated. Returns false
+// if a call is refused.
 fn publish<L: Ledger, M: Site<Fold>, R: Wait>(
     rt: &R,
     recorded: &Recorded<Routes, L, M>,
@@ -69,7 +70,7 @@ fn publish<L: Ledger, M: Site<Fold>, R: Wait>(
     }
 }
 
-// Publishes every other line from that of the pass on.
+// Publishes every other line, from line `number` on. Returns false if a call is refused.
 fn publish_part<L: Ledger, M: Site<Fold>, R: Wait>(
     rt: &R,
     recorded: &Recorded<Routes, L, M>,
@@ -85,7 +86,7 @@ fn publish_part<L: Ledger, M: Site<Fold>, R: Wait>(
     true
 }
 
-// How many call records there are.
+// Returns the number of call records.
 fn calls_of(finished: &Finished<Routes>) -> u64 {
     let mut calls = 0u64;
     for history in finished.histories.as_slice() {
@@ -98,7 +99,7 @@ fn calls_of(finished: &Finished<Routes>) -> u64 {
     calls
 }
 
-// Makes the calls on four stripes by two passes, and audits them.
+// Makes the calls on four stripes by two passes, audits the run, and returns the number of call records.
 fn record_in<L: Ledger, M: Site<Fold>, R: Wait>(
     rt: &R,
     alloc: Global,
@@ -128,7 +129,7 @@ fn record_in<L: Ledger, M: Site<Fold>, R: Wait>(
     Ok(calls_of(&audit(recorded, passes)?))
 }
 
-/// Publishes the routes in a recorded index, and answers how many calls were recorded once the audit has held.
+/// Publishes the routes in a recorded index, and returns the number of recorded calls once the audit has succeeded.
 pub fn record<R: Wait>(rt: &R, alloc: Global, lines: &[Line]) -> io::Result<u64> {
     let Ok(owner) = Arc::new(alloc, BuildHasherDefault::new()) else {
         return Err(out_of_memory());

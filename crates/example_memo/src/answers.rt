@@ -16,15 +16,15 @@ pub struct Answer {
     pub known: bool,
 }
 
-/// How many workers there are.
+/// The number of workers.
 const WORKERS: usize = 4;
 
-/// The slots that a worker's memo may have.
+/// The greatest number of slots of a worker's memo.
 const MOST_SLOTS: usize = 256;
 
 type Known = Memo<EndOfWalk, BuildHasherDefault<FoldHasher>>;
 
-// The values of every fourth walk from that of the worker on.
+// Returns the values of every fourth walk, from number `worker` on.
 fn answer_part(alloc: Global, walks: &[Walk], worker: usize) -> io::Result<Vec<Answer>> {
     let made = Known::with_capacity_and_hasher(
         alloc,
@@ -47,7 +47,7 @@ fn answer_part(alloc: Global, walks: &[Walk], worker: usize) -> io::Result<Vec<A
     Ok(answers)
 }
 
-/// The values of all walks, in their order, each worker doing every fourth.
+/// Returns the values of all walks, in their order. Each worker evaluates every fourth walk.
 pub fn answer_all<R: Threads + Sync>(
     rt: &R,
     alloc: Global,

@@ -4,16 +4,16 @@ use crate::walks::Walk;
 use std::alloc::Global;
 use std::io::{self, Read};
 
-/// What a text of lines may be.
+/// What the lines of a text are.
 #[derive(Drop)]
 pub enum Input {
-    /// A walk a line.
+    /// The walks, one for each line.
     Walks(Vec<Walk>),
-    /// The number of the first line that isn't one, counted from 1.
+    /// The number of the first line that is no walk, counted from 1.
     BadLine(usize),
 }
 
-// The walk that a line of two numbers asks for.
+// Returns the walk that `line` means, or `None` if the line isn't two numbers.
 fn parse_walk(line: &str) -> Option<Walk> {
     let mut words = line.split_whitespace();
     let start = words.next()?.parse::<u64>().ok()?;
@@ -24,7 +24,7 @@ fn parse_walk(line: &str) -> Option<Walk> {
     }
 }
 
-/// Reads the walks to the end.
+/// Reads walks up to the end of `reader`.
 pub fn read_walks<R: Read + Drop>(alloc: Global, reader: R) -> io::Result<Input> {
     let text = io::read_to_string(alloc, reader)?;
     let mut walks = Vec::new(alloc);

@@ -1,8 +1,8 @@
 //! Evaluates a function that takes long, for each line `START STEPS` of standard input, by four workers with a memo
 //! each.
 //!
-//! It prints the value for each line, in their order, and then how many were known. The status is 2 where a line isn't
-//! two numbers, which is named, 3 where memory is refused, and 4 where a stream fails.
+//! Prints the value for each line, in their order, and then how many values were known. The status is 2 if a line
+//! isn't two numbers, and this line is named; 3 if memory is refused; and 4 if a stream fails.
 #![tactic(auto)]
 
 mod answers;
@@ -16,7 +16,7 @@ use std::io::{self, Read};
 use std::process::ExitCode;
 use std::thread::Threads;
 
-// The value for each line, and how many were known.
+// Prints the value for each line, and how many values were known.
 fn print_answers<R: Print>(rt: &R, answers: &[Answer]) -> io::Result<()> {
     let mut known = 0u64;
     for answer in answers {
@@ -29,7 +29,7 @@ fn print_answers<R: Print>(rt: &R, answers: &[Answer]) -> io::Result<()> {
     Ok(())
 }
 
-// What standard input asks for, and the status.
+// Does what standard input asks for, and returns the status.
 fn evaluate<R: Threads + Sync + Print, I: Read + Drop>(
     rt: &R,
     alloc: Global,

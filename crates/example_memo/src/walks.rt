@@ -1,14 +1,14 @@
-//! A function of two arguments that takes long: where a walk of so many steps ends.
+//! A function of two arguments that takes long: the end of a walk of a number of steps.
 ghost use Rattle.std.specs.Prelude.{◌≡◌, ◌*◌, ◌+◌, ◌%◌};
 ghost use Rattle.example_memo.specs.Walks.{end_of};
 
 use scc::memo::{Memo, Pure};
 use std::hash::BuildHasher;
 
-/// Where a walk starts, and its number of steps.
+/// The start of a walk, and its number of steps.
 pub type Walk = (u64, u64);
 
-/// Where a walk ends: each step takes a number to the rest of 48,271 times it and eleven, by 1,000,003.
+/// Returns the end of a walk. A step takes the number n to the rest of 48,271 n + 11 by 1,000,003.
 pub fn end_of_walk(start: u64, steps: u64) -> u64
     ensures { result ≡ end_of start steps }
 {
@@ -19,7 +19,7 @@ pub fn end_of_walk(start: u64, steps: u64) -> u64
     at
 }
 
-/// The function as one that a memo asks.
+/// The function in the form that a memo calls.
 #[derive(Drop)]
 pub struct EndOfWalk;
 
@@ -40,7 +40,7 @@ impl Pure for EndOfWalk {
     }
 }
 
-/// Where the walk ends, by the memo or anew: the same as by the function.
+/// Returns the end of the walk, from the memo or else from the function, which is the same value.
 pub fn end_by_memo<H: BuildHasher>(memo: &mut Memo<EndOfWalk, H>, walk: Walk) -> u64
     ensures { result ≡ end_of walk.0 walk.1 }
 {

@@ -1,7 +1,7 @@
 -- What a cache did.
 use Rattle.std.specs.Prelude.{◌≡◌, ◌⊎◌, ◌^◌, ◌-◌, ℕ, suc, min}
 
--- how many hits, misses and evictions there were
+-- the numbers of hits, misses and evictions
 pub record Counts : Type 0 where
   pub hits : ℕ
   pub misses : ℕ
@@ -11,7 +11,7 @@ pub record Counts : Type 0 where
 abbrev pub one_more : ℕ → ℕ
 one_more n = min (suc n) (2 ^ 64 - 1)
 
--- a request is one hit more, or one miss more, and an answer goes at a miss alone
+-- a request is one hit more or one miss more, and only a miss evicts an answer
 abbrev pub Serves : Counts → Counts → Type 0
 Serves old new =
     ((new.hits ≡ one_more old.hits) × (new.misses ≡ old.misses) × (new.evictions ≡ old.evictions))

@@ -2,7 +2,7 @@
 use std::alloc::{AllocError, Global};
 use std::io::{self, Read};
 
-/// What a text of lines may be.
+/// What the lines of a text are.
 #[derive(Drop)]
 pub enum Input {
     /// The requests, in their order.
@@ -11,7 +11,7 @@ pub enum Input {
     BadLine(usize),
 }
 
-// Adds the requests of a line, and says whether all its words are numbers.
+// Adds the requests of `line` to `requests`, and returns whether all its words are numbers.
 fn add_line(requests: &mut Vec<u64>, line: &str) -> Result<bool, AllocError> {
     for word in line.split_whitespace() {
         match word.parse::<u64>() {
@@ -22,7 +22,7 @@ fn add_line(requests: &mut Vec<u64>, line: &str) -> Result<bool, AllocError> {
     Ok(true)
 }
 
-/// Reads the requests to the end.
+/// Reads requests up to the end of `reader`.
 pub fn read_requests<R: Read + Drop>(alloc: Global, reader: R) -> io::Result<Input> {
     let text = io::read_to_string(alloc, reader)?;
     let mut requests = Vec::new(alloc);

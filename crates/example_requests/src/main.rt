@@ -1,7 +1,7 @@
-//! Serves the requests of standard input, numbers between spaces, by four workers with a cache each before a slow
-//! reader, and prints a table of hits, misses and evictions as the bound of the caches varies.
+//! Serves the requests of standard input, numbers between spaces, by four workers. Each worker has a cache before a
+//! slow reader. Prints a table of hits, misses and evictions for several bounds of the caches.
 //!
-//! The status is 2 where a line has a word that is no number, which is named, 3 where memory is refused, and 4 where a
+//! The status is 2 if a line has a word that is no number, and this line is named; 3 if memory is refused; and 4 if a
 //! stream fails.
 #![tactic(auto)]
 
@@ -20,7 +20,7 @@ use workers::serve_all;
 /// The bounds of a worker's cache.
 const BOUNDS: [usize; 4] = [64, 128, 256, 512];
 
-// A line of the table: the hits of a thousand requests stand last.
+// Prints a line of the table. The last number is the hits of a thousand requests.
 fn print_tally<R: Print>(rt: &R, bound: usize, tally: Tally) -> io::Result<()> {
     let (hits, misses, evictions) = (tally.hits, tally.misses, tally.evictions);
     let all = hits.saturating_add(misses).max(1);
@@ -29,7 +29,7 @@ fn print_tally<R: Print>(rt: &R, bound: usize, tally: Tally) -> io::Result<()> {
     Ok(())
 }
 
-// Serves the requests once for each bound, and says with which status.
+// Serves the requests once for each bound, and returns the status.
 fn run<R: Threads + Sync + Print, I: Read + Drop>(
     rt: &R,
     alloc: Global,

@@ -4,10 +4,10 @@ ghost use Rattle.example_requests.specs.Tallies.{Counts, Serves};
 
 use scc::hash_cache::Owned;
 
-/// Answers by their requests.
+/// Answers, by their requests.
 pub type Answers = Owned<u64, u64>;
 
-/// How many requests were hits, how many misses, and how many answers went for others.
+/// The numbers of hits and misses, and of the answers that were evicted.
 #[derive(Clone, Copy, Drop)]
 pub struct Tally {
     pub hits: u64,
@@ -15,7 +15,7 @@ pub struct Tally {
     pub evictions: u64,
 }
 
-// The slow reader.
+// Returns the answer to `request`, slowly.
 fn read(request: u64) -> u64 {
     let mut answer = request;
     for _ in 0..100 {
@@ -26,7 +26,7 @@ fn read(request: u64) -> u64 {
     answer
 }
 
-// A miss reads the answer and keeps it, where memory can be had.
+// Reads the answer to a request that missed, and stores it unless memory is refused.
 fn serve_missing(answers: &mut Answers, tally: Tally, request: u64) -> Tally
     ensures { Serves (record { hits = tally.hits; misses = tally.misses; evictions = tally.evictions })
         (record { hits = result.hits; misses = result.misses; evictions = result.evictions }) }
@@ -42,8 +42,8 @@ fn serve_missing(answers: &mut Answers, tally: Tally, request: u64) -> Tally
     }
 }
 
-/// Serves a request, by the cache or else by the reader: it is one hit or one miss more, and an answer goes at a miss
-/// alone.
+/// Serves a request, by the cache or else by the reader. It is one hit more or one miss more. Only a miss evicts an
+/// answer.
 pub fn serve(answers: &mut Answers, tally: Tally, request: u64) -> Tally
     ensures { Serves (record { hits = tally.hits; misses = tally.misses; evictions = tally.evictions })
         (record { hits = result.hits; misses = result.misses; evictions = result.evictions }) }

@@ -1,21 +1,21 @@
-//! Workers, each with the cache of the requests that leave the same rest by their number.
+//! Workers with a cache each. A worker serves the requests that leave its number as rest by the number of workers.
 use crate::serving::{Answers, Tally, serve};
 use std::alloc::Global;
 use std::hash::BuildHasherDefault;
 use std::io;
 use std::thread::{Threads, map_indices};
 
-/// How many workers there are.
+/// The number of workers.
 const WORKERS: u64 = 4;
 
-/// No request yet.
+/// The tally of no request.
 const NONE: Tally = Tally {
     hits: 0,
     misses: 0,
     evictions: 0,
 };
 
-// What the worker's cache does with the requests that are its own; nothing where memory is refused.
+// Returns what the worker's cache does with the requests of the worker, or `None` if memory is refused.
 fn serve_part(alloc: Global, bound: usize, requests: &[u64], worker: u64) -> Option<Tally> {
     let mut answers = Answers::with_capacity_and_hasher(
         alloc,
@@ -36,7 +36,7 @@ fn serve_part(alloc: Global, bound: usize, requests: &[u64], worker: u64) -> Opt
     }
 }
 
-/// What the caches of all workers do with the requests.
+/// Returns what the caches of all workers do with the requests.
 pub fn serve_all<R: Threads + Sync>(
     rt: &R,
     alloc: Global,

@@ -5,16 +5,16 @@ use std::io::{self, Read};
 /// A destination and its next hop.
 pub type Line = (u64, u64);
 
-/// What a text of lines may be.
+/// What the lines of a text are.
 #[derive(Drop)]
 pub enum Input {
     /// The routes, in their order.
     Lines(Vec<Line>),
-    /// The number of the first line that isn't one, counted from 1.
+    /// The number of the first line that is no route, counted from 1.
     BadLine(usize),
 }
 
-// The route of a line.
+// Returns the route that `line` means, or `None` if it is no route.
 fn parse_line(line: &str) -> Option<Line> {
     let mut words = line.split_whitespace();
     let destination = words.next()?.parse::<u64>().ok()?;
@@ -25,7 +25,7 @@ fn parse_line(line: &str) -> Option<Line> {
     }
 }
 
-/// Reads the routes to the end.
+/// Reads routes up to the end of `reader`.
 pub fn read_lines<R: Read + Drop>(alloc: Global, reader: R) -> io::Result<Input> {
     let text = io::read_to_string(alloc, reader)?;
     let mut lines = Vec::new(alloc);

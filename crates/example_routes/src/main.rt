@@ -1,7 +1,7 @@
-//! Publishes the routes of standard input, lines `DESTINATION HOP`, in an index that four workers share, while they
-//! keep the versions that went.
+//! Publishes the routes of standard input, lines `DESTINATION HOP`, in an index that four workers share, while the
+//! workers keep the versions that were replaced.
 //!
-//! The status is 2 where a line isn't two numbers, which is named, 3 where memory is refused, and 4 where a stream
+//! The status is 2 if a line isn't two numbers, and this line is named; 3 if memory is refused; and 4 if a stream
 //! fails.
 #![tactic(auto)]
 
@@ -17,7 +17,7 @@ use std::sync::Wait;
 use std::thread::Threads;
 use workers::{listed, publish_all};
 
-// The routes as they are in the end, by destination.
+// Prints the routes, by destination.
 fn print_routes<R: Print>(rt: &R, routes: &[Line]) -> io::Result<()> {
     for (destination, hop) in routes {
         println!(rt; "{destination} {hop}")?;
@@ -25,7 +25,7 @@ fn print_routes<R: Print>(rt: &R, routes: &[Line]) -> io::Result<()> {
     Ok(())
 }
 
-// Publishes the lines, and prints what came of it.
+// Publishes the lines, and prints the routes and how many replaced versions were kept.
 fn print_all<R: Threads + Sync + Wait + Print>(
     rt: &R,
     alloc: Global,
@@ -39,7 +39,7 @@ fn print_all<R: Threads + Sync + Wait + Print>(
     Ok(())
 }
 
-// What standard input asks for, and the status.
+// Does what standard input asks for, and returns the status.
 fn run<R: Threads + Sync + Wait + Print, I: Read + Drop>(
     rt: &R,
     alloc: Global,

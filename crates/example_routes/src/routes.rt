@@ -17,8 +17,8 @@ pub fn out_of_memory() -> io::Error {
     io::Error::from(io::ErrorKind::OutOfMemory)
 }
 
-/// Publishes a hop, and answers the route that was there before, for its reader to keep: of that destination, and it
-/// stays what it was.
+/// Publishes `hop` for `destination`, and returns the route that was there before, which its reader may keep. It is a
+/// route to `destination`, and it stays what it was.
 pub fn publish<R: Wait>(
     rt: &R,
     routes: &Routes,

@@ -1,4 +1,4 @@
-//! Workers that publish routes, each those of its destinations, and keep what went.
+//! Workers that publish routes, each the routes to its own destinations, and keep the versions that are replaced.
 use crate::input::Line;
 use crate::routes::{Kept, Routes, out_of_memory, publish};
 use std::alloc::{AllocError, Global};
@@ -6,17 +6,17 @@ use std::io;
 use std::sync::Wait;
 use std::thread::{Threads, map_indices};
 
-/// How many workers there are.
+/// The number of workers.
 const WORKERS: u64 = 4;
 
-/// Routes, and how many versions that went were kept.
+/// The routes, and how many replaced versions were kept.
 #[derive(Drop)]
 pub struct Published {
     pub routes: Routes,
     pub kept: u64,
 }
 
-// Publishes the worker's routes in their order, and counts the kept versions that are what they were.
+// Publishes the worker's routes in their order, and returns how many kept versions are what they were.
 fn publish_part<R: Wait>(
     rt: &R,
     alloc: Global,
@@ -65,7 +65,7 @@ pub fn publish_all<R: Threads + Sync + Wait>(
     Ok(Published { routes, kept })
 }
 
-/// The routes, by destination.
+/// Returns the routes, by destination.
 pub fn listed<R: Wait>(rt: &R, alloc: Global, routes: &Routes) -> io::Result<Vec<Line>> {
     let Ok(snapshot) = routes.iter(rt) else {
         return Err(out_of_memory());

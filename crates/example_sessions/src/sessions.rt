@@ -16,7 +16,7 @@ pub struct Session {
 }
 
 impl Session {
-    /// The session from `begin` to `end`, or `None` if it would end before it begins.
+    /// Returns the session from `begin` to `end`, or `None` if it would end before it begins.
     pub fn new(begin: u64, end: u64) -> Option<Session>
         ensures { IfSome result (λ session. (session.begin ≡ begin) × (session.end ≡ end)) }
     {
@@ -27,7 +27,7 @@ impl Session {
         }
     }
 
-    /// The session with an end that isn't before `time`.
+    /// Returns the session with an end that isn't before `time`.
     pub fn until(&self, time: u64) -> Session
         ensures begin { result.begin ≡ self.now.begin }
         ensures end { time ≤ result.end }

@@ -5,15 +5,15 @@ use crate::sessions::Session;
 /// What all workers do at once.
 #[derive(Clone, Copy, Drop)]
 pub enum Step {
-    /// `open N BEGIN END`: N sessions are opened.
+    /// `open N BEGIN END`: opens N sessions from BEGIN to END.
     Open(usize, Session),
-    /// `touch TIME`: each session ends at that time or later.
+    /// `touch TIME`: lets each session end at TIME or later.
     Touch(u64),
-    /// `lengths`: the lengths of all sessions are added up.
+    /// `lengths`: adds up the lengths of all sessions.
     Lengths,
-    /// `expire NOW`: the sessions that have ended by now are taken out.
+    /// `expire NOW`: removes the sessions that have ended by NOW.
     Expire(u64),
-    /// `count`: the sessions are counted.
+    /// `count`: counts the sessions.
     Count,
 }
 

@@ -5,7 +5,7 @@ use scc::hash_map::Entry;
 use scc::{HashMap, InsertError};
 use std::sync::Wait;
 
-/// Where a word was met first, and how often it was met.
+/// The place at which a word was met first, and how often it was met.
 #[derive(Clone, Copy, Debug, Drop)]
 pub struct Count {
     pub first: u64,
@@ -16,7 +16,7 @@ pub struct Count {
 pub type Counts<'a> = HashMap<&'a str, Count>;
 
 impl Count {
-    // Met once, there.
+    // Returns the count of a word that was met once, at `place`.
     fn new(place: u64) -> Count
         ensures { result.first ≡ place }
     {
@@ -26,7 +26,7 @@ impl Count {
         }
     }
 
-    // Met once more, there.
+    // Returns the count of a word that was met once more, at `place`.
     fn more(self, place: u64) -> Count
         ensures { (result.first ≤ place) × (result.first ≤ self.first) }
     {
@@ -41,7 +41,7 @@ impl Count {
     }
 }
 
-/// Notes that a word stands there, and answers what is known of it then: it was met there or before.
+/// Records that `word` stands at `place`, and returns what is then known of it: it was met at `place` or before.
 pub fn note<'a, R: Wait>(
     rt: &R,
     counts: &Counts<'a>,

@@ -1,8 +1,8 @@
 //! Numbers the words of standard input in the order in which they come first, by four workers that share a set and a
-//! map, and prints how many there are and the ten most frequent.
+//! map. Prints how many words there are, and the ten most frequent.
 //!
-//! A line has the number of a word, how often it was met, and the word; of words as frequent the earlier one comes
-//! first. The status is 3 where memory is refused, and 4 where a stream fails or isn't text.
+//! A line has the number of a word, how often it was met, and the word. Of words that are met equally often, the
+//! earlier one comes first. The status is 3 if memory is refused, and 4 if a stream fails or isn't text.
 #![tactic(auto)]
 
 mod counts;
@@ -17,10 +17,10 @@ use std::sync::Wait;
 use std::thread::Threads;
 use workers::count_words;
 
-/// How many words are shown.
+/// The number of words that are shown.
 const SHOWN: usize = 10;
 
-// How many words there are, and the most frequent ones.
+// Prints how many words there are, and the most frequent words.
 fn print_ranks<R: Print>(rt: &R, met: usize, words: usize, ranks: &[Rank<'_>]) -> io::Result<()> {
     println!(rt; "{met} words, {words} different")?;
     for rank in ranks.iter().take(SHOWN) {

@@ -2,7 +2,7 @@
 use crate::counts::Count;
 use std::alloc::{AllocError, Global};
 
-/// The number of a word, from 1 on in the order in which they come first, and how often it was met.
+/// The number of a word, from 1 in the order in which words come first, and how often it was met.
 #[derive(Clone, Copy, Drop)]
 pub struct Rank<'a> {
     pub number: u64,
@@ -10,7 +10,7 @@ pub struct Rank<'a> {
     pub word: &'a str,
 }
 
-/// The words in the order in which they come first, numbered.
+/// Returns the words with their numbers, in the order in which they come first.
 pub fn by_number<'a>(
     alloc: Global,
     mut counted: Vec<(&'a str, Count)>,
@@ -29,7 +29,7 @@ pub fn by_number<'a>(
     Ok(ranks)
 }
 
-/// Puts the most frequent words first, and of those as frequent the earlier one.
+/// Puts the most frequent words first, and of words that are met equally often the earlier one first.
 pub fn frequent_first(ranks: &mut [Rank<'_>]) {
     ranks.sort_unstable_by_key(|rank| (u64::MAX - rank.times, rank.number));
 }

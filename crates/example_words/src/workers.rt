@@ -6,14 +6,14 @@ use std::io;
 use std::sync::Wait;
 use std::thread::{Threads, map_indices};
 
-/// How many workers there are.
+/// The number of workers.
 const WORKERS: usize = 4;
 
 fn out_of_memory() -> io::Error {
     io::Error::from(io::ErrorKind::OutOfMemory)
 }
 
-/// The words of a text.
+/// Returns the words of `text`.
 pub fn words_of(alloc: Global, text: &str) -> Result<Vec<&str>, AllocError> {
     let mut words = Vec::new(alloc);
     for word in text.split_whitespace() {
@@ -22,7 +22,7 @@ pub fn words_of(alloc: Global, text: &str) -> Result<Vec<&str>, AllocError> {
     Ok(words)
 }
 
-// Interns and counts every fourth word from that of the worker on, and says whether there was memory.
+// Interns and counts every fourth word, from number `worker` on. Returns false if memory is refused.
 fn count_part<'a, R: Wait>(
     rt: &R,
     seen: &HashSet<&'a str>,
@@ -41,7 +41,7 @@ fn count_part<'a, R: Wait>(
     true
 }
 
-/// What is known of each word, once all workers are done.
+/// Returns what is known of each word once all workers are done.
 pub fn count_words<'a, R: Threads + Sync + Wait>(
     rt: &R,
     alloc: Global,

@@ -1,5 +1,5 @@
-//! Calls as values and their runs; containers that threads share and that record their calls, the passes of those who
-//! call them, and what a finished run was; a hasher with several owners.
+//! Calls as values and their runs; containers that threads share and that record their calls, the passes of their
+//! callers, and what a finished run was; a hasher with several owners.
 
 pub use scc_calls::{
     CacheCall, Calls, IndexCall, MapCall, Refused, Reply, Request, SetCall, Setting, Step,

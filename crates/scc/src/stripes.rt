@@ -1,3 +1,3 @@
-//! Workers on threads of their own, who make turns and pass a gate before each.
+//! Workers on threads of their own. Each makes its turns and passes a gate before each turn.
 
 pub use scc_workers::{Gate, Open, RunError, Work, run};

@@ -1,4 +1,5 @@
--- What the calls of a cache do to its lists, by the reply. A cache's state is its lists, each from the least to the most recent pair.
+-- What the calls of a cache do to its lists, by the reply. The state of a cache is its lists, each from the least to
+-- the most recent pair.
 use Rattle.std.specs.Prelude.{◌≡◌, ◌==◌, ℕ, ◌+◌, ◌*◌, ◌<◌, ◌≤◌, ◌⊎◌, nat_lt, Bool, true, false, cond, List, [], length, map, Option, None, Some, is_some, slice_get}
 use Rattle.std.specs.List.{filter, flat_map, slice_index_or}
 use Rattle.std.specs.Option.{option_map}
@@ -19,20 +20,20 @@ use Rattle.scc_calls.specs.declared.replies.Reply.TheVariants.{Evicted, Exists, 
 abbrev pub cache_setting : {E H : Type 0} → Cached E H → Setting H
 cache_setting c = record { hasher = (settings_of c.contents).hasher; skipped = (settings_of c.contents).skipped; minimum = (settings_of c.contents).asked + (settings_of c.contents).reserved; maximum = c.maximum }
 
--- the number of the list of a key, of so many lists
+-- the number of the list of key k, among n lists
 abbrev pub number_by : {K H : Type 0} → (H → K → ℕ) → Setting H → ℕ → K → ℕ
 number_by hash g n k = bucket_number g.skipped n (hash g.hasher k)
 
--- what a new pair of the list drives out: the first one, where the list holds 32
+-- the pair that a new pair of list l evicts: the first pair, if l holds 32 or more
 abbrev pub first_of_full : {X : Type 0} → List X → Option X
 first_of_full l = cond (nat_lt (length l) 32) None (slice_get l 0)
 
 module _ {K V : Type 0} where
-  -- the keys that are there
+  -- the keys in these lists
   abbrev pub keys_in : List (List (K × V)) → List K
   keys_in ls = keys_of (flat_map (λ l. l) ls)
 
-  -- the key of a call, None where it concerns all keys
+  -- the key of a call, or `None` if the call concerns all keys
   abbrev pub cache_key : CacheCall K V → Option K
   cache_key (Put k v) = Some k
   cache_key (Get k) = Some k
@@ -44,12 +45,13 @@ module _ {K V : Type 0} where
   cache_key Clear = None
   cache_key Len = None
 
-  -- the call may bring in a key
+  -- the call may add a key
   abbrev pub cache_adds : CacheCall K V → Type 0
   cache_adds (Put k v) = Unit {0}
   cache_adds call = ⊥
 
-  -- a resize to n lists: list i gets the pairs that belong to it, in the order that they had, and none more than 32; the number is lawful, within the maximum, and not lowered below the minimum
+  -- a resize to n lists: list i gets the pairs that belong to it, in the order that they had, and at most 32 of them;
+  -- n is lawful, within the maximum, and, if it is lower than before, not below the minimum
   pub record CacheResizes {H : Type 0} (g : Setting H) (number : ℕ → K → ℕ) (s : List (List (K × V))) (n : ℕ) (t : List (List (K × V))) : Type 0 where
     pub count : length t ≡ n
     pub lawful : IsBucketCount n
@@ -59,7 +61,7 @@ module _ {K V : Type 0} where
     pub minimum : n < length s → g.minimum ≤ 32 * n
 
   module _ (eq : K → K → Bool) (number : ℕ → K → ℕ) where
-    -- the call may give the reply and leave t, with no resize
+    -- the call may give the reply and lead from s to t, without a resize
     abbrev pub CacheMoves : List (List (K × V)) → CacheCall K V → Reply K V → List (List (K × V)) → Type 0
     CacheMoves s (Put k v) (Evicted x) t = PutsPair number eq (k, v) x s t
     CacheMoves s (Put k v) (Exists l w) t = (l ≡ k) × (w ≡ v) × ((p : K × V) × (i : ℕ) × IsThere number eq s k i p) × (t ≡ s)
@@ -79,12 +81,12 @@ module _ {K V : Type 0} where
     CacheMoves s Len (Count n) t = (n ≡ length (flat_map (λ l. l) s)) × (t ≡ s)
     CacheMoves s call reply t = ⊥
 
-    -- memory may be refused to a put of a new key where there is no array, and to no other call
+    -- memory may be refused to a put of a missing key if there is no array, and to no other call
     abbrev pub CacheMayRefuse : List (List (K × V)) → CacheCall K V → Type 0
     CacheMayRefuse s (Put k v) = IsMissing number eq s k × (length s ≡ 0)
     CacheMayRefuse s call = ⊥
 
-    -- the reply that the call gives where a cache has these lists, and makes no growth
+    -- the reply that the call gives if a cache has the lists s and the call makes no growth
     abbrev pub cache_answer : List (List (K × V)) → CacheCall K V → Reply K V
     cache_answer s (Put k v) = cond (is_some (pair_for number eq s k)) (Exists k v) (Evicted (first_of_full (list_for number s k)))
     cache_answer s (Get k) = Value (option_map (λ p. p.1) (pair_for number eq s k))
@@ -97,11 +99,11 @@ module _ {K V : Type 0} where
     cache_answer s Len = Count (length (flat_map (λ l. l) s))
 
   module _ {S : Type 0} (eq : K → K → Bool) (hash : K → ℕ) (c : Cached (K × V) S) where
-    -- the call makes no growth: a put of k finds k, or all is made that it wants
+    -- the call makes no growth: a put of k finds k or is prepared
     abbrev pub CacheIsMade : CacheCall K V → Type 0
     CacheIsMade (Put k v) = ((p : K × V) × IsPresent hash eq c.contents k p) ⊎ IsPreparedForPut hash c k
     CacheIsMade call = Unit {0}
 
-    -- the call makes no growth, and the reply equals the one that it gives
+    -- the call makes no growth, and its reply equals copy
     abbrev pub CacheIsPrepared : (Reply K V → Reply K V → Bool) → CacheCall K V → Reply K V → Type 0
     CacheIsPrepared same call copy = CacheIsMade call × (same (cache_answer eq (list_number hash c.contents) (lists_of c.contents) call) copy ≡ true)

@@ -13,7 +13,7 @@ use Rattle.scc_calls.specs.declared.calls_as_values.CacheCall.TheVariants.{Put, 
 use Rattle.scc_calls.specs.declared.replies.Reply.{Reply}
 use Rattle.scc_calls.specs.declared.replies.Reply.TheVariants.{Evicted, Exists, Old, Key, Pair, Value, Has, Cleared, Count}
 
--- there is one size of an array for so many slots
+-- there is one size of an array for n slots
 pub one_size : (n p q : ℕ) → IsArraySize n p → IsArraySize n q → p ≡ q
 one_size n p q a b =
     let l = a.fewest q b.power b.least b.enough in
@@ -117,7 +117,7 @@ module _ {K V : Type 0} (P : K → Type 0) where
     moves-last : (k : K) (p q : K × V) → P q.0 → RefreshesAs number eq k p q s t → Each t
     moves-last k p q h m = subst Each (sym m.2) (each-set s (number (length s) k) _ (both (remove (list_for number s k) m.0) (q ∷ []) (all-remove (list_for number s k) m.0 (each-at s (number (length s) k) a)) (h, tt)) a)
 
-    -- where the key stays
+    -- if P holds of each key before a refresh or a removal, it does after it
     refreshes-each : (k l : K) (w v : V) → RefreshesAs number eq k (l, w) (l, v) s t → Each t
     refreshes-each k l w v m = moves-last k (l, w) (l, v) (all-get (list_for number s k) m.0 (l, w) m.1.pair (each-at s (number (length s) k) a)) m
 
@@ -144,12 +144,12 @@ module _ {K V : Type 0} (eq : K → K → Bool) (number : ℕ → K → ℕ) (ro
   moves-each s t Len (Count n) a h m = subst (Each (λ k. route k ≡ i)) (sym m.1) a
   moves-each s t call reply a h m = absurd m
 
-  -- after a call whose key belongs to part i, all keys there belong to it
+  -- after a call whose key belongs to part i, all keys of the part belong to part i
   pub cache_call_keeps : (s t : List (List (K × V))) (call : CacheCall K V) (reply : Reply K V) → Routed route i (keys_in s) → KeyRouted route i (cache_key call) → CacheMoves eq number s call reply t → Routed route i (keys_in t)
   cache_call_keeps s t call reply a h m = keys-to (λ k. route k ≡ i) t (moves-each s t call reply (keys-from (λ k. route k ≡ i) s a) h m)
 
 module _ {K V H : Type 0} (g : Setting H) (number : ℕ → K → ℕ) (route : K → ℕ) (i : ℕ) where
-  -- after a resize of part i, all keys there belong to it
+  -- after a resize of part i, all keys of the part belong to part i
   pub cache_resize_keeps : (s t : List (List (K × V))) (n : ℕ) → Routed route i (keys_in s) → CacheResizes g number s n t → Routed route i (keys_in t)
   cache_resize_keeps s t n a r =
       let P : K → Type 0 = λ k. route k ≡ i in
@@ -159,6 +159,6 @@ each-empty : {K : Type 0} (V : Type 0) (P : K → Type 0) (b : ℕ) → Each {V 
 each-empty V P zero = tt
 each-empty V P (suc b) = (tt, each-empty V P b)
 
--- a part without pairs has only keys that belong to it
+-- all keys of a part without pairs belong to part i
 pub empty_keys : {K : Type 0} (V : Type 0) (route : K → ℕ) (i b : ℕ) → Routed route i (keys_in {V = V} (replicate b []))
 empty_keys {K} V route i b = keys-to {V = V} (λ k. route k ≡ i) (replicate b []) (each-empty V (λ k. route k ≡ i) b)

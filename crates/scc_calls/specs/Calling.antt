@@ -1,46 +1,49 @@
--- What making ready for a call and making it do to a container, in one word each.
+-- What the preparation of a call and the call itself do to a container, in one word each.
 use Rattle.std.specs.Prelude.{◌≡◌, ◌≢◌, ◌⊎◌, ℕ, ◌≤◌, Bool, true, Option, Result, IfOk, IsSome}
 use Rattle.std.specs.Result.{OnErr}
 use Rattle.scc_calls.specs.Resized.{MovesResized, Stays}
 use Rattle.scc_calls.specs.Copies.{MayNotClone}
 
--- a clone may be refused of the reply that the call gives in this state, or after one resize of it
+-- a clone of the reply that the call gives may be refused, in this state or after one resize
 abbrev pub MayNotReply : {S C R : Type 0} → (S → ℕ) → (S → ℕ → S → Type 0) → (S → C → R) → (R → Type 0) → S → C → Type 0
 MayNotReply {S} size resizes answer is_infallible s call = (t : S) × Stays size resizes s t × MayNotClone is_infallible (answer t call)
 
 module _ {T G S K C R X : Type 0} (setting_of : T → G) (state_of : T → S) (size : S → ℕ) (key_of : C → Option K) (gives : G → S → C → R) (resizes : G → S → ℕ → S → Type 0) (may_refuse : G → S → C → Type 0) (may_add : C → Type 0) (is_prepared : T → C → R → Type 0) (is_infallible : R → Type 0) where
-  -- what `ready` for the call, answered so, does to the container c
+  -- what `prepare_call` of the call, with this result, does to the container c, which becomes d
   pub record PreparesCallByRule (is_marked : T → Bool) (c : T) (call : C) (result : Result (R × R) X) (d : T) : Type 0 where
     -- the setting stays
     pub setting : setting_of d ≡ setting_of c
-    -- the state stays but for one resize
+    -- the state stays, or one resize was made
     pub stays : Stays size (resizes (setting_of c)) (state_of c) (state_of d)
-    -- the buckets become no fewer
+    -- the number of buckets doesn't fall
     pub grows : size (state_of c) ≤ size (state_of d)
-    -- and their number changes only where the call may bring in a key
+    -- the number of buckets changes only if the call may add a key
     pub adds : size (state_of d) ≢ size (state_of c) → may_add call
-    -- both copies are ones that the call is ready to answer
+    -- the call is prepared to give each of the two copies
     pub ready : IfOk result (λ r. is_prepared d call r.0 × is_prepared d call r.1)
-    -- it fails only if memory for the call may be refused, or, if the call has a key, a clone of the reply that the call gives then
+    -- it fails only if memory for the call may be refused, or if the call has a key and a clone of its reply may be
+    -- refused
     pub refused : OnErr result (may_refuse (setting_of c) (state_of c) call ⊎ (IsSome (key_of call) × MayNotClone is_infallible (gives (setting_of d) (state_of d) call)))
-    -- then it leaves no mark of a growth that was tried, but one that was there before
+    -- if it fails, it leaves no mark but one that was there before
     pub unmarked : OnErr result (is_marked d ≡ true → is_marked c ≡ true)
-    -- and if memory may be refused after it, it might have been before
+    -- if memory for the call may be refused in the state of d, it may be refused in the state of c
     pub still : may_refuse (setting_of c) (state_of d) call → may_refuse (setting_of c) (state_of c) call
 
-  -- what the call, answered so, does to the container c, if it moves the state so and these replies are equal
+  -- what the call, with this result, does to the container c, which becomes d. `moves` relates states by the call and
+  -- its reply; `eq` says which replies are equal
   pub record CallsByRule (moves : G → S → C → R → S → Type 0) (eq : R → R → Bool) (c : T) (call : C) (result : Result R X) (d : T) : Type 0 where
     -- the setting stays
     pub setting : setting_of d ≡ setting_of c
     -- if it succeeds, this very call was made with this very reply, and with at most one resize
     pub ok : IfOk result (λ r. MovesResized size (moves (setting_of c)) (resizes (setting_of c)) (state_of c) call r (state_of d))
-    -- where it fails, the state stays but for one resize
+    -- if it fails, the state stays, or one resize was made
     pub err : OnErr result (Stays size (resizes (setting_of c)) (state_of c) (state_of d))
-    -- it fails only if memory for the call may be refused, or, if the call has a key, a clone of the reply that the call gives
+    -- it fails only if memory for the call may be refused, or if the call has a key and a clone of its reply may be
+    -- refused
     pub refused : OnErr result (may_refuse (setting_of c) (state_of c) call ⊎ (IsSome (key_of call) × MayNotClone is_infallible (gives (setting_of c) (state_of c) call)))
-    -- once all is made that it wants, a reply that it answers equals the copy
+    -- if the call was prepared with a copy, its reply equals the copy
     pub answer : (copy : R) → is_prepared c call copy → IfOk result (λ r. eq r copy ≡ true)
-    -- and it makes no growth
+    -- if the call was prepared, it makes no growth
     pub made : (copy : R) → is_prepared c call copy → size (state_of d) ≤ size (state_of c)
-    -- a call that may bring in a key makes the buckets no fewer
+    -- if the call may add a key, the number of buckets doesn't fall
     pub kept : may_add call → size (state_of c) ≤ size (state_of d)

@@ -1,4 +1,4 @@
--- What the calls of an index do to its state, by the reply, in terms of the calls of a map.
+-- What the calls of an index do to its state, by the reply, said by the calls of a map.
 use Rattle.std.specs.Prelude.{◌≡◌, ℕ, ◌⊎◌, Bool, true, false, cond, List, length, Option, None, Some, is_some, IsSome}
 use Rattle.std.specs.Option.{option_map}
 use Rattle.scc_contents.specs.Contents.{Contents, entries}
@@ -13,7 +13,7 @@ use Rattle.scc_calls.specs.declared.replies.Reply.{Reply}
 use Rattle.scc_calls.specs.declared.replies.Reply.TheVariants.{Inserted, Exists, Old, Key, Pair, Value, Has, Cleared, Count}
 
 module _ {K V : Type 0} where
-  -- the key of a call, None where it concerns all keys
+  -- the key of a call, or `None` if the call concerns all keys
   abbrev pub index_key : IndexCall K V → Option K
   index_key (Insert k v) = Some k
   index_key (Update k v) = Some k
@@ -23,13 +23,14 @@ module _ {K V : Type 0} where
   index_key Clear = None
   index_key Len = None
 
-  -- the call may bring in a key
+  -- the call may add a key
   abbrev pub index_adds : IndexCall K V → Type 0
   index_adds (Insert k v) = Unit {0}
   index_adds call = ⊥
 
   module _ (eq : K → K → Bool) where
-    -- the call may give the reply and leave t, with no resize, where `clone` says which key is a clone of which. An update of a present key is an upsert and then a replacement of the stored key by a clone of it, which equals it
+    -- the call may give the reply and lead from s to t, without a resize; `clone l q` says that q is a clone of l. An
+    -- update of a present key is an upsert, and then a replacement of the stored key by a clone of it, which equals it
     abbrev pub IndexMoves : (K → K → Type 0) → State (K × V) → IndexCall K V → Reply K V → State (K × V) → Type 0
     IndexMoves clone s (Insert k v) r t = MapMoves eq s (MapInsert k v) r t
     IndexMoves clone s (Update k v) (Has false) t = MapMoves eq s (MapReplace k) (Key None) t
@@ -42,13 +43,14 @@ module _ {K V : Type 0} where
     IndexMoves clone s Len r t = MapMoves eq s MapLen r t
     IndexMoves clone s call reply t = ⊥
 
-    -- memory may be refused to an insertion of a new key and to an update of a present one, each of which makes a version, and to no other call
+    -- memory may be refused to an insertion of a missing key and to an update of a present key, each of which makes a
+    -- version, and to no other call
     abbrev pub IndexMayRefuse : State (K × V) → IndexCall K V → Type 0
     IndexMayRefuse s (Insert k v) = find eq s.0 k ≡ None
     IndexMayRefuse s (Update k v) = IsSome (find eq s.0 k)
     IndexMayRefuse s call = ⊥
 
-    -- the reply that the call gives where an index has these pairs
+    -- the reply that the call gives if an index has the pairs es
     abbrev pub index_answer : List (K × V) → IndexCall K V → Reply K V
     index_answer es (Insert k v) = cond (is_some (find eq es k)) (Exists k v) Inserted
     index_answer es (Update k v) = Has (is_some (find eq es k))
@@ -59,7 +61,7 @@ module _ {K V : Type 0} where
     index_answer es Len = Count (length es)
 
     module _ {S : Type 0} (hash : K → ℕ) (c : Contents (K × V) S) where
-      -- an insertion of k makes no resize: k is there, or all is made that it wants
+      -- an insertion of k makes no resize: k is present, or the insertion is prepared
       abbrev pub IndexIsMadeFor : K → Type 0
       IndexIsMadeFor k = IsSome (find eq (entries c) k) ⊎ IsPreparedFor hash (λ p. p.0) c k
 
@@ -68,6 +70,6 @@ module _ {K V : Type 0} where
       IndexIsMade (Insert k v) = IndexIsMadeFor k
       IndexIsMade call = Unit {0}
 
-      -- the call makes no growth, and the reply equals the one that it gives
+      -- the call makes no growth, and its reply equals copy
       abbrev pub IndexIsPrepared : (Reply K V → Reply K V → Bool) → IndexCall K V → Reply K V → Type 0
       IndexIsPrepared same call copy = IndexIsMade call × (same (index_answer (entries c) call) copy ≡ true)

@@ -15,7 +15,8 @@ use Rattle.scc_calls.specs.declared.replies.Reply.{Reply}
 use Rattle.scc_calls.specs.declared.replies.Reply.TheVariants.{Old, Key, Pair, Has}
 
 module _ {K V : Type 0} (route : K → ℕ) where
-  -- another state of the part in the middle, whose keys route there too
+  -- the keys of the parts still route to their parts if the part in the middle gets another state whose keys route to
+  -- it
   routed-instead : (j : ℕ) (before : List (State (K × V))) (old mid : State (K × V)) (after : List (State (K × V))) → RoutedFrom route (λ s. keys_of s.0) j (before ++ old ∷ after)
       → Routed route (j + length before) (keys_of mid.0) → RoutedFrom route (λ s. keys_of s.0) j (before ++ mid ∷ after)
   routed-instead j [] old mid after r m = (let e : j + 0 ≡ j = omega arith in rw e at m, r.1)
@@ -23,7 +24,7 @@ module _ {K V : Type 0} (route : K → ℕ) where
       let e : j + suc (length before) ≡ (j + 1) + length before = omega arith in
       (r.0, routed-instead (j + 1) before old mid after r.1 (rw e at m))
 
-  -- the keys of the part in the middle route there
+  -- the keys of the part in the middle route to it
   routed-there : (j : ℕ) (before : List (State (K × V))) (old : State (K × V)) (after : List (State (K × V))) → RoutedFrom route (λ s. keys_of s.0) j (before ++ old ∷ after) → Routed route (j + length before) (keys_of old.0)
   routed-there j [] old after r = let e : j + 0 ≡ j = omega arith in rw e r.0
   routed-there j (s ∷ before) old after r =
@@ -31,7 +32,7 @@ module _ {K V : Type 0} (route : K → ℕ) where
       rw e (routed-there (j + 1) before old after r.1)
 
 module _ {K V : Type 0} (eq : K → K → Bool) (clone : K → K → Type 0) (route : K → ℕ) (alike : (a b : K) → eq a b ≡ true → route a ≡ route b) where
-  -- a step of the part to which the call's key belongs is one of the whole
+  -- a step of the part to which the call's key belongs is a step of the whole
   pub index_call_is_whole : (before after : List (State (K × V))) (old new : State (K × V)) (call : IndexCall K V) (reply : Reply K V)
       → RoutedFrom route (λ s. keys_of s.0) 0 (before ++ old ∷ after) → KeyRouted route (length before) (index_key call) → IndexMoves eq clone old call reply new
       → IndexWholeMoves eq clone (λ k. route k == length before) (joined (before ++ old ∷ after)) call reply (joined (before ++ new ∷ after))
@@ -60,7 +61,7 @@ module _ {K V : Type 0} (eq : K → K → Bool) (clone : K → K → Type 0) (ro
   index_call_is_whole before after old new Len r routed key h = map_call_is_whole eq route alike before after old new MapLen r routed key h
   index_call_is_whole before after old new call reply routed key h = absurd h
 
-  -- after a call whose key belongs to part i, all keys there belong to it
+  -- after a call whose key belongs to part i, all keys of the part belong to part i
   pub index_call_keeps : (i : ℕ) (s t : State (K × V)) (call : IndexCall K V) (reply : Reply K V) → Routed route i (keys_of s.0) → KeyRouted route i (index_key call)
       → IndexMoves eq clone s call reply t → Routed route i (keys_of t.0)
   index_call_keeps i s t (Insert k v) r routed key h = map_call_keeps eq route alike i s t (MapInsert k v) r routed key h

@@ -8,7 +8,8 @@ use Rattle.scc_calls.specs.declared.calls_as_values.MapCall.TheVariants.{Clear a
 use Rattle.scc_calls.specs.declared.replies.Reply.{Reply}
 
 module _ {K V : Type 0} (eq : K → K → Bool) (clone : K → K → Type 0) (here : K → Bool) where
-  -- one call on the pairs of all parts: what it does to an index of these pairs. A clearing takes out those whose keys are here, and a length counts them
+  -- one call on the pairs of all parts: what it does to an index with these pairs. `here` names the keys of one part:
+  -- a clearing removes its pairs, and a length counts them
   abbrev pub IndexWholeMoves : List (K × V) → IndexCall K V → Reply K V → List (K × V) → Type 0
   IndexWholeMoves w Clear r v = MapWholeMoves eq here w MapClear r v
   IndexWholeMoves w Len r v = MapWholeMoves eq here w MapLen r v

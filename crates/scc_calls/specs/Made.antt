@@ -4,7 +4,8 @@ use Rattle.scc_contents.specs.Sizes.{IsArraySize}
 use Rattle.scc_calls.specs.declared.fixed.Request.{Request}
 use Rattle.scc_calls.specs.declared.fixed.Setting.{Setting}
 
--- what is fixed of a part that is made for the request, where the kind has these limits: the slots of its array are the minimum
+-- the setting s of a part that is made for the request r, in a kind with these limits. The slots of its array are the
+-- minimum
 pub record IsMadeFor {H : Type 0} (limits : ℕ → ℕ → ℕ → Type 0) (r : Request H) (s : Setting H) : Type 0 where
   pub hasher : s.hasher ≡ r.hasher
   pub skipped : s.skipped ≡ r.skipped

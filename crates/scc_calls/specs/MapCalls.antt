@@ -15,7 +15,7 @@ use Rattle.scc_calls.specs.declared.replies.Reply.{Reply}
 use Rattle.scc_calls.specs.declared.replies.Reply.TheVariants.{Inserted, Exists, Old, Key, Pair, Value, Has, Cleared, Count}
 
 module _ {K V : Type 0} where
-  -- the key of a call, None where it concerns all keys
+  -- the key of a call, or `None` if the call concerns all keys
   abbrev pub map_key : MapCall K V → Option K
   map_key (Insert k v) = Some k
   map_key (Upsert k v) = Some k
@@ -26,22 +26,22 @@ module _ {K V : Type 0} where
   map_key Clear = None
   map_key Len = None
 
-  -- the call may bring in a key
+  -- the call may add a key
   abbrev pub map_adds : MapCall K V → Type 0
   map_adds (Insert k v) = Unit {0}
   map_adds (Upsert k v) = Unit {0}
   map_adds call = ⊥
 
-  -- t has these pairs in some order, in as many buckets
+  -- t has the pairs es in some order, and as many buckets as s
   abbrev pub Rearranges : State (K × V) → State (K × V) → List (K × V) → Type 0
   Rearranges s t es = IsPermutation es t.0 × (t.1 ≡ s.1)
 
-  -- t has these pairs in this order, in as many buckets
+  -- t has the pairs es in this order, and as many buckets as s
   abbrev pub Becomes : State (K × V) → State (K × V) → List (K × V) → Type 0
   Becomes s t es = (t.0 ≡ es) × (t.1 ≡ s.1)
 
   module _ (eq : K → K → Bool) where
-    -- the call may give the reply and leave t, with no resize
+    -- the call may give the reply and lead from s to t, without a resize
     abbrev pub MapMoves : State (K × V) → MapCall K V → Reply K V → State (K × V) → Type 0
     MapMoves s (Insert k v) Inserted t = AddsPair eq s.0 (k, v) (Rearranges s t)
     MapMoves s (Insert k v) (Exists l w) t = HandsBack eq s.0 (k, v) (l, w) (λ es. t ≡ (es, s.1))
@@ -57,7 +57,7 @@ module _ {K V : Type 0} where
     MapMoves s Len (Count n) t = (n ≡ length s.0) × (t ≡ s)
     MapMoves s call reply t = ⊥
 
-    -- the reply that the call gives where a map has these pairs
+    -- the reply that the call gives if a map has the pairs es
     abbrev pub map_answer : List (K × V) → MapCall K V → Reply K V
     map_answer es (Insert k v) = cond (is_some (find eq es k)) (Exists k v) Inserted
     map_answer es (Upsert k v) = Old (option_map (λ p. p.1) (find eq es k))
@@ -69,7 +69,7 @@ module _ {K V : Type 0} where
     map_answer es Len = Count (length es)
 
     module _ {S : Type 0} (hash : K → ℕ) (c : Contents (K × V) S) where
-      -- an insertion of k makes no resize: k is there, or all is made that it wants
+      -- an insertion of k makes no resize: k is present, or the insertion is prepared
       abbrev pub MapIsMadeFor : K → Type 0
       MapIsMadeFor k = IsSome (find eq (entries c) k) ⊎ IsPreparedFor hash (λ p. p.0) c k
 
@@ -79,7 +79,7 @@ module _ {K V : Type 0} where
       MapIsMade (Upsert k v) = MapIsMadeFor k
       MapIsMade call = Unit {0}
 
-      -- the call makes no growth, and the reply equals the one that it gives
+      -- the call makes no growth, and its reply equals copy
       abbrev pub MapIsPrepared : (Reply K V → Reply K V → Bool) → MapCall K V → Reply K V → Type 0
       MapIsPrepared same call copy = MapIsMade call × (same (map_answer (entries c) call) copy ≡ true)
 
@@ -88,11 +88,11 @@ module _ {K V : Type 0} where
       abbrev pub MapHasRoom : Setting H → State (K × V) → K → Type 0
       MapHasRoom g s k = (0 < s.1) × (count_by (λ p. bucket_number g.skipped s.1 (hash g.hasher p.0) == bucket_number g.skipped s.1 (hash g.hasher k)) s.0 < 32)
 
-      -- k is new, and there is no room for it
+      -- k is missing, and there is no room for k
       abbrev pub MapRefuses : Setting H → State (K × V) → K → Type 0
       MapRefuses g s k = (find eq s.0 k ≡ None) × (MapHasRoom g s k → ⊥)
 
-      -- memory may be refused to an insertion and an upsert of a new key without room, and to no other call
+      -- memory may be refused to an insertion and an upsert of a missing key without room, and to no other call
       abbrev pub MapMayRefuse : Setting H → State (K × V) → MapCall K V → Type 0
       MapMayRefuse g s (Insert k v) = MapRefuses g s k
       MapMayRefuse g s (Upsert k v) = MapRefuses g s k

@@ -21,7 +21,7 @@ use Rattle.scc_calls.specs.declared.calls_as_values.MapCall.TheVariants.{Insert,
 use Rattle.scc_calls.specs.declared.replies.Reply.{Reply}
 use Rattle.scc_calls.specs.declared.replies.Reply.TheVariants.{Inserted, Exists, Old, Key, Pair, Value, Has, Cleared, Count}
 
--- equal keys route alike where they are fed to the hasher alike
+-- equal keys have the same number if they are fed to the hasher alike
 pub routes_alike : {K W : Type 0} (eq : K → K → Bool) (input : K → W) (number : W → ℕ) → ((a b : K) → eq a b ≡ true → input a ≡ input b) → (a b : K) → eq a b ≡ true → number (input a) ≡ number (input b)
 routes_alike eq input number law a b e = ap number (law a b e)
 
@@ -118,7 +118,7 @@ module _ {K V : Type 0} (route : K → ℕ) where
       let r = off_before i (j + 1) before old after (omega arith) routed.1 in
       (off_append i s.0 (joined before) (off_one j i s.0 (omega arith) routed.0) r.0, r.1)
 
-  -- those that are off stay where part i is cleared, and aren't counted
+  -- a clearing of part i keeps the pairs whose keys don't route to i, and a count of part i doesn't count them
   off_kept : (i : ℕ) (es : List (K × V)) → Off i es → filter (λ (p : K × V). not (route p.0 == i)) es ≡ es
   off_kept i [] a = refl
   off_kept i (x ∷ es) a =
@@ -178,7 +178,7 @@ module _ {K V : Type 0} (eq : K → K → Bool) (route : K → ℕ) (alike : (a 
   off_none i k [] e a = tt
   off_none i k (x ∷ es) e a = (by_answer (eq k x.0) (λ y. absurd (a.0 (sym (alike k x.0 y) ∙ e))) (λ n. n), off_none i k es e a.1)
 
-  -- one part, with the pairs of the parts before it and of those behind it
+  -- one part, with the pairs B of the parts before it and the pairs A of the parts behind it
   module _ (i : ℕ) (B A : List (K × V)) (off_b : Off route i B) (off_a : Off route i A) where
     find_whole : (k : K) (s : List (K × V)) → route k ≡ i → find eq (B ++ (s ++ A)) k ≡ find eq s k
     find_whole k s e = find_front (eq k) B (s ++ A) (off_none i k B e off_b) ∙ find_back (eq k) s A (off_none i k A e off_a)
@@ -238,7 +238,7 @@ module _ {K V : Type 0} (eq : K → K → Bool) (route : K → ℕ) (alike : (a 
     )
     step_whole s t call reply routed key h = absurd h
 
-  -- a step of the part to which the call's key belongs is one of the whole
+  -- a step of the part to which the call's key belongs is a step of the whole
   pub map_call_is_whole : (before after : List (State (K × V))) (old new : State (K × V)) (call : MapCall K V) (reply : Reply K V)
       → RoutedFrom route (λ s. keys_of s.0) 0 (before ++ old ∷ after) → KeyRouted route (length before) (map_key call) → MapMoves eq old call reply new
       → MapWholeMoves eq (λ k. route k == length before) (joined (before ++ old ∷ after)) call reply (joined (before ++ new ∷ after))
@@ -248,7 +248,7 @@ module _ {K V : Type 0} (eq : K → K → Bool) (route : K → ℕ) (alike : (a 
       let a = off_after route i (i + 1) after (omega arith) b.1.1 in
       rw (flat_map-append (λ (s : State (K × V)). s.0) before (old ∷ after), flat_map-append (λ (s : State (K × V)). s.0) before (new ∷ after)) (step_whole i (joined before) (joined after) b.0 a old new call reply b.1.0 key h)
 
-  -- after a call whose key belongs to part i, all keys there belong to it
+  -- after a call whose key belongs to part i, all keys of the part belong to part i
   pub map_call_keeps : (i : ℕ) (s t : State (K × V)) (call : MapCall K V) (reply : Reply K V) → Routed route i (keys_of s.0) → KeyRouted route i (map_key call)
       → MapMoves eq s call reply t → Routed route i (keys_of t.0)
   map_call_keeps i s t (Insert k v) Inserted routed key h = permuted_keeps route i ((k, v) ∷ s.0) t.0 h.1.0 (key, routed)
@@ -266,12 +266,12 @@ module _ {K V : Type 0} (eq : K → K → Bool) (route : K → ℕ) (alike : (a 
   map_call_keeps i s t call reply routed key h = absurd h
 
 module _ {E H : Type 0} (g : Setting H) where
-  -- a resize of one part leaves the entries of all parts, in some order
+  -- after a resize of one part, the entries of all parts are the same in some order
   pub resize_joined : (before after : List (State E)) (old new : State E) (buckets : ℕ) → ResizesTo g old buckets new → IsPermutation (joined (before ++ old ∷ after)) (joined (before ++ new ∷ after))
   resize_joined before after old new buckets h =
       rw (flat_map-append (λ (s : State E). s.0) before (old ∷ after), flat_map-append (λ (s : State E). s.0) before (new ∷ after))
       (IsPermutation-append_right (joined before) (old.0 ++ joined after) (new.0 ++ joined after) (IsPermutation-append_left (joined after) old.0 new.0 h.same))
 
--- after a resize of part i, all keys there belong to it
+-- after a resize of part i, all keys of the part belong to part i
 pub map_resize_keeps : {K V H : Type 0} (g : Setting H) (route : K → ℕ) (i : ℕ) (old new : State (K × V)) (buckets : ℕ) → Routed route i (keys_of old.0) → ResizesTo g old buckets new → Routed route i (keys_of new.0)
 map_resize_keeps g route i old new buckets routed h = permuted_keeps route i old.0 new.0 h.same routed

@@ -13,7 +13,8 @@ abbrev pub joined : {E : Type 0} → List (State E) → List E
 joined parts = flat_map (λ s. s.0) parts
 
 module _ {K V : Type 0} (eq : K → K → Bool) (here : K → Bool) where
-  -- one call on the pairs of all parts: what it does to a map of these pairs. A clearing takes out those whose keys are here, and a length counts them
+  -- one call on the pairs of all parts: what it does to a map with these pairs. `here` names the keys of one part: a
+  -- clearing removes its pairs, and a length counts them
   abbrev pub MapWholeMoves : List (K × V) → MapCall K V → Reply K V → List (K × V) → Type 0
   MapWholeMoves w Clear Cleared v = v ≡ filter (λ p. not (here p.0)) w
   MapWholeMoves w Len (Count n) v = (n ≡ count_by (λ p. here p.0) w) × (v ≡ w)

@@ -13,7 +13,7 @@ module _ {K : Type 0} (route : K → ℕ) where
   KeyRouted i (Some k) = route k ≡ i
 
   module _ {S : Type 0} (keys : S → List K) where
-    -- each key of each part routes to its own part, where the first part is number i
+    -- each key of each part routes to its own part; the first part is number i
     abbrev pub RoutedFrom : ℕ → List S → Type 0
     RoutedFrom i [] = Unit {0}
     RoutedFrom i (s ∷ parts) = Routed i (keys s) × RoutedFrom (i + 1) parts

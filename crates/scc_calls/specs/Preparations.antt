@@ -1,4 +1,4 @@
--- What making room for a call does to a container, in one word a kind.
+-- What the preparation of a call does to a container, in one word for each kind.
 use Rattle.std.specs.Prelude.{◌≡◌, ◌≢◌, ℕ, ◌≤◌, Bool, true, List, length, None, Result}
 use Rattle.std.specs.Result.{OnOk, OnErr}
 use Rattle.scc_contents.specs.Contents.{Contents, lists_of, refused_of, settings_of}
@@ -16,68 +16,72 @@ use Rattle.scc_calls.specs.declared.calls_as_values.MapCall.{MapCall}
 use Rattle.scc_calls.specs.declared.calls_as_values.SetCall.{SetCall}
 
 module _ {G S X R : Type 0} (size : S → ℕ) (resizes : S → ℕ → S → Type 0) where
-  -- what making room for the insertion of a key, answered so, does to the settings g and the state s, where it has to make `wants`, memory may be refused in the states that `refuses` names, and `unmarks` says that it leaves no mark but one that was there
+  -- what the preparation of the insertion of a key, with this result, does to the settings g and the state s, which
+  -- become h and t. `wants` says that the insertion is prepared, `refuses` in which states memory may be refused, and
+  -- `unmarks` that no mark is left but one that was there before
   pub record PreparesKey (wants unmarks : Type 0) (refuses : S → Type 0) (g : G) (s : S) (result : Result X R) (h : G) (t : S) : Type 0 where
-    -- where it succeeds, all is made that is wanted
+    -- if it succeeds, the insertion is prepared
     pub made : OnOk result wants
-    -- the state stays but for one resize
+    -- the state stays, or one resize was made
     pub stays : Stays size resizes s t
     -- the settings stay
     pub settings : h ≡ g
-    -- the buckets become no fewer
+    -- the number of buckets doesn't fall
     pub grows : size s ≤ size t
-    -- it fails only where memory may be refused
+    -- it fails only if memory may be refused
     pub refused : OnErr result (refuses s)
-    -- then it leaves no mark of a growth that was tried, but one that was there before
+    -- if it fails, it leaves no mark but one that was there before
     pub unmarked : OnErr result unmarks
-    -- and where memory may be refused after it, it might have been before
+    -- if memory may be refused in t, it may be refused in s
     pub still : refuses t → refuses s
 
-  -- what making room for a call, answered so, does to the settings g and the state s, where `brings` says that the call may bring in a key, and `unmarks` that it leaves no mark but one that was there
+  -- what the preparation of a call, with this result, does to the settings g and the state s, which become h and t.
+  -- `wants` says that the call is prepared, `brings` that it may add a key, `refuses` in which states memory may be
+  -- refused, and `unmarks` that no mark is left but one that was there before
   pub record PreparesCall (wants brings unmarks : Type 0) (refuses : S → Type 0) (g : G) (s : S) (result : Result X R) (h : G) (t : S) : Type 0 where
-    -- where it succeeds, all is made that the call wants
+    -- if it succeeds, the call is prepared
     pub made : OnOk result wants
-    -- the state stays but for one resize
+    -- the state stays, or one resize was made
     pub stays : Stays size resizes s t
     -- the settings stay
     pub settings : h ≡ g
-    -- the buckets become no fewer
+    -- the number of buckets doesn't fall
     pub grows : size s ≤ size t
-    -- and their number changes only where the call may bring in a key
+    -- the number of buckets changes only if the call may add a key
     pub adds : size t ≢ size s → brings
-    -- it fails only where memory for the call may be refused
+    -- it fails only if memory for the call may be refused
     pub refused : OnErr result (refuses s)
-    -- then it leaves no mark of a growth that was tried, but one that was there before
+    -- if it fails, it leaves no mark but one that was there before
     pub unmarked : OnErr result unmarks
-    -- and where memory may be refused after it, it might have been before
+    -- if memory may be refused in t, it may be refused in s
     pub still : refuses t → refuses s
 
 module _ {K V H X R : Type 0} (eq : K → K → Bool) (hash : H → K → ℕ) where
-  -- what making room for the insertion of k into a map does
+  -- what the preparation of the insertion of k into a map does
   abbrev pub MapPreparesKey : Contents (K × V) H → K → Result X R → Contents (K × V) H → Type 0
   MapPreparesKey c k result d = PreparesKey (λ (s : State (K × V)). s.1) (ResizesTo (setting_of c)) (MapIsMadeFor eq (hash (settings_of d).hasher) d k) ((refused_of d).1 ≡ true → (refused_of c).1 ≡ true) (λ s. MapRefuses eq hash (setting_of c) s k) (settings_of c) (state_of c) result (settings_of d) (state_of d)
 
-  -- what making room for a call of a map does
+  -- what the preparation of a call of a map does
   abbrev pub MapPreparesCall : Contents (K × V) H → MapCall K V → Result X R → Contents (K × V) H → Type 0
   MapPreparesCall c call result d = PreparesCall (λ (s : State (K × V)). s.1) (ResizesTo (setting_of c)) (MapIsMade eq (hash (settings_of d).hasher) d call) (map_adds call) ((refused_of d).1 ≡ true → (refused_of c).1 ≡ true) (λ s. MapMayRefuse eq hash (setting_of c) s call) (settings_of c) (state_of c) result (settings_of d) (state_of d)
 
-  -- what making room for the insertion of k into an index does
+  -- what the preparation of the insertion of k into an index does
   abbrev pub IndexPreparesKey : Contents (K × V) H → K → Result X R → Contents (K × V) H → Type 0
   IndexPreparesKey c k result d = PreparesKey (λ (s : State (K × V)). s.1) (ResizesTo (setting_of c)) (IndexIsMadeFor eq (hash (settings_of d).hasher) d k) ((refused_of d).1 ≡ true → (refused_of c).1 ≡ true) (λ s. find eq s.0 k ≡ None) (settings_of c) (state_of c) result (settings_of d) (state_of d)
 
-  -- what making room for a call of an index does
+  -- what the preparation of a call of an index does
   abbrev pub IndexPreparesCall : Contents (K × V) H → IndexCall K V → Result X R → Contents (K × V) H → Type 0
   IndexPreparesCall c call result d = PreparesCall (λ (s : State (K × V)). s.1) (ResizesTo (setting_of c)) (IndexIsMade eq (hash (settings_of d).hasher) d call) (index_adds call) ((refused_of d).1 ≡ true → (refused_of c).1 ≡ true) (λ s. IndexMayRefuse eq s call) (settings_of c) (state_of c) result (settings_of d) (state_of d)
 
-  -- what making room for a call of a cache does
+  -- what the preparation of a call of a cache does
   abbrev pub CachePreparesCall : Cached (K × V) H → CacheCall K V → Result X R → Cached (K × V) H → Type 0
   CachePreparesCall c call result d = PreparesCall {S = List (List (K × V))} length (CacheResizes (cache_setting c) (number_by hash (cache_setting c))) (CacheIsMade eq (hash (settings_of d.contents).hasher) d call) (cache_adds call) ((refused_of d.contents).1 ≡ true → (refused_of c.contents).1 ≡ true) (λ s. CacheMayRefuse eq (number_by hash (cache_setting c)) s call) (cache_setting c) (lists_of c.contents) result (cache_setting d) (lists_of d.contents)
 
 module _ {K H X R : Type 0} (eq : K → K → Bool) (hash : H → K → ℕ) where
-  -- what making room for the insertion of k into a set does
+  -- what the preparation of the insertion of k into a set does
   abbrev pub SetPreparesKey : Contents K H → K → Result X R → Contents K H → Type 0
   SetPreparesKey c k result d = PreparesKey (λ (s : State K). s.1) (ResizesTo (setting_of c)) (SetIsMadeFor eq (hash (settings_of d).hasher) d k) ((refused_of d).1 ≡ true → (refused_of c).1 ≡ true) (λ s. SetRefuses eq hash (setting_of c) s k) (settings_of c) (state_of c) result (settings_of d) (state_of d)
 
-  -- what making room for a call of a set does
+  -- what the preparation of a call of a set does
   abbrev pub SetPreparesCall : Contents K H → SetCall K → Result X R → Contents K H → Type 0
   SetPreparesCall c call result d = PreparesCall (λ (s : State K). s.1) (ResizesTo (setting_of c)) (SetIsMade eq (hash (settings_of d).hasher) d call) (set_adds call) ((refused_of d).1 ≡ true → (refused_of c).1 ≡ true) (λ s. SetMayRefuse eq hash (setting_of c) s call) (settings_of c) (state_of c) result (settings_of d) (state_of d)

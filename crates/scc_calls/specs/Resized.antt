@@ -1,4 +1,4 @@
--- One call with at most one resize, and no call.
+-- One call with at most one resize, and at most one resize without a call.
 use Rattle.std.specs.Prelude.{◌≡◌, ℕ, ◌<◌, ◌⊎◌, ◌==◌, MatchBool}
 
 -- one call that gives the reply, with a growth before it or a shrink after it

@@ -3,13 +3,15 @@ use Rattle.std.specs.Prelude.{◌≡◌, ℕ, List, [], ◌∷◌, length, Some}
 use Rattle.std.specs.List.{slice_get}
 use Rattle.scc_calls.specs.Resized.{Stays}
 
--- From s, the replies answer the first of the calls, one after another, and lead to the last state. Resizes may stand anywhere
+-- From s, `replies` answer the first of `calls`, one after another, and lead to the last state. Resizes may stand
+-- between them
 pub data IsRun {S C R : Type 0} (moves : S → C → R → S → Type 0) (resizes : S → ℕ → S → Type 0) : S → List C → List R → S → Type 0 where
   done : {s : S} {calls : List C} → IsRun moves resizes s calls [] s
   resize : {s t u : S} {buckets : ℕ} {calls : List C} {replies : List R} → resizes s buckets t → IsRun moves resizes t calls replies u → IsRun moves resizes s calls replies u
   answer : {s t u : S} {call : C} {calls : List C} {reply : R} {replies : List R} → moves s call reply t → IsRun moves resizes t calls replies u → IsRun moves resizes s (call ∷ calls) (reply ∷ replies) u
 
--- From s, the replies answer the first of the calls, and memory for the next call may be refused in the state that they lead to. From there at most one resize leads to u
+-- From s, `replies` answer the first of `calls` and lead to a state in which memory for the next call may be refused.
+-- From this state at most one resize leads to u
 pub record IsStopped {S C R : Type 0} (size : S → ℕ) (moves : S → C → R → S → Type 0) (resizes : S → ℕ → S → Type 0) (may_refuse : S → C → Type 0) (s : S) (calls : List C) (replies : List R) (u : S) : Type 0 where
   pub reached : S
   pub call : C

@@ -13,7 +13,7 @@ use Rattle.scc_calls.specs.declared.replies.Reply.{Reply}
 use Rattle.scc_calls.specs.declared.replies.Reply.TheVariants.{Inserted, Exists, Key, Has, Cleared, Count}
 
 module _ {K : Type 0} where
-  -- the key of a call, None where it concerns all keys
+  -- the key of a call, or `None` if the call concerns all keys
   abbrev pub key_of_set : SetCall K → Option K
   key_of_set (Insert k) = Some k
   key_of_set (Replace k) = Some k
@@ -23,14 +23,14 @@ module _ {K : Type 0} where
   key_of_set Clear = None
   key_of_set Len = None
 
-  -- the call may bring in a key
+  -- the call may add a key
   abbrev pub set_adds : SetCall K → Type 0
   set_adds (Insert k) = Unit {0}
   set_adds (Replace k) = Unit {0}
   set_adds call = ⊥
 
   module _ (eq : K → K → Bool) where
-    -- the call may give the reply and leave t, with no resize
+    -- the call may give the reply and lead from s to t, without a resize
     abbrev pub SetMoves : State K → SetCall K → Reply K (Unit {0}) → State K → Type 0
     SetMoves s (Insert k) Inserted t = (find eq s.0 k ≡ None) × IsPermutation (k ∷ s.0) t.0 × (t.1 ≡ s.1)
     SetMoves s (Insert k) (Exists l u) t = (l ≡ k) × IsSome (find eq s.0 k) × (t ≡ s)
@@ -44,7 +44,7 @@ module _ {K : Type 0} where
     SetMoves s Len (Count n) t = (n ≡ length s.0) × (t ≡ s)
     SetMoves s call reply t = ⊥
 
-    -- the reply that the call gives where a set has these keys
+    -- the reply that the call gives if a set has the keys ks
     abbrev pub set_answer : List K → SetCall K → Reply K (Unit {0})
     set_answer ks (Insert k) = cond (is_some (find eq ks k)) (Exists k tt) Inserted
     set_answer ks (Replace k) = Key (find eq ks k)
@@ -55,7 +55,7 @@ module _ {K : Type 0} where
     set_answer ks Len = Count (length ks)
 
     module _ {S : Type 0} (hash : K → ℕ) (c : Contents K S) where
-      -- an insertion of k makes no resize: k is there, or all is made that it wants
+      -- an insertion of k makes no resize: k is present, or the insertion is prepared
       abbrev pub SetIsMadeFor : K → Type 0
       SetIsMadeFor k = IsSome (find eq (entries c) k) ⊎ IsPreparedFor hash (λ q. q) c k
 
@@ -65,7 +65,7 @@ module _ {K : Type 0} where
       SetIsMade (Replace k) = SetIsMadeFor k
       SetIsMade call = Unit {0}
 
-      -- the call makes no growth, and the reply equals the one that it gives
+      -- the call makes no growth, and its reply equals copy
       abbrev pub SetIsPrepared : (Reply K (Unit {0}) → Reply K (Unit {0}) → Bool) → SetCall K → Reply K (Unit {0}) → Type 0
       SetIsPrepared same call copy = SetIsMade call × (same (set_answer (entries c) call) copy ≡ true)
 
@@ -74,11 +74,11 @@ module _ {K : Type 0} where
       abbrev pub SetHasRoom : Setting H → State K → K → Type 0
       SetHasRoom g s k = (0 < s.1) × (count_by (λ q. bucket_number g.skipped s.1 (hash g.hasher q) == bucket_number g.skipped s.1 (hash g.hasher k)) s.0 < 32)
 
-      -- k is new, and there is no room for it
+      -- k is missing, and there is no room for k
       abbrev pub SetRefuses : Setting H → State K → K → Type 0
       SetRefuses g s k = (find eq s.0 k ≡ None) × (SetHasRoom g s k → ⊥)
 
-      -- memory may be refused to an insertion and a replacement of a new key without room, and to no other call
+      -- memory may be refused to an insertion and a replacement of a missing key without room, and to no other call
       abbrev pub SetMayRefuse : Setting H → State K → SetCall K → Type 0
       SetMayRefuse g s (Insert k) = SetRefuses g s k
       SetMayRefuse g s (Replace k) = SetRefuses g s k

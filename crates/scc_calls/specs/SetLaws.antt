@@ -21,7 +21,7 @@ use Rattle.scc_calls.specs.declared.calls_as_values.SetCall.TheVariants.{Insert,
 use Rattle.scc_calls.specs.declared.replies.Reply.{Reply}
 use Rattle.scc_calls.specs.declared.replies.Reply.TheVariants.{Inserted, Exists, Key, Has, Cleared, Count}
 
--- no key of the list passes
+-- no key of the list passes the test t
 abbrev NonePasses : {K : Type 0} → (K → Bool) → List K → Type 0
 NonePasses t ks = AllByRecursion (λ k. t k ≡ false) ks
 
@@ -98,7 +98,7 @@ module _ {K : Type 0} (route : K → ℕ) where
       let r = off_before i (j + 1) before old after (omega arith) routed.1 in
       (off_append i s.0 (joined before) (off_one j i s.0 (omega arith) routed.0) r.0, r.1)
 
-  -- those that are off stay where part i is cleared, and aren't counted
+  -- a clearing of part i keeps the keys that don't route to i, and a count of part i doesn't count them
   off_kept : (i : ℕ) (es : List K) → Off i es → filter (λ (p : K). not (route p == i)) es ≡ es
   off_kept i [] a = refl
   off_kept i (x ∷ es) a =
@@ -150,7 +150,7 @@ module _ {K : Type 0} (eq : K → K → Bool) (route : K → ℕ) (alike : (a b 
   off_none i k [] e a = tt
   off_none i k (x ∷ es) e a = (by_answer (eq k x) (λ y. absurd (a.0 (sym (alike k x y) ∙ e))) (λ n. n), off_none i k es e a.1)
 
-  -- one part, with the keys of the parts before it and of those behind it
+  -- one part, with the keys B of the parts before it and the keys A of the parts behind it
   module _ (i : ℕ) (B A : List K) (off_b : Off route i B) (off_a : Off route i A) where
     find_whole : (k : K) (s : List K) → route k ≡ i → find eq (B ++ (s ++ A)) k ≡ find eq s k
     find_whole k s e = find_front (eq k) B (s ++ A) (off_none i k B e off_b) ∙ find_back (eq k) s A (off_none i k A e off_a)
@@ -205,7 +205,7 @@ module _ {K : Type 0} (eq : K → K → Bool) (route : K → ℕ) (alike : (a b 
     )
     step_whole s t call reply routed key h = absurd h
 
-  -- a step of the part to which the call's key belongs is one of the whole
+  -- a step of the part to which the call's key belongs is a step of the whole
   pub set_call_is_whole : (before after : List (State K)) (old new : State K) (call : SetCall K) (reply : Reply K (Unit {0}))
       → RoutedFrom route (λ s. s.0) 0 (before ++ old ∷ after) → KeyRouted route (length before) (key_of_set call) → SetMoves eq old call reply new
       → SetWholeMoves eq (λ k. route k == length before) (joined (before ++ old ∷ after)) call reply (joined (before ++ new ∷ after))
@@ -215,7 +215,7 @@ module _ {K : Type 0} (eq : K → K → Bool) (route : K → ℕ) (alike : (a b 
       let a = off_after route i (i + 1) after (omega arith) b.1.1 in
       rw (flat_map-append (λ (s : State K). s.0) before (old ∷ after), flat_map-append (λ (s : State K). s.0) before (new ∷ after)) (step_whole i (joined before) (joined after) b.0 a old new call reply b.1.0 key h)
 
-  -- after a call whose key belongs to part i, all keys there belong to it
+  -- after a call whose key belongs to part i, all keys of the part belong to part i
   pub set_call_keeps : (i : ℕ) (s t : State K) (call : SetCall K) (reply : Reply K (Unit {0})) → Routed route i s.0 → KeyRouted route i (key_of_set call)
       → SetMoves eq s call reply t → Routed route i t.0
   set_call_keeps i s t (Insert k) Inserted routed key h = permuted_keeps route i (k ∷ s.0) t.0 h.1 (key, routed)
@@ -230,6 +230,6 @@ module _ {K : Type 0} (eq : K → K → Bool) (route : K → ℕ) (alike : (a b 
   set_call_keeps i s t Len (Count n) routed key h = rw h.1 routed
   set_call_keeps i s t call reply routed key h = absurd h
 
--- a resize brings in no key
+-- after a resize of part i, all keys of the part belong to part i
 pub set_resize_keeps : {K H : Type 0} (g : Setting H) (route : K → ℕ) (i : ℕ) (old new : State K) (buckets : ℕ) → Routed route i old.0 → ResizesTo g old buckets new → Routed route i new.0
 set_resize_keeps g route i old new buckets routed h = permuted_keeps route i old.0 new.0 h.same routed

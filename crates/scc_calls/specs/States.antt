@@ -18,11 +18,12 @@ module _ {E H : Type 0} where
   abbrev pub state_of : Contents E H → State E
   state_of c = (entries c, bucket_count c)
 
-  -- what of a container's settings a run has to know
+  -- the setting of a container: what a run must know of its settings
   abbrev pub setting_of : Contents E H → Setting H
   setting_of c = setting_by (settings_of c)
 
-  -- a resize to so many buckets: the same entries in some order; a lawful number, not lowered below the minimum
+  -- a resize to `number` buckets: the same entries in some order; `number` is lawful and, if it is lower than before,
+  -- not below the minimum
   pub record ResizesTo (g : Setting H) (s : State E) (number : ℕ) (t : State E) : Type 0 where
     pub same : IsPermutation s.0 t.0
     pub buckets : t.1 ≡ number

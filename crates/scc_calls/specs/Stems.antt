@@ -1,4 +1,5 @@
--- How the reply that a call answers stems from the one that it gives: a read answers a clone of what is stored, each other call the very reply.
+-- How the reply that a caller gets stems from the reply that the step gives: a read answers a clone of what is stored,
+-- each other call the very reply.
 use Rattle.std.proofs.Common.{◌≡◌, ◌⊎◌, Bool, true, Option, None, Some, inl, inr}
 use Rattle.scc_contents.specs.Copies.{IsCopied}
 use Rattle.scc_calls.specs.Copies.{Alike, ClonesEqual}
@@ -13,7 +14,7 @@ use Rattle.scc_calls.specs.declared.calls_as_values.MapCall.TheVariants.{Read as
 use Rattle.scc_calls.specs.declared.calls_as_values.SetCall.{SetCall}
 use Rattle.scc_calls.specs.declared.calls_as_values.SetCall.TheVariants.{Read as SetRead}
 
--- a clone of what is there equals it
+-- a clone of an optional value equals the value, or both are `None`
 alike_copied : {X Z : Type 0} {clone : Z → Z → Type 0} {same : Z → Z → Bool} (clones : ClonesEqual clone same) (wrap : Option X → Z) (copy : X → X → Type 0) (none : same (wrap None) (wrap None) ≡ true) (some : (x y : X) → copy x y → clone (wrap (Some x)) (wrap (Some y)))
     → (o w : Option X) → IsCopied copy o w → Alike same (wrap o) (wrap w)
 alike_copied clones wrap copy none some None None h = inr none
@@ -22,7 +23,7 @@ alike_copied clones wrap copy none some None (Some y) h = absurd h
 alike_copied clones wrap copy none some (Some x) None h = absurd h
 
 module _ {K V : Type 0} (clone : V → V → Type 0) where
-  -- the reply has a clone of the value that the other has
+  -- reply has a clone of the value of given
   abbrev pub ClonesValue : Reply K V → Reply K V → Type 0
   ClonesValue (Value o) (Value w) = IsCopied clone o w
   ClonesValue given reply = ⊥
@@ -44,7 +45,7 @@ module _ {K V : Type 0} (clone : V → V → Type 0) where
   CacheStems call given reply = reply ≡ given
 
 module _ {K : Type 0} (clone : K → K → Type 0) where
-  -- the reply has a clone of the key that the other has
+  -- reply has a clone of the key of given
   abbrev pub ClonesKey : Reply K (Unit {0}) → Reply K (Unit {0}) → Type 0
   ClonesKey (Key o) (Key w) = IsCopied clone o w
   ClonesKey given reply = ⊥
@@ -60,7 +61,7 @@ module _ {K V : Type 0} {copies : Reply K V → Reply K V → Type 0} {same : Re
   value_alike (Value o) (Value w) h = alike_copied clones Value clone none some o w h
   value_alike given reply h = absurd h
 
-  -- what a map answers equals what the call gives, and so for an index and a cache
+  -- the reply that a caller gets is alike to the reply of the step, for a map, an index and a cache
   pub map_stems_alike : (call : MapCall K V) (given reply : Reply K V) → MapStems clone call given reply → Alike same given reply
   map_stems_alike (MapRead k) given reply h = value_alike given reply h
   map_stems_alike call given reply h = inl h
@@ -80,7 +81,7 @@ module _ {K : Type 0} {copies : Reply K (Unit {0}) → Reply K (Unit {0}) → Ty
   key_alike (Key o) (Key w) h = alike_copied clones Key clone none some o w h
   key_alike given reply h = absurd h
 
-  -- what a set answers equals what the call gives
+  -- the reply that a caller gets is alike to the reply of the step, for a set
   pub set_stems_alike : (call : SetCall K) (given reply : Reply K (Unit {0})) → SetStems clone call given reply → Alike same given reply
   set_stems_alike (SetRead k) given reply h = key_alike given reply h
   set_stems_alike call given reply h = inl h

@@ -1,4 +1,4 @@
--- What clearing and counting of a set and of a cache leave and answer.
+-- What clearing and counting leave and answer, for a set and a cache.
 use Rattle.std.proofs.Common.{◌≡◌, ℕ, List, [], ◌∷◌, Bool, length, map, Some, refl, sym, ap, ◌∙◌}
 use Rattle.std.specs.List.{flat_map}
 use Rattle.std.proofs.lemmas.List.{length-map}
@@ -13,7 +13,7 @@ use Rattle.scc_calls.specs.declared.replies.Reply.{Reply}
 use Rattle.scc_calls.specs.declared.replies.Reply.TheVariants.{Inserted, Exists, Old, Key, Pair, Value, Has, Evicted, Cleared, Count}
 
 module _ {K : Type 0} (eq : K → K → Bool) where
-  -- after `clear` a set has no key
+  -- after `clear`, a set has no key
   pub set_clears : (s t : State K) (r : Reply K (Unit {0})) → SetMoves eq s SetClear r t → t.0 ≡ []
   set_clears s t Inserted m = absurd m
   set_clears s t (Exists l w) m = absurd m
@@ -26,7 +26,7 @@ module _ {K : Type 0} (eq : K → K → Bool) where
   set_clears s t Cleared m = m.0
   set_clears s t (Count n) m = absurd m
 
-  -- `len` of a set answers how many keys there are
+  -- `len` of a set answers the number of its keys
   pub set_counts : (s t : State K) (r : Reply K (Unit {0})) → SetMoves eq s SetLen r t → counted_by r ≡ Some (length s.0)
   set_counts s t Inserted m = absurd m
   set_counts s t (Exists l w) m = absurd m
@@ -44,7 +44,7 @@ none_left [] = refl
 none_left (l ∷ ls) = none_left ls
 
 module _ {K V : Type 0} (eq : K → K → Bool) (number : ℕ → K → ℕ) where
-  -- after `clear` a cache has no key
+  -- after `clear`, a cache has no key
   pub cache_clears : (s t : List (List (K × V))) (r : Reply K V) → CacheMoves eq number s CacheClear r t → keys_in t ≡ []
   cache_clears s t Inserted m = absurd m
   cache_clears s t (Exists l w) m = absurd m
@@ -57,7 +57,7 @@ module _ {K V : Type 0} (eq : K → K → Bool) (number : ℕ → K → ℕ) whe
   cache_clears s t Cleared m = ap keys_in m ∙ ap keys_of (none_left s)
   cache_clears s t (Count n) m = absurd m
 
-  -- `len` of a cache answers how many keys there are
+  -- `len` of a cache answers the number of its keys
   pub cache_counts : (s t : List (List (K × V))) (r : Reply K V) → CacheMoves eq number s CacheLen r t → counted_by r ≡ Some (length (keys_in s))
   cache_counts s t Inserted m = absurd m
   cache_counts s t (Exists l w) m = absurd m

@@ -1,4 +1,4 @@
--- What clearing and counting of a part leave and answer, and of a map and an index.
+-- What clearing and counting of a part leave and answer, for a map and an index.
 use Rattle.std.proofs.Common.{◌≡◌, ℕ, [], Bool, length, Option, None, Some, sym, ap, ◌∙◌}
 use Rattle.std.proofs.lemmas.List.{length-map}
 use Rattle.std.specs.Map.{keys_of}
@@ -8,13 +8,13 @@ use Rattle.scc_calls.specs.declared.calls_as_values.MapCall.TheVariants.{Clear a
 use Rattle.scc_calls.specs.declared.replies.Reply.{Reply}
 use Rattle.scc_calls.specs.declared.replies.Reply.TheVariants.{Inserted, Exists, Old, Key, Pair, Value, Has, Evicted, Cleared, Count}
 
--- the number that a reply tells, if it tells one
+-- the number in a reply, if the reply has one
 abbrev pub counted_by : {K V : Type 0} → Reply K V → Option ℕ
 counted_by (Count n) = Some n
 counted_by reply = None
 
 module _ {K V : Type 0} (eq : K → K → Bool) where
-  -- after `clear` a map has no key
+  -- after `clear`, a map has no key
   pub map_clears : (s t : State (K × V)) (r : Reply K V) → MapMoves eq s MapClear r t → keys_of t.0 ≡ []
   map_clears s t Inserted m = absurd m
   map_clears s t (Exists l w) m = absurd m
@@ -27,7 +27,7 @@ module _ {K V : Type 0} (eq : K → K → Bool) where
   map_clears s t Cleared m = ap keys_of m.0
   map_clears s t (Count n) m = absurd m
 
-  -- `len` of a map answers how many keys there are
+  -- `len` of a map answers the number of its keys
   pub map_counts : (s t : State (K × V)) (r : Reply K V) → MapMoves eq s MapLen r t → counted_by r ≡ Some (length (keys_of s.0))
   map_counts s t Inserted m = absurd m
   map_counts s t (Exists l w) m = absurd m

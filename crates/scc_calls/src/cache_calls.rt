@@ -218,12 +218,13 @@ impl<K: Eq + Hash + Clone, V: Clone + PartialEq, H: BuildHasher> Calls for Owned
         (K.hash_input k))) i b };
 }
 
-// What `==` is. It does nothing.
+// States what `==` is. Does nothing.
 fn equals<X: PartialEq>()
     ensures { IsPartialEquivalence X.eq }
 {}
 
-// Makes what the call wants, if it may bring in a key.
+// Makes the first array or the growth that `call` would have to make, if `call` may add a key. Fails if memory is
+// refused.
 fn prepare<K: Eq + Hash, V, H: BuildHasher>(
     cache: &mut Owned<K, V, H>,
     call: &CacheCall<K, V>,
@@ -240,7 +241,7 @@ fn prepare<K: Eq + Hash, V, H: BuildHasher>(
     }
 }
 
-// Two copies of the reply that the call gives next.
+// Returns two copies of the reply that `call` gives next. Fails if a clone is refused.
 fn copies<K: Eq + Hash + Clone, V: Clone + PartialEq, H: BuildHasher>(
     cache: &Owned<K, V, H>,
     call: &CacheCall<K, V>,
@@ -261,12 +262,12 @@ fn copies<K: Eq + Hash + Clone, V: Clone + PartialEq, H: BuildHasher>(
     if let Ok(second) = first.clone() {
         return Ok((first, second));
     }
-    // That a clone of the copy is refused says nothing of the reply, so the reply is copied once more.
+    // A refused clone of the copy says nothing of the reply, so the reply is copied once more.
     let second = copy(cache, call)?;
     Ok((first, second))
 }
 
-// A copy of the reply that the call gives next.
+// Returns a copy of the reply that `call` gives next. Fails if a clone is refused.
 fn copy<K: Eq + Hash + Clone, V: Clone + PartialEq, H: BuildHasher>(
     cache: &Owned<K, V, H>,
     call: &CacheCall<K, V>,
@@ -318,7 +319,8 @@ fn copy<K: Eq + Hash + Clone, V: Clone + PartialEq, H: BuildHasher>(
     }
 }
 
-// A copy of what a put of a key that is not there answers, where it makes no resize.
+// Returns a copy of the reply to a put of the missing key `k`, if the put makes no resize. Fails if a clone is
+// refused.
 fn copy_evicted<K: Eq + Hash + Clone, V: Clone + PartialEq, H: BuildHasher>(
     cache: &Owned<K, V, H>,
     k: &K,

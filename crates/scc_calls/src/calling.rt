@@ -15,9 +15,9 @@ use std::hash::{BuildHasher, Hash};
 
 /// A container whose calls are values, and what its calls mean.
 ///
-/// The meaning is a relation of states: what the container contains, with its number of buckets.
+/// The meaning is a relation of states. A state is what the container contains, with its number of buckets.
 pub trait Calls: Sized {
-    /// What routes a call to a part.
+    /// The key by which a call is routed to a part.
     type Key: Hash;
 
     type Hasher: BuildHasher;
@@ -40,78 +40,79 @@ pub trait Calls: Sized {
     // The number of buckets.
     ghost size: { State → ℕ };
 
-    // Nothing, with so many buckets.
+    // The state with `ℕ` buckets and no entry.
     ghost empty: { ℕ → State };
 
-    // Where this maximum was asked for and an array of so many slots was made, the maximum is the last number. 0 in all
-    // kinds but the cache.
+    // The maximum of a part, the third number, by the maximum that was asked for, the first number, and the slots of
+    // the array that was made, the second. It is 0 in all kinds but the cache.
     ghost limits: { ℕ → ℕ → ℕ → Type 0 };
 
-    // The keys that are there.
+    // The keys of a state.
     ghost keys: { State → List Self.Key };
 
     // The key of a call, if it has one.
     ghost key_of: { Self.Call → Option Self.Key };
 
-    // The reply that the call gives in this state, if it makes no growth.
+    // The reply that the call gives in this state, if the call makes no growth.
     ghost answer: { Setting Self.Hasher → State → Self.Call → Self.Reply };
 
-    // This very call may answer this very reply and lead from the first state to the second, without a resize.
+    // This very call may give this very reply and lead from the first state to the second, without a resize.
     ghost moves: { Setting Self.Hasher → State → Self.Call → Self.Reply → State → Type 0 };
 
-    // What a record of the call and the reply says: the step of a call and a reply that equal them.
+    // What a record of the call and the reply says: the step of some call and some reply that equal them.
     ghost means: { Setting Self.Hasher → State → Self.Call → Self.Reply → State → Type 0 };
 
-    // A resize to so many buckets may lead from the first state to the second.
+    // A resize to this number of buckets may lead from the first state to the second.
     ghost resizes: { Setting Self.Hasher → State → ℕ → State → Type 0 };
 
     // Memory for the call may be refused in this state.
     ghost may_refuse: { Setting Self.Hasher → State → Self.Call → Type 0 };
 
-    // The call may bring in a key. Only such a call makes an array or a growth, and none of them makes the buckets
+    // The call may add a key. Only such a call makes an array or a growth, and such a call never makes the buckets
     // fewer.
     ghost adds: { Self.Call → Type 0 };
 
-    // All is made that the call wants: it makes no growth now, and its reply equals this one.
+    // The call is prepared: it makes no growth now, and its reply equals this reply.
     ghost is_prepared: { Self → Self.Call → Self.Reply → Type 0 };
 
-    // A growth is marked as tried, so that no insertion tries it again.
+    // A growth is marked as refused just before, so that the next insertion doesn't try it again.
     ghost is_marked: { Self → Bool };
 
     ghost whole: { List State → Whole };
 
-    // What a record of the call and the reply says of the whole, if the part with that number recorded it, of so many
-    // parts.
+    // What a record of the call and the reply says of the whole. The first number is the number of parts, the second
+    // is the part that recorded the call.
     ghost whole_means: { Setting Self.Hasher → ℕ → ℕ → Whole → Self.Call → Self.Reply → Whole → Type 0 };
 
-    // A resize of the part with that number to so many buckets may lead from the first whole to the second.
+    // A resize of one part may lead from the first whole to the second. The numbers are the number of parts, the part
+    // that is resized, and its number of buckets afterwards.
     ghost whole_resizes: { Setting Self.Hasher → ℕ → ℕ → Whole → ℕ → Whole → Type 0 };
 
-    /// The key of the call, None for a call that concerns all keys.
+    /// Returns the key of `call`, or `None` if the call concerns all keys.
     fn key(call: &Self::Call) -> Option<&Self::Key>
         ensures { MatchOption result (key_of call.now ≡ None) (λ k. key_of call.now ≡ Some k.now) };
 
-    /// Makes the first array or the growth that the call wants, at most one resize, and answers two copies of the reply
-    /// that the call gives next. If it is refused, the contents are unchanged, and no growth stays marked as tried that
-    /// wasn't marked before.
+    /// Makes the first array or the growth that `call` needs, at most one resize, and returns two copies of the reply
+    /// that `call` gives next. If it fails, the entries are unchanged, but the resize may have been made, and no
+    /// growth is marked that wasn't marked before.
     fn prepare_call(&mut self, call: &Self::Call) -> Result<(Self::Reply, Self::Reply), Refused>
         requires clones { ClonesEqual Self.Reply.is_clone Self.Reply.eq }
         ensures { PreparesCallByRule setting state size key_of answer resizes may_refuse adds is_prepared
             Self.Reply.is_infallible is_marked self.old call.now result self.new };
 
-    /// Makes the call.
+    /// Makes the call `call`, and returns its reply. Fails if memory or a clone is refused.
     fn call(&mut self, call: Self::Call) -> Result<Self::Reply, Refused>
         requires clones { ClonesEqual Self.Reply.is_clone Self.Reply.eq }
         ensures { CallsByRule setting state size key_of answer resizes may_refuse adds is_prepared
             Self.Reply.is_infallible moves Self.Reply.eq self.old call result self.new };
 
-    /// The number of buckets, 0 where there is no array.
+    /// Returns the number of buckets, or 0 if there is no array.
     fn buckets(&self) -> usize
         ensures { result ≡ size (state self.now) };
 
-    /// An empty part under that hasher, which skips so many bits of each hash and has an array for so many slots, none
-    /// for 0. Only a cache looks at the maximum. Parts that are made for the same have the same setting and as many
-    /// buckets.
+    /// Returns an empty part under `hasher`. The part skips the first `skipped` bits of each hash. It has an array of
+    /// at least `slots` slots, or none if `slots` is 0. Only a cache uses `maximum`. Parts made with equal arguments
+    /// have the same setting and the same number of buckets. Fails if memory is refused.
     fn make(
         alloc: Global,
         skipped: u32,
@@ -127,19 +128,20 @@ pub trait Calls: Sized {
         ensures state { IfOk result (λ c. state c ≡ empty (size (state c))) }
         ensures size { IfOk result (λ c. (setting c).minimum ≡ 32 * size (state c)) };
 
-    // Parts that are made alike have one maximum.
+    // Parts made with equal arguments have the same maximum.
     ghost one_limit: { (asked slots m n : ℕ) → limits asked slots m → limits asked slots n → m ≡ n };
 
-    // What a call does and answers is what a record of it says.
+    // A record of a call says what the call did and replied.
     ghost moves_mean: { ClonesEqual Self.Reply.is_clone Self.Reply.eq → (g : Setting Self.Hasher) (old new : State)
         (call : Self.Call) (reply : Self.Reply) → moves g old call reply new → means g old call reply new };
 
-    // A record says the same as those of a call and a reply that equal its own.
+    // What a record says, a record of an equal call and an equal reply says too.
     ghost means_alike: { (g : Setting Self.Hasher) (old new : State) (call copy : Self.Call) (reply given : Self.Reply)
         → IsPartialEquivalence Self.Call.eq → IsPartialEquivalence Self.Reply.eq → Alike Self.Call.eq call copy → Alike
         Self.Reply.eq reply given → means g old call reply new → means g old copy given new };
 
-    // Where every key of every part, and the call's, routes to its own part, a step of one part is a step of the whole.
+    // If every key of every part, and the key of the call, routes to its own part, then a step of one part is a step
+    // of the whole.
     ghost call_is_whole: { (g : Setting Self.Hasher) (n : ℕ) (before after : List State) (old new : State)
         (call : Self.Call) (reply : Self.Reply)
         → RoutedFrom (stripe_of Self.Hasher.BuildHasher Self.Hasher.Hasher.Hasher Self.Key.Hash.hash_input g.hasher n)
@@ -155,7 +157,7 @@ pub trait Calls: Sized {
         → resizes g old buckets new
         → whole_resizes g n (length before) (whole (before ++ old ∷ after)) buckets (whole (before ++ new ∷ after)) };
 
-    // Keys stay in their parts: a call brings in no key but its own, a resize none.
+    // Keys stay in their parts: a call adds no key but its own, a resize adds none, and an empty part has none.
     ghost call_keeps: { (g : Setting Self.Hasher) (n i : ℕ) (old new : State) (call : Self.Call) (reply : Self.Reply)
         → Routed (stripe_of Self.Hasher.BuildHasher Self.Hasher.Hasher.Hasher Self.Key.Hash.hash_input g.hasher n) i
         (keys old) → KeyRouted (stripe_of Self.Hasher.BuildHasher Self.Hasher.Hasher.Hasher Self.Key.Hash.hash_input

@@ -1,23 +1,23 @@
 //! What no call of a container changes.
 
-/// What is fixed of a container for all its calls. Contracts speak of it; no code makes one.
+/// What no call of a container changes. Contracts speak of it; no code makes one.
 pub struct Setting<H> {
     pub hasher: H,
-    /// The number of first bits of each hash that don't route.
+    /// The number of first bits of each hash that are skipped when a bucket is named.
     pub skipped: u32,
-    /// The slots below which no resize goes.
+    /// The minimum: no resize goes below this number of slots.
     pub minimum: usize,
-    /// The slots above which a cache doesn't grow; 0 in the other kinds.
+    /// The maximum: a cache doesn't grow above this number of slots. It is 0 in the other kinds.
     pub maximum: usize,
 }
 
 /// What a part is made for. Contracts speak of it; no code makes one.
 pub struct Request<H> {
     pub hasher: H,
-    /// The number of first bits of each hash that don't route.
+    /// The number of first bits of each hash that are skipped when a bucket is named.
     pub skipped: u32,
-    /// So many slots at least; no array for 0.
+    /// The least number of slots; 0 for no array.
     pub slots: usize,
-    /// The slots above which a cache shouldn't grow. The other kinds don't look at it.
+    /// The maximum that is asked for: a cache shouldn't grow above this number of slots. The other kinds don't use it.
     pub maximum: usize,
 }

@@ -193,7 +193,8 @@ impl<K: Eq + Hash + Clone, V: Clone + PartialEq, H: BuildHasher> Calls for Owned
     ghost empty_keeps = { λ _ _ _ _. tt };
 }
 
-// Makes what the call wants but its version, if it may bring in a key.
+// Makes the first array or the growth that `call` would have to make, if `call` may add a key. Doesn't make its
+// version. Fails if memory is refused.
 fn prepare<K: Eq + Hash, V, H: BuildHasher>(
     index: &mut Owned<K, V, H>,
     call: &IndexCall<K, V>,
@@ -207,7 +208,8 @@ fn prepare<K: Eq + Hash, V, H: BuildHasher>(
     }
 }
 
-// Makes what an insertion of the key wants but its version.
+// Makes the first array or the growth that an insertion of `k` would have to make. Doesn't make its version. Fails if
+// memory is refused.
 fn prepare_key<K: Eq + Hash, V, H: BuildHasher>(
     index: &mut Owned<K, V, H>,
     k: &K,
@@ -221,7 +223,7 @@ fn prepare_key<K: Eq + Hash, V, H: BuildHasher>(
     }
 }
 
-// Two copies of the reply that the call gives next.
+// Returns two copies of the reply that `call` gives next. Fails if a clone is refused.
 fn copies<K: Eq + Hash + Clone, V: Clone + PartialEq, H: BuildHasher>(
     index: &Owned<K, V, H>,
     call: &IndexCall<K, V>,
@@ -237,12 +239,12 @@ fn copies<K: Eq + Hash + Clone, V: Clone + PartialEq, H: BuildHasher>(
     if let Ok(second) = first.clone() {
         return Ok((first, second));
     }
-    // That a clone of the copy is refused says nothing of the reply, so the reply is copied once more.
+    // A refused clone of the copy says nothing of the reply, so the reply is copied once more.
     let second = copy(index, call)?;
     Ok((first, second))
 }
 
-// A copy of the reply that the call gives next.
+// Returns a copy of the reply that `call` gives next. Fails if a clone is refused.
 fn copy<K: Eq + Hash + Clone, V: Clone + PartialEq, H: BuildHasher>(
     index: &Owned<K, V, H>,
     call: &IndexCall<K, V>,

@@ -1,4 +1,4 @@
-//! Theorems of every kind as the contracts of calls that do nothing.
+//! Theorems on every kind, as contracts of functions that do nothing.
 ghost use Rattle.std.specs.Prelude.{◌≡◌, ℕ, List, ◌∷◌, ◌++◌, length, map};
 ghost use Rattle.scc_calls.specs.Copies.{ByClone, ClonesEqual};
 ghost use Rattle.scc_calls.specs.Histories.{Replays, CallsRouted, Merge, Run};
@@ -11,8 +11,8 @@ ghost use Rattle.scc_calls.specs.declared.steps.Step.{Step};
 
 use crate::Calls;
 
-/// Every merge of histories that replay from empty parts is a run of the whole machine, and ends in what the parts
-/// hold.
+/// States that every merge of histories that replay from empty parts is a run of the whole container. The run ends in
+/// what the parts hold.
 pub fn every_merge_is_a_run<C: Calls>()
     ensures { (g : Setting C.Hasher) (n : ℕ) (opened : List ℕ) (histories : List (List (Step C.Call C.Reply)))
         (ends : List C.State) (entries : List (ℕ × Step C.Call C.Reply))
@@ -23,7 +23,8 @@ pub fn every_merge_is_a_run<C: Calls>()
         → Run (C.whole_means g n) (C.whole_resizes g n) (C.whole (map C.empty opened)) entries (C.whole ends) }
 {}
 
-/// Of any kind, a step of one part is a step of the list of the parts: so a kind may have that list as its whole.
+/// States that a step of one part is a step of the list of the parts, for any kind. So a kind may have this list as
+/// its whole.
 pub fn every_kind_has_parts<C: Calls>()
     ensures call { (g : Setting C.Hasher) (n : ℕ) (before after : List C.State) (old new : C.State) (call : C.Call)
         (reply : C.Reply)
@@ -36,7 +37,7 @@ pub fn every_kind_has_parts<C: Calls>()
         → PartResizes (C.resizes g) (length before) (before ++ old ∷ after) buckets (before ++ new ∷ after) }
 {}
 
-/// A run of clones of the calls is a run of what records of the calls and the replies say.
+/// States that a run of clones of the calls is a run of what records of the calls and the replies say.
 pub fn runs_mean<C: Calls>()
     requires calls { ClonesEqual C.Call.is_clone C.Call.eq }
     requires replies { ClonesEqual C.Reply.is_clone C.Reply.eq }

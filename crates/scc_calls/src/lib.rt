@@ -1,4 +1,4 @@
-//! Containers whose calls are values: what a call and its reply are, what a list of them does, and a run of them.
+//! Containers whose calls are values: what a call and its reply are, what a list of calls does, and a run of calls.
 #![tactic(auto)]
 
 mod cache_calls;

@@ -196,7 +196,8 @@ impl<K: Eq + Hash + Clone, V: Clone + PartialEq, H: BuildHasher> Calls for Owned
     ghost empty_keeps = { λ _ _ _ _. tt };
 }
 
-// Makes what the call wants, if it may bring in a key.
+// Makes the first array or the growth that `call` would have to make, if `call` may add a key. Fails if memory is
+// refused.
 fn prepare<K: Eq + Hash, V, H: BuildHasher>(
     map: &mut Owned<K, V, H>,
     call: &MapCall<K, V>,
@@ -211,7 +212,7 @@ fn prepare<K: Eq + Hash, V, H: BuildHasher>(
     }
 }
 
-// Makes what an insertion of the key wants.
+// Makes the first array or the growth that an insertion of `k` would have to make. Fails if memory is refused.
 fn prepare_key<K: Eq + Hash, V, H: BuildHasher>(
     map: &mut Owned<K, V, H>,
     k: &K,
@@ -225,7 +226,7 @@ fn prepare_key<K: Eq + Hash, V, H: BuildHasher>(
     }
 }
 
-// Two copies of the reply that the call gives next.
+// Returns two copies of the reply that `call` gives next. Fails if a clone is refused.
 fn copies<K: Eq + Hash + Clone, V: Clone + PartialEq, H: BuildHasher>(
     map: &Owned<K, V, H>,
     call: &MapCall<K, V>,
@@ -241,12 +242,12 @@ fn copies<K: Eq + Hash + Clone, V: Clone + PartialEq, H: BuildHasher>(
     if let Ok(second) = first.clone() {
         return Ok((first, second));
     }
-    // That a clone of the copy is refused says nothing of the reply, so the reply is copied once more.
+    // A refused clone of the copy says nothing of the reply, so the reply is copied once more.
     let second = copy(map, call)?;
     Ok((first, second))
 }
 
-// A copy of the reply that the call gives next.
+// Returns a copy of the reply that `call` gives next. Fails if a clone is refused.
 fn copy<K: Eq + Hash + Clone, V: Clone + PartialEq, H: BuildHasher>(
     map: &Owned<K, V, H>,
     call: &MapCall<K, V>,

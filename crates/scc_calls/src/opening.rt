@@ -1,11 +1,11 @@
-//! Parts that are made alike.
+//! Parts that are made with equal arguments.
 ghost use Rattle.std.specs.Prelude.{◌≡◌, IfOk};
 
 use crate::Calls;
 use scc_common::{CloneOwner, MakeError};
 use std::alloc::Global;
 
-/// Two empty parts under one hasher. Nothing tells them apart.
+/// Makes two empty parts under one hasher, with equal settings and equal states. Fails if memory is refused.
 pub fn two_parts<C: Calls + Drop>(
     alloc: Global,
     slots: usize,

@@ -3,7 +3,7 @@
 use std::fmt::Debug;
 use thiserror::Error;
 
-/// Want of memory. The contents are unchanged.
+/// Memory for a call or for a clone was refused. The entries are unchanged; one resize may have been made.
 #[derive(Clone, Copy, Debug, PartialEq, Error)]
 #[error("out of memory")]
 pub struct Refused;

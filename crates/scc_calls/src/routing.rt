@@ -1,4 +1,4 @@
-//! To which part a key goes.
+//! The part to which a key is routed.
 ghost use Rattle.std.specs.Prelude.{◌≡◌, ◌<◌};
 ghost use Rattle.scc_contents.specs.Routing.{stripe_of};
 
@@ -6,7 +6,7 @@ use crate::Calls;
 use scc_buckets::place::bucket_index;
 use std::hash::BuildHasher;
 
-/// The part of a key, of so many parts: the number that the first bits of its hash write.
+/// Returns the number of the part of `key` among `parts` parts: the number that the first bits of its hash write.
 pub fn route<C: Calls>(hasher: &C::Hasher, parts: usize, key: &C::Key) -> usize
     requires { 0 < parts }
     ensures value { result ≡ stripe_of C.Hasher.BuildHasher C.Hasher.Hasher.Hasher C.Key.Hash.hash_input hasher.now

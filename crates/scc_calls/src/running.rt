@@ -1,4 +1,4 @@
-//! A run of calls.
+//! A run of a list of calls.
 ghost use Rattle.std.specs.Prelude.{◌≡◌, ℕ, ◌+◌, ◌<◌, ◌++◌, ◌⊎◌, List, length, OnOk, OnErr};
 ghost use Rattle.std.specs.Vec.{vec_capacity};
 ghost use Rattle.scc_calls.specs.Copies.{ByClone, ClonesEqual, MayStop};
@@ -6,10 +6,11 @@ ghost use Rattle.scc_calls.specs.Run.{IsRun, IsStopped};
 
 use crate::{Calls, Refused};
 
-/// Makes clones of the calls in order, up to the first that is refused, and adds the replies.
+/// Makes clones of `calls` in their order, and adds their replies to `replies`. Stops at the first call that is
+/// refused.
 ///
-/// Room for all replies is made before the first call. Where that is refused, nothing is touched. A call whose clone is
-/// refused is one that is refused.
+/// Memory for all replies is reserved before the first call; if it is refused, nothing changes. If the clone of a call
+/// is refused, the call counts as refused.
 pub fn run<C: Calls>(
     c: &mut C,
     calls: &[C::Call],

@@ -187,7 +187,8 @@ impl<K: Eq + Hash + Clone, H: BuildHasher> Calls for Owned<K, H> {
     ghost empty_keeps = { λ _ _ _ _. tt };
 }
 
-// Makes what the call wants, if it may bring in a key.
+// Makes the first array or the growth that `call` would have to make, if `call` may add a key. Fails if memory is
+// refused.
 fn prepare<K: Eq + Hash, H: BuildHasher>(
     set: &mut Owned<K, H>,
     call: &SetCall<K>,
@@ -202,7 +203,7 @@ fn prepare<K: Eq + Hash, H: BuildHasher>(
     }
 }
 
-// Makes what an insertion of the key wants.
+// Makes the first array or the growth that an insertion of `k` would have to make. Fails if memory is refused.
 fn prepare_key<K: Eq + Hash, H: BuildHasher>(set: &mut Owned<K, H>, k: &K) -> Result<(), Refused>
     ensures { SetPreparesKey K.eq (λ h k. hash_of H.BuildHasher H.Hasher.Hasher h (K.hash_input k))
         set.old k.now result set.new }
@@ -213,7 +214,7 @@ fn prepare_key<K: Eq + Hash, H: BuildHasher>(set: &mut Owned<K, H>, k: &K) -> Re
     }
 }
 
-// Two copies of the reply that the call gives next.
+// Returns two copies of the reply that `call` gives next. Fails if a clone is refused.
 fn copies<K: Eq + Hash + Clone, H: BuildHasher>(
     set: &Owned<K, H>,
     call: &SetCall<K>,
@@ -229,12 +230,12 @@ fn copies<K: Eq + Hash + Clone, H: BuildHasher>(
     if let Ok(second) = first.clone() {
         return Ok((first, second));
     }
-    // That a clone of the copy is refused says nothing of the reply, so the reply is copied once more.
+    // A refused clone of the copy says nothing of the reply, so the reply is copied once more.
     let second = copy(set, call)?;
     Ok((first, second))
 }
 
-// A copy of the reply that the call gives next.
+// Returns a copy of the reply that `call` gives next. Fails if a clone is refused.
 fn copy<K: Eq + Hash + Clone, H: BuildHasher>(
     set: &Owned<K, H>,
     call: &SetCall<K>,
@@ -264,7 +265,7 @@ fn copy<K: Eq + Hash + Clone, H: BuildHasher>(
     }
 }
 
-// A reply with a copy of the stored key.
+// Returns a reply with a copy of the stored key that equals `k`. Fails if a clone is refused.
 fn copy_key<K: Eq + Hash + Clone, H: BuildHasher>(
     set: &Owned<K, H>,
     k: &K,

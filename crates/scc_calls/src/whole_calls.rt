@@ -1,4 +1,4 @@
-//! The calls that concern a whole part, and those of the map.
+//! The calls that concern a whole part, and their forms for the map.
 ghost use Rattle.std.specs.Prelude.{◌≡◌, ℕ, List, [], length, Option, None, Some, MatchOption};
 ghost use Rattle.scc_calls.specs.declared.fixed.Setting.{Setting};
 ghost use Rattle.scc_calls.specs.WholeLaws.{counted_by};
@@ -12,22 +12,22 @@ pub trait WholeCalls: Calls {
 
     ghost counts: { Self.Call };
 
-    // The number that a reply tells, if it tells one.
+    // The number in a reply, if the reply has one.
     ghost counted: { Self.Reply → Option ℕ };
 
-    /// The call that clears a part.
+    /// Returns the call that clears a part.
     fn clear_call() -> Self::Call
         ensures { result ≡ clears };
 
-    /// The call that counts the entries of a part.
+    /// Returns the call that counts the entries of a part.
     fn len_call() -> Self::Call
         ensures { result ≡ counts };
 
-    /// The number that a reply tells, if it tells one.
+    /// Returns the number in `reply`, or `None` if the reply has none.
     fn counted(reply: &Self::Reply) -> Option<usize>
         ensures { result ≡ counted reply.now };
 
-    // Once it is cleared, a part has no keys.
+    // After the call that clears it, a part has no keys.
     ghost clears_all: { (Self.key_of clears ≡ None) × ((g : Setting Self.Hasher) (s t : Self.State) (r : Self.Reply)
         → Self.means g s clears r t → Self.keys t ≡ []) };
 
@@ -35,7 +35,7 @@ pub trait WholeCalls: Calls {
     ghost counts_all: { (Self.key_of counts ≡ None) × ((g : Setting Self.Hasher) (s t : Self.State) (r : Self.Reply)
         → Self.means g s counts r t → counted r ≡ Some (length (Self.keys s))) };
 
-    // Neither is ever refused for memory.
+    // Neither call is ever refused for memory.
     ghost never_refused: { (g : Setting Self.Hasher) (s : Self.State) → (Self.may_refuse g s clears → ⊥)
         × (Self.may_refuse g s counts → ⊥) };
 }
@@ -82,7 +82,7 @@ impl<K: Eq + Hash + Clone, V: Clone + PartialEq, H: BuildHasher> WholeCalls
     ghost never_refused = { λ g s. (λ m. m, λ m. m) };
 }
 
-// The number that a reply tells, if it tells one.
+// Returns the number in `reply`, or `None` if the reply has none.
 pub(super) fn count_of<K, V>(reply: &Reply<K, V>) -> Option<usize>
     ensures { result ≡ counted_by reply.now }
 {

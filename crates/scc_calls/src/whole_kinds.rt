@@ -1,4 +1,4 @@
-//! The calls of a set, an index and a cache that concern a whole part.
+//! The calls that concern a whole part, for the set, the index and the cache.
 
 use crate::whole_calls::count_of;
 use crate::{CacheCall, IndexCall, Reply, SetCall, WholeCalls};

@@ -1,4 +1,4 @@
-//! A part of a container with the history of its calls, and what those who call it keep.
+//! A part of a container with the history of its calls, and what its callers keep of their calls.
 #![tactic(auto)]
 
 ghost use Rattle.scc_calls.specs.Copies.{ClonesEqual};
@@ -25,13 +25,13 @@ use thiserror::Error;
 /// A part of a container, with the history of its steps since it was opened.
 #[derive(Drop)]
 pub struct Stripe<C: Calls> {
-    /// Its number among the stripes of its container. Its receipts bear it.
+    /// The number of the stripe in its container. The receipts of its calls have this number.
     pub number: usize,
     pub container: C,
     pub history: Vec<Step<C::Call, C::Reply>>,
-    /// The stamp of the last call in the history, 0 where there is none.
+    /// The stamp of the last call in the history, or 0 if there is none.
     pub last: u64,
-    /// The number of buckets at opening.
+    /// The number of buckets when the stripe was opened.
     pub opened: usize,
     pub ghost replays: { ∥ Replay (C.means (C.setting container)) (C.resizes (C.setting container)) (C.empty opened)
         history.items (C.state container) ∥₁ },
@@ -42,7 +42,7 @@ pub struct Stripe<C: Calls> {
 impl<C: Calls> Stripe<C> {
     ghost use Rattle.scc_history.specs.Steps.{RecordsByRule};
 
-    /// An empty part with an empty history. Fails where memory for the array is refused.
+    /// Returns an empty part with an empty history. Fails if memory for the array is refused.
     pub fn open(
         alloc: Global,
         number: usize,
@@ -72,11 +72,11 @@ impl<C: Calls> Stripe<C> {
         })
     }
 
-    /// Makes the call and records it, with one more than the greater of the two clocks for its stamp: that of the log
-    /// and the last one here.
+    /// Makes `call`, records it in the history, and adds its receipt to `log`. The stamp is one more than the greater
+    /// of the clock of `log` and the last stamp of this stripe.
     ///
-    /// `Room` comes before anything is touched; `Container` where the container refused the call. Amortized constant
-    /// beside the call.
+    /// Fails with `Room` before anything changes, and with `Container` if the container refuses the call. Takes
+    /// amortized constant time beside the call itself.
     pub fn call(&mut self, log: &mut Log<C>, call: C::Call) -> Result<C::Reply, CallError>
         requires calls { ClonesEqual C.Call.is_clone C.Call.eq }
         requires replies { ClonesEqual C.Reply.is_clone C.Reply.eq }
@@ -142,13 +142,15 @@ impl<C: Calls> Stripe<C> {
     }
 }
 
-/// Why a recorded call has no record.
+/// Why a call was not recorded.
 #[derive(Clone, Copy, Debug, PartialEq, Error)]
 pub enum CallError {
-    /// Memory for the record or the receipt was refused, or the greatest stamp was given. Nothing was touched.
+    /// Memory for the record, the receipt or a clone of the call was refused, or no greater stamp is left. Nothing
+    /// changed.
     #[error("no room for the record")]
     Room,
-    /// The container refused the call for memory. Its contents are unchanged; a resize that it made is in the history.
+    /// The container refused the call because memory was refused. Its entries are unchanged; a resize that it made is
+    /// in the history.
     #[error("out of memory")]
     Container,
 }

@@ -10,14 +10,14 @@ use std::fmt::Debug;
 #[derive(Drop)]
 pub struct Log<C: Calls> {
     pub number: usize,
-    /// No stamp of a receipt is above it.
+    /// The clock. No receipt has a greater stamp.
     pub clock: u64,
     pub receipts: Vec<Receipt<C::Call, C::Reply>>,
     pub ghost rising: { RisesTo 0 receipts.items clock } by { RisesTo-prop 0 receipts.items clock },
 }
 
 impl<C: Calls> Log<C> {
-    /// No receipts, at clock 0.
+    /// Returns a log without receipts, at clock 0.
     pub fn new(alloc: Global, number: usize) -> Log<C>
         ensures number { result.number ≡ number }
         ensures clock { result.clock ≡ 0 }
@@ -30,7 +30,8 @@ impl<C: Calls> Log<C> {
         }
     }
 
-    /// The clock becomes the greater of the two, so that later stamps are above all of the other's.
+    /// Raises the clock to the clock of `other` if that is greater. Later stamps of this log are then above all stamps
+    /// of `other`.
     pub fn told(&mut self, other: &Log<C>)
         ensures clock { self.new.clock ≡ max self.old.clock other.now.clock }
         ensures same { (self.new.number ≡ self.old.number) × (self.new.receipts.items ≡ self.old.receipts.items) }
@@ -41,10 +42,10 @@ impl<C: Calls> Log<C> {
     }
 }
 
-/// What was answered to a call, and the stamp of its record.
+/// A call with its reply, and the stamp of its record.
 #[derive(Clone, Copy, Debug, PartialEq)]
 pub struct Receipt<A, R> {
-    /// The number of the stripe that was called.
+    /// The number of the stripe on which the call was made.
     pub stripe: usize,
     pub stamp: u64,
     pub call: A,

@@ -1,4 +1,4 @@
-//! A caller's receipts beside the records of its calls.
+//! The receipts of a caller beside the records of its calls.
 ghost use Rattle.scc_history.specs.Orders.{AllStand, steps_at};
 ghost use Rattle.scc_history.specs.Receipts.{DiffersFirst, Matches, calls_of, seen};
 ghost use Rattle.std.specs.Prelude.{◌≡◌, ℕ, ◌+◌, ◌<◌, [], ◌∷◌, ◌++◌, ◌↔◌, map, true, IfNone, IfSome, IfOk, OnOk, IsTrue, slice_index_or, vec_len};
@@ -8,7 +8,7 @@ use crate::order::Histories;
 use scc_calls::Step;
 use std::alloc::{AllocError, Global};
 
-/// The first place at which the receipts of a caller and its call records differ, or one of them is missing.
+/// Returns the first place at which `receipts` and `records` differ or one of them has ended, or `None` if they match.
 pub fn first_difference<'a, A: PartialEq, R: PartialEq>(
     receipts: &[Receipt<A, R>],
     records: &[Receipt<&'a A, &'a R>],
@@ -34,7 +34,8 @@ fn same<'a, A: PartialEq, R: PartialEq>(a: &Receipt<A, R>, b: &Receipt<&'a A, &'
     a.stripe == b.stripe && a.stamp == b.stamp && a.call == *b.call && a.reply == *b.reply
 }
 
-/// The call records of each of so many callers along an order of places, as receipts.
+/// Returns, for each of `passes` passes, the records of its calls along `order`, as receipts. Fails if memory is
+/// refused.
 pub fn records_by_pass<'a, H: Histories>(
     alloc: Global,
     stripes: &'a [H],
@@ -53,7 +54,7 @@ pub fn records_by_pass<'a, H: Histories>(
     Ok(records)
 }
 
-// So many empty lists.
+// Returns `count` empty lists. Fails if memory is refused.
 fn empty_lists<'a, A, R>(
     alloc: Global,
     count: usize,
@@ -69,7 +70,7 @@ fn empty_lists<'a, A, R>(
     Ok(lists)
 }
 
-// Adds a call record of that stripe to the list of its caller.
+// Adds `step` of stripe `stripe` to the list of the pass that made it, if it is a call. Fails if memory is refused.
 fn tell<'a, A, R>(
     records: &mut Vec<Vec<Receipt<&'a A, &'a R>>>,
     stripe: usize,

@@ -12,7 +12,7 @@ use std::alloc::{AllocError, Global};
 use std::cmp::Reverse;
 use std::collections::BinaryHeap;
 
-/// What has the history of a stripe.
+/// A value that has the history of a stripe.
 pub trait Histories {
     type Call;
 
@@ -20,18 +20,18 @@ pub trait Histories {
 
     ghost history: { Self → List (Step Self.Call Self.Reply) };
 
-    // The stamp of its last call.
+    // The stamp of the last call.
     ghost last: { Self → ℕ };
 
-    /// The history. The stamps of its calls rise.
+    /// Returns the history. The stamps of its calls rise.
     fn history(&self) -> &[Step<Self::Call, Self::Reply>]
         ensures same { result.now ≡ history self.now }
         ensures rising { Rises 0 (history self.now) (last self.now) × (last self.now ≤ 18446744073709551615) }
         ensures short { length (history self.now) < 18446744073709551616 };
 }
 
-// The least stamp from a place on. No step after a call has a lesser stamp than the call, so it looks no further than
-// the next call.
+// Returns the least stamp of `history` from step `from` on. No step after a call has a lesser stamp than the call, so
+// nothing after the next call is read.
 fn number_at<A, R>(history: &[Step<A, R>], from: usize) -> u64
     requires within { from < length history.now }
     requires rising { (last : ℕ) × Rises 0 history.now last × (last ≤ 18446744073709551615) }
@@ -47,7 +47,7 @@ fn number_at<A, R>(history: &[Step<A, R>], from: usize) -> u64
     low
 }
 
-// Puts the step at that place of a history among those that wait, if it is there.
+// Adds the step at `place` of `history` to the queue `next`, if there is such a step. Fails if memory is refused.
 fn queue_step<A, R>(
     next: &mut BinaryHeap<Reverse<(u64, usize)>>,
     history: &[Step<A, R>],
@@ -67,7 +67,8 @@ fn queue_step<A, R>(
     Ok(())
 }
 
-// The first step of each history that has one, with its order number and its stripe.
+// Returns the first step of each history that has one, with its order number and its stripe. Fails if memory is
+// refused.
 fn first_steps<H: Histories>(
     alloc: Global,
     stripes: &[H],
@@ -84,8 +85,8 @@ fn first_steps<H: Histories>(
     Ok(next)
 }
 
-/// The places of all steps in the order of their stamps, of which there is only one. It takes time by the number of
-/// steps times the logarithm of the number of stripes.
+/// Returns the places of all steps in the order of their stamps. There is only one such order. Takes time proportional
+/// to the number of steps times the logarithm of the number of stripes. Fails if memory is refused.
 pub fn stamp_order<H: Histories>(
     alloc: Global,
     stripes: &[H],

@@ -4,7 +4,7 @@ ghost use Rattle.std.specs.Prelude.{◌≡◌, ◌+◌, ◌≤◌, ◌++◌, vec
 
 use scc_calls::Step;
 
-// Notes a call, with a growth before it or a shrink after it.
+// Adds a call to the history, with a growth before it or a shrink after it if the number of buckets changed.
 pub(crate) fn record_call<A: Drop, R: Drop>(
     history: &mut Vec<Step<A, R>>,
     before: usize,
@@ -38,7 +38,7 @@ pub(crate) fn record_call<A: Drop, R: Drop>(
     }
 }
 
-// Notes what a refused call did.
+// Adds the resize of a refused call to the history, if it made one.
 pub(crate) fn record_refused<A: Drop, R: Drop>(
     history: &mut Vec<Step<A, R>>,
     before: usize,

@@ -1,25 +1,26 @@
--- What a memo holds that was made just now.
+-- What a new memo holds.
 use Rattle.std.specs.Prelude.{◌≡◌, ℕ, ◌*◌, ◌<◌, [], max, Result, IsOk, IfOk}
 use Rattle.scc_contents.specs.Contents.{entries, bucket_count, settings_of, waiting_of}
 use Rattle.scc_contents.specs.Sizes.{IsArraySize}
 use Rattle.scc_memo.specs.Memos.{Memoized}
 
 module _ {P E S X : Type 0} where
-  -- a call that makes a memo of the function f without values, with that hasher, so many slots of its cache asked for and that maximum
+  -- a call that makes a memo of the function f without values, with the hasher `hasher`, with `capacity` slots of its
+  -- cache asked for and with the maximum `most`
   pub record MakesEmpty (f : P) (hasher : S) (capacity most : ℕ) (result : Result (Memoized P E S) X) : Type 0 where
-    -- it is a memo of that function
+    -- it is a memo of f
     pub function : IfOk result (λ m. m.function ≡ f)
     -- there is no value
     pub entries : IfOk result (λ m. entries m.cache.contents ≡ [])
-    -- there is no array where no slots were asked for
+    -- there is no array if no slots were asked for
     pub none : IfOk result (λ m. capacity ≡ 0 → bucket_count m.cache.contents ≡ 0)
-    -- else the slots are the least power of two, at least 64, that holds so many
+    -- else the slots are the least power of two that is at least `capacity` and at least 64
     pub size : IfOk result (λ m. 0 < capacity → IsArraySize capacity (32 * bucket_count m.cache.contents))
-    -- these slots are the minimum, no bit of a hash is skipped, and none are reserved
+    -- the slots of the array are the minimum, no bit of a hash is skipped, and no slots are reserved
     pub settings : IfOk result (λ m. settings_of m.cache.contents ≡ record { hasher = hasher; skipped = 0; asked = 32 * bucket_count m.cache.contents; reserved = 0 })
-    -- the maximum is the greater of the one asked for and these slots, raised to a power of two, at least 64
+    -- the maximum is the greater of `most` and the slots of the array, rounded up to a power of two, at least 64
     pub maximum : IfOk result (λ m. IsArraySize (max most (32 * bucket_count m.cache.contents)) m.cache.maximum)
-    -- it succeeds where no slots were asked for
+    -- it succeeds if no slots were asked for
     pub succeeds : capacity ≡ 0 → IsOk result
     -- no bucket waits
     pub waiting : IfOk result (λ m. waiting_of m.cache.contents ≡ [])

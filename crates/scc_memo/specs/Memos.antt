@@ -1,4 +1,4 @@
--- What a memo holds, and what a call of it leaves.
+-- What a memo holds, and what a call leaves of it.
 use Rattle.std.specs.Prelude.{◌≡◌, ℕ, Bool, Option, refl}
 use Rattle.std.specs.Coded.{Coded, code_by, coded×}
 use Rattle.std.specs.List.{AllByRecursion}
@@ -13,7 +13,7 @@ pub record Memoized (P E S : Type 0) : Type 0 where
   pub function : P
   pub cache : Cached E S
 
--- a memo as the logic holds it
+-- the code of a memo's model
 abbrev pub memo_code : {P E S : Type 0} → Coded P → Coded E → Coded S → Coded (Memoized P E S)
 memo_code {P} {E} {S} p e s = code_by (P × Cached E S) (coded× p (cached_code e s)) (λ m. (m.function, m.cache)) (λ q. record { function = q.0; cache = q.1 }) (λ _. refl)
 
@@ -23,7 +23,9 @@ module _ {K V S : Type 0} where
     pub each : AllByRecursion (λ l. AllByRecursion (λ p. p.1 ≡ value p.0) l) (lists_of c)
 
   module _ (hash : K → ℕ) (eq : K → K → Bool) where
-    -- what a look-up of k, whose value is v, leaves of the cache: the pair of k went to the end of its list; or (k, v) was put in, after a growth where that is due; or nothing changed, as there was no array and memory for one was refused
+    -- what a look-up of k, whose value is v, leaves of the cache: the pair of k moved to the end of its list; or (k,
+    -- v) was inserted, after a growth if one was due; or nothing changed, as there was no array and memory for one was
+    -- refused
     pub data Remembers (c : Cached (K × V) S) (k : K) (v : V) (d : Cached (K × V) S) : Type 0 where
       refreshed : (p : K × V) → ChangesLists (Refreshes (list_number hash c.contents) eq k p) c d → RelocatesOne (hash k) c.contents d.contents → Remembers c k v d
       stored : (x : Option (K × V)) → IsAbsent hash eq c.contents k → PutsNew hash eq c (k, v) x d → RelocatesTwoWithin (hash k) c.contents d.contents → Remembers c k v d

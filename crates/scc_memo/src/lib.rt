@@ -16,7 +16,7 @@ use std::alloc::Global;
 use std::hash::{BuildHasher, Hash};
 use std::marker::Model;
 
-/// A function that has one value for each key, the same for equal keys.
+/// A function that has one value for each key, and the same value for equal keys.
 pub trait Pure {
     type Key: Eq + Hash;
 
@@ -25,7 +25,7 @@ pub trait Pure {
     // The value of a key.
     ghost value: { Self → Self.Key → Self.Value };
 
-    /// The value of the key.
+    /// Returns the value of `k`.
     fn of(&self, k: &Self::Key) -> Self::Value
         ensures { result ≡ value self.now k.now };
 
@@ -33,8 +33,8 @@ pub trait Pure {
     ghost equal_alike: { (p : Self) (j k : Self.Key) → Self.Key.eq j k ≡ true → value p j ≡ value p k };
 }
 
-/// A pure function with a cache of its values. A contract sees the function and the cache, and every pair of the cache
-/// is a key with its value.
+/// A pure function with a cache of its values. A contract sees the function and the cache. Every pair of the cache is
+/// a key with the function's value of it.
 #[derive(Drop)]
 pub struct Memo<P: Pure, H: BuildHasher> {
     function: P,
@@ -55,7 +55,8 @@ impl<P: Pure, H: BuildHasher> Model for Memo<P, H> {
 }
 
 impl<P: Pure, H: BuildHasher> Memo<P, H> {
-    /// The function with an empty cache: `minimum` and `maximum` are its slots, as of a cache.
+    /// Returns a memo of `function` with an empty cache. `minimum` and `maximum` are numbers of slots, as in the
+    /// cache's `with_capacity_and_hasher`. Fails if memory is refused.
     pub fn with_capacity_and_hasher(
         alloc: Global,
         function: P,
@@ -74,9 +75,9 @@ impl<P: Pure, H: BuildHasher> Memo<P, H> {
         }
     }
 
-    /// The value of `k`, from the cache or else from the function. Its pair is then the most recent of its bucket: the
-    /// one that was there, or a new one, put in by the rules of a cache's `put_sync`. Only where there is no array, and
-    /// memory for one is refused, nothing is kept.
+    /// Returns the value of `k`, from the cache if it has one, else from the function. The pair of `k` becomes the
+    /// most recent of its bucket. A missing pair is inserted as by the cache's `put_sync`. Only if there is no array
+    /// and memory for one is refused, nothing is stored.
     pub fn get(&mut self, k: P::Key) -> P::Value
     where
         P::Key: Drop,
@@ -93,7 +94,7 @@ impl<P: Pure, H: BuildHasher> Memo<P, H> {
         value
     }
 
-    /// The value of `k` where the cache has it. Nothing moves, and the function isn't asked.
+    /// Returns the value of `k` if the cache has it, else `None`. Moves nothing, and doesn't call the function.
     pub fn known(&self, k: &P::Key) -> Option<P::Value>
         ensures { MatchOption result (IsAbsent
             (key_hash H.BuildHasher H.Hasher.Hasher P.Key.hash_input self.now.cache.contents) P.Key.eq
@@ -106,8 +107,8 @@ impl<P: Pure, H: BuildHasher> Memo<P, H> {
         self.cache.read_sync(k, |_, v| *v)
     }
 
-    /// Takes the pair of `k` out of the cache, and answers whether there was one. Where few pairs are left, the array
-    /// may become smaller.
+    /// Removes the pair of `k` from the cache, and returns whether there was one. If few pairs are left, the array may
+    /// shrink.
     pub fn forget(&mut self, k: &P::Key) -> bool
     where
         P::Key: Drop,
@@ -124,14 +125,14 @@ impl<P: Pure, H: BuildHasher> Memo<P, H> {
         self.cache.remove_sync(k).is_some()
     }
 
-    /// The number of values that are kept.
+    /// Returns the number of values in the cache.
     pub fn len(&self) -> usize
         ensures { result ≡ length (entries self.now.cache.contents) }
     {
         self.cache.len()
     }
 
-    /// The slots of the cache's array, 0 without one.
+    /// Returns the number of slots of the cache's array, or 0 if there is no array.
     pub fn capacity(&self) -> usize
         ensures { result ≡ 32 * bucket_count self.now.cache.contents }
     {
@@ -139,7 +140,7 @@ impl<P: Pure, H: BuildHasher> Memo<P, H> {
     }
 }
 
-/// The value of `k`, with a cache of values.
+/// Returns the value of `k`, from `cache` if it has one, else from `function`.
 fn recall<P: Pure, H: BuildHasher>(
     function: &P,
     cache: &mut Owned<P::Key, P::Value, H>,

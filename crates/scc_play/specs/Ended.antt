@@ -5,13 +5,13 @@ use Rattle.scc_play.specs.declared.ends.Cause.{Cause}
 use Rattle.scc_play.specs.declared.ends.End.{End}
 use Rattle.scc_play.specs.declared.ends.End.TheVariants.{Played, Unfinished, Differs}
 
--- the fact of the output, where there is one
+-- P holds of the output, if there is one
 abbrev pub IfPlayed : End → (List ℕ → Type 0) → Type 0
 IfPlayed (Played text) P = P (string_bytes text)
 IfPlayed (Unfinished cause) P = Unit {0}
 IfPlayed Differs P = Unit {0}
 
--- the fact of the output, that of the cause, or that of a difference
+-- P holds of the output, or Q of the cause, or D holds if what was recorded is not what the script has
 abbrev pub MatchEnd : End → (List ℕ → Type 0) → (Cause → Type 0) → Type 0 → Type 0
 MatchEnd (Played text) P Q D = P (string_bytes text)
 MatchEnd (Unfinished cause) P Q D = Q cause

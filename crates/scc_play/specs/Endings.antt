@@ -1,4 +1,4 @@
--- What a script is answered with, and how its program ends.
+-- The answer to a script, and how its program ends.
 use Rattle.std.specs.Prelude.{◌≡◌, ◌⊎◌, ◌<◌, ℕ, List, [], ◌++◌, map, Option, codes}
 use Rattle.std.specs.List.{AllByRecursion}
 use Rattle.std.specs.Fmt.{decimal}
@@ -14,7 +14,7 @@ use Rattle.scc_play.specs.declared.ends.Cause.TheVariants.{Missing, Misrouted, D
 abbrev pub bad_line_text : ℕ → List ℕ
 bad_line_text number = codes "line " ++ (decimal number ++ codes ": bad call\n")
 
--- the text of a run that wasn't finished
+-- the text of a run that was not finished
 abbrev pub finish_text : Cause → List ℕ
 finish_text Missing = codes "finish 7\n"
 finish_text Misrouted = codes "finish 8\n"
@@ -24,13 +24,15 @@ finish_text Disagrees = codes "finish 9\n"
 abbrev pub all_calls : {A : Type 0} → List (WorkerCall A) → List A
 all_calls calls = map (λ c. c.call) calls
 
--- the output of what the workers did, which with one worker on one stripe is that of a run of the script's calls; or why the run wasn't finished; or nothing, where what was recorded isn't what the script has
+-- the answer is the output of what the workers did, which for one worker on one stripe is the output of a run of the
+-- script's calls; or the text for the cause why the run was not finished; or no text, if what was recorded is not what
+-- the script has
 abbrev pub AnswersBy : (List ℕ → Type 0) → (List ℕ → Type 0) → ℕ → ℕ → ℕ → List ℕ → Type 0
 AnswersBy alone among workers stripes status text =
     ((status ≡ 0) × among text × (workers ≡ 1 → stripes ≡ 1 → ∥ alone text ∥₁))
     ⊎ (((cause : Cause) × (status ≡ 5) × (text ≡ finish_text cause)) ⊎ ((status ≡ 6) × (text ≡ [])))
 
--- each call is by one of the workers
+-- each call is made by one of the workers
 abbrev pub HasOwners : Meaning → Type 0
 HasOwners (map_calls workers stripes calls) = AllByRecursion (λ c. c.worker < workers) calls
 HasOwners (set_calls workers stripes calls) = AllByRecursion (λ c. c.worker < workers) calls
@@ -46,7 +48,7 @@ WritesAnswer (index_calls workers stripes calls) status text = AnswersBy (IndexO
 WritesAnswer (cache_calls workers stripes calls) status text = AnswersBy (CacheOutput (all_calls calls)) (CachePlayed workers stripes calls) workers stripes status text
 WritesAnswer (bad_line number) status text = (status ≡ 2) × (text ≡ bad_line_text number)
 
--- what was written before, then the answer's text; or the text on memory; or a stream failed
+-- the answer's text was written behind what was written before; or the text for refused memory was; or a stream failed
 abbrev pub Ends : Option (List ℕ) → Option (List ℕ) → Meaning → ℕ → Type 0
 Ends old new meaning status =
     ((text : List ℕ) × WritesAnswer meaning status text × Appends old new text)

@@ -1,4 +1,4 @@
--- What scripts of each kind do: a key is its own hash.
+-- How a script of each kind is played: a key is its own hash.
 use Rattle.std.specs.Prelude.{Option, Some, ◌≡◌, ℕ, ◌%◌, ◌^◌, ◌==◌, List, [], max, replicate, nat_eq}
 use Rattle.std.specs.Hash.{le_bytes}
 use Rattle.std.specs.List.Sorted.{IsPermutation}
@@ -36,7 +36,7 @@ use Rattle.scc_play.specs.Played.{IsPlayed, Machine}
 abbrev pub own_hash : ℕ → ℕ
 own_hash k = k % 2 ^ 64
 
--- what each stripe of a script's container is made for: no array, and its share of 256 slots at most
+-- what each stripe of a script's container is made for: no array, and its share of the maximum of 256 slots
 abbrev pub script_request : ℕ → Request Same
 script_request stripes = request_of 0 256 (record {}) stripes
 
@@ -129,29 +129,29 @@ module _ (hash : ℕ → ℕ) where
 abbrev pub finished_hash : ℕ → ℕ
 finished_hash k = (same_write (record { last = 0 }) (le_bytes 8 k)).last
 
--- what was played for the request that was chosen
+-- What was played for the request that was chosen.
 module _ {C S W A R X : Type 0} (machine : (ℕ → ℕ) → Machine C Same S W A R ℕ X) where
-  -- where there was a request for such a script, the text is that of a play of it
+  -- if this request was chosen for such a script, the text is that of a play of the script
   abbrev pub PlayedFor : Option (Request Same) → ℕ → ℕ → List (WorkerCall A) → List ℕ → Type 0
   PlayedFor chosen workers stripes calls text = ∥ ((r : Request Same) × (chosen ≡ Some r) × IsPlayed (machine finished_hash) (route_by finished_hash) r workers stripes calls text) ∥₁
 
--- the same of a map
+-- as `PlayedFor`, for a map
 abbrev pub MapPlayedFor : Option (Request Same) → ℕ → ℕ → List (WorkerCall (MapCall ℕ ℕ)) → List ℕ → Type 0
 MapPlayedFor chosen workers stripes calls text = PlayedFor map_machine chosen workers stripes calls text
 
--- the same of a set
+-- as `PlayedFor`, for a set
 abbrev pub SetPlayedFor : Option (Request Same) → ℕ → ℕ → List (WorkerCall (SetCall ℕ)) → List ℕ → Type 0
 SetPlayedFor chosen workers stripes calls text = PlayedFor set_machine chosen workers stripes calls text
 
--- the same of an index
+-- as `PlayedFor`, for an index
 abbrev pub IndexPlayedFor : Option (Request Same) → ℕ → ℕ → List (WorkerCall (IndexCall ℕ ℕ)) → List ℕ → Type 0
 IndexPlayedFor chosen workers stripes calls text = PlayedFor index_machine chosen workers stripes calls text
 
--- the same of a cache
+-- as `PlayedFor`, for a cache
 abbrev pub CachePlayedFor : Option (Request Same) → ℕ → ℕ → List (WorkerCall (CacheCall ℕ ℕ)) → List ℕ → Type 0
 CachePlayedFor chosen workers stripes calls text = PlayedFor cache_machine chosen workers stripes calls text
 
--- what so many workers did on a map in so many stripes, and its text; and so on
+-- the text is that of a play of a map's script
 abbrev pub MapPlayed : ℕ → ℕ → List (WorkerCall (MapCall ℕ ℕ)) → List ℕ → Type 0
 MapPlayed workers stripes calls text = ∥ IsPlayed (map_machine own_hash) (route_by own_hash) (script_request stripes) workers stripes calls text ∥₁
 

@@ -1,4 +1,4 @@
--- What several workers did on a container in stripes, and the text of it.
+-- What several workers did on a container in stripes, and its text.
 use Rattle.std.specs.Prelude.{◌≡◌, ℕ, ◌<◌, List, length, map, replicate, Option, Some, slice_get}
 use Rattle.std.specs.List.{AllByRecursion, flat_map, sum_by}
 use Rattle.std.specs.List.Sorted.{IsPermutation, IsSorted}
@@ -16,7 +16,7 @@ use Rattle.scc_print.specs.Output.{output_of}
 use Rattle.scc_script.specs.declared.line.WorkerCall.{WorkerCall}
 use Rattle.scc_play.specs.Answered.{AreAnswered, calls_by}
 
--- a call was made by one of so many workers
+-- a call was made by a worker below `workers`
 abbrev pub IsMadeBy : {A R : Type 0} → ℕ → Step A R → Type 0
 IsMadeBy workers (Call stamp pass call reply) = pass < workers
 IsMadeBy workers (Resize stamp buckets) = Unit {0}
@@ -39,8 +39,10 @@ pub record Machine (C H S W A R K X : Type 0) : Type 1 where
   pub reply : R → List ℕ
   pub content : X → List ℕ
 
--- Histories of so many stripes that workers made from nothing: each replays to the state of its container at the end, each call stands in the part of its key and is a worker's, and every merge of them is a run of the whole.
--- In the order of the stamps, the calls of each worker are those of the script, one after another, with the replies that are printed; the contents are printed in rising order; and the records are counted.
+-- Histories of `stripes` stripes that workers made from nothing. Each history replays to the state of its container at
+-- the end, each call stands in the part of its key and was made by a worker, and every merge of the histories is a run
+-- of the whole. In the order of the stamps, the calls of each worker are those of the script, one after another, with
+-- the replies that are printed. The contents are printed in rising order, and the records are counted.
 pub record IsPlayed {C H S W A R K X : Type 0} (machine : Machine C H S W A R K X) (route : ℕ → K → ℕ) (request : Request H) (workers stripes : ℕ) (calls : List (WorkerCall A)) (text : List ℕ) : Type 0 where
   pub setting : Setting H
   pub histories : List (List (Step A R))

@@ -10,7 +10,7 @@ use std::alloc::{AllocError, Global};
 use std::sync::Wait;
 use std::sync::ledger::Ledger;
 
-/// A worker with a pass of its own, who makes its calls of a script one after another.
+/// A worker with a pass of its own. It makes its calls of a script one after another.
 #[derive(Drop)]
 pub(crate) struct Worker<'a, P: Printed, L: Ledger, M: Site<P::Hasher>, R: Wait> {
     rt: &'a R,
@@ -19,7 +19,7 @@ pub(crate) struct Worker<'a, P: Printed, L: Ledger, M: Site<P::Hasher>, R: Wait>
     pass: Pass<P, L>,
 }
 
-// Makes a call of one stripe or of all. False where it is refused.
+// Makes a call on one stripe or on all stripes. Returns false if the call is refused.
 fn make_call<P: Printed, L: Ledger, M: Site<P::Hasher>, R: Wait>(
     rt: &R,
     recorded: &Recorded<P, L, M>,
@@ -68,7 +68,8 @@ impl<P: Printed, L: Ledger, M: Site<P::Hasher>, R: Wait> Work for Worker<'_, P, 
     }
 }
 
-/// A worker for each pass, with the calls of its number. Refused where there aren't as many passes as lists.
+/// Returns a worker for each pass, with the calls of the same number in `lists`. Fails if there aren't as many passes
+/// as lists, or if memory is refused.
 pub(crate) fn workers_of<'a, P: Printed, L: Ledger, M: Site<P::Hasher>, R: Wait>(
     rt: &'a R,
     alloc: Global,
@@ -96,7 +97,7 @@ pub(crate) fn workers_of<'a, P: Printed, L: Ledger, M: Site<P::Hasher>, R: Wait>
     Ok(workers)
 }
 
-/// The passes of the workers.
+/// Returns the passes of the workers. Fails if memory is refused.
 pub(crate) fn passes_of<P: Printed, L: Ledger, M: Site<P::Hasher>, R: Wait>(
     alloc: Global,
     workers: Vec<Worker<'_, P, L, M, R>>,

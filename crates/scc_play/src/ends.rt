@@ -2,24 +2,24 @@
 
 use std::fmt::Debug;
 
-/// Why a run wasn't finished, by the refusals of `finish`.
+/// Why a run was not finished, by the errors of `finish`.
 #[derive(Clone, Copy, Debug, PartialEq)]
 pub enum Cause {
     /// A pass is missing.
     Missing,
-    /// A record stands in a stripe that isn't its key's.
+    /// A call record stands in another stripe than the stripe of its key.
     Misrouted,
-    /// A receipt isn't its record.
+    /// A receipt differs from its record.
     Disagrees,
 }
 
 /// How a run of workers ended.
 #[derive(Drop)]
 pub enum End {
-    /// All calls were made: the output.
+    /// All calls were made. This is the output.
     Played(String),
-    /// The run wasn't finished.
+    /// The run was not finished.
     Unfinished(Cause),
-    /// What was recorded isn't what the script has.
+    /// What was recorded is not what the script has.
     Differs,
 }

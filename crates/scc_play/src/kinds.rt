@@ -1,5 +1,5 @@
-//! Plays a script of each kind on several stripes: a thread may be handed only what is known of in full, so the threads
-//! of each kind are started here.
+//! Plays a script of each kind on several stripes. A thread may be handed only a value whose type is known in full, so
+//! the threads of each kind are started here.
 ghost use Rattle.std.specs.Prelude.{◌≡◌, IfOk, Some};
 ghost use Rattle.scc_recorded.specs.Setups.{request_of};
 ghost use Rattle.scc_script.specs.Grammar.{IsCrew, IsDivision};
@@ -26,12 +26,12 @@ use std::sync::ledger::{Blank, Ledger};
 use std::sync::{Arc, Wait};
 use std::thread::Threads;
 
-// One owner of a script's hasher.
+// Returns one owner of a script's hasher. Fails if memory is refused.
 fn shared(alloc: Global) -> Result<Shared<Same>, AllocError> {
     Ok(Shared::new(Arc::new(alloc, Same)?))
 }
 
-// What a script's container is made with.
+// Returns what a script's container is made with.
 fn setup_of(hasher: Shared<Same>) -> Setup<Shared<Same>>
     ensures { (result.capacity ≡ 0) × (result.maximum ≡ 256) × (result.hasher ≡ hasher) }
 {
@@ -42,7 +42,7 @@ fn setup_of(hasher: Shared<Same>) -> Setup<Shared<Same>>
     }
 }
 
-// Plays calls of a map under two ledgers.
+// Plays calls of a map under two ledgers. Fails if memory or a thread is refused.
 fn play_map_in<L, M, R>(
     rt: &R,
     alloc: Global,
@@ -83,7 +83,7 @@ where
     finish_run(alloc, workers, stripes, calls, recorded.close(), passes)
 }
 
-/// Plays calls of a map.
+/// Plays calls of a map. Fails if memory or a thread is refused.
 pub(crate) fn play_map<R: Threads + Wait + Sync>(
     rt: &R,
     alloc: Global,
@@ -106,7 +106,7 @@ pub(crate) fn play_map<R: Threads + Wait + Sync>(
     )
 }
 
-// Plays calls of a set under two ledgers.
+// Plays calls of a set under two ledgers. Fails if memory or a thread is refused.
 fn play_set_in<L, M, R>(
     rt: &R,
     alloc: Global,
@@ -147,7 +147,7 @@ where
     finish_run(alloc, workers, stripes, calls, recorded.close(), passes)
 }
 
-/// Plays calls of a set.
+/// Plays calls of a set. Fails if memory or a thread is refused.
 pub(crate) fn play_set<R: Threads + Wait + Sync>(
     rt: &R,
     alloc: Global,
@@ -170,7 +170,7 @@ pub(crate) fn play_set<R: Threads + Wait + Sync>(
     )
 }
 
-// Plays calls of an index under two ledgers.
+// Plays calls of an index under two ledgers. Fails if memory or a thread is refused.
 fn play_index_in<L, M, R>(
     rt: &R,
     alloc: Global,
@@ -211,7 +211,7 @@ where
     finish_run(alloc, workers, stripes, calls, recorded.close(), passes)
 }
 
-/// Plays calls of an index.
+/// Plays calls of an index. Fails if memory or a thread is refused.
 pub(crate) fn play_index<R: Threads + Wait + Sync>(
     rt: &R,
     alloc: Global,
@@ -234,7 +234,7 @@ pub(crate) fn play_index<R: Threads + Wait + Sync>(
     )
 }
 
-// Plays calls of a cache under two ledgers.
+// Plays calls of a cache under two ledgers. Fails if memory or a thread is refused.
 fn play_cache_in<L, M, R>(
     rt: &R,
     alloc: Global,
@@ -275,7 +275,7 @@ where
     finish_run(alloc, workers, stripes, calls, recorded.close(), passes)
 }
 
-/// Plays calls of a cache.
+/// Plays calls of a cache. Fails if memory or a thread is refused.
 pub(crate) fn play_cache<R: Threads + Wait + Sync>(
     rt: &R,
     alloc: Global,

@@ -1,6 +1,6 @@
 //! Plays a script of calls.
 //!
-//! [`play::play`] reads a whole script, checks every line, makes the calls and writes the replies, the contents and
+//! [`play::play`] reads a whole script, checks every line, makes the calls, and writes the replies, the contents and
 //! the number of call records.
 #![tactic(auto)]
 

@@ -1,4 +1,4 @@
-//! Plays a script.
+//! Plays a script from a stream to a stream.
 ghost use Rattle.std.specs.Prelude.{◌≡◌, ◌≢◌, ◌⊎◌, ◌<◌, [], IfOk, IfSome, map};
 ghost use Rattle.std.specs.List.{AllByRecursion};
 ghost use Rattle.std.specs.String.{string_bytes};
@@ -23,7 +23,7 @@ use std::thread::Threads;
 /// The run was finished, and its output is written.
 pub const FINISHED: u8 = 0;
 
-/// A line of the script isn't in the grammar; the first such line is named.
+/// A line of the script isn't in the grammar. The text names the first such line.
 pub const BAD_CALL: u8 = 2;
 
 /// Memory or a thread was refused.
@@ -32,30 +32,30 @@ pub const NO_MEMORY: u8 = 3;
 /// A read or a write of the streams failed.
 pub const STREAM_FAILED: u8 = 4;
 
-/// The histories of the stripes don't finish.
+/// The run can't be finished: its histories and receipts don't agree.
 pub const UNFINISHED: u8 = 5;
 
-/// What was recorded isn't what the script has.
+/// What was recorded is not what the script has.
 pub const DIFFERS: u8 = 6;
 
-// What is printed where memory is refused.
+// The text that is printed if memory is refused.
 const OUT_OF_MEMORY: &str = "out of memory\n";
 
-// What a script is answered with: a text and a status.
+// The answer to a script: a text and a status.
 #[derive(Drop)]
 struct Answer {
     text: String,
     status: u8,
 }
 
-// What is printed of a script whose line `number`, counted from 1, isn't in the grammar.
+// Returns the text for a script whose line `number`, counted from 1, isn't in the grammar. Fails if memory is refused.
 fn bad_call_text(alloc: Global, number: usize) -> Result<String, AllocError>
     ensures { IfOk result (λ text. string_bytes text ≡ bad_line_text number) }
 {
     format!(in alloc; "line {number}: bad call\n")
 }
 
-// What is printed of a run that wasn't finished.
+// Returns the text for a run that was not finished. Fails if memory is refused.
 fn unfinished_text(alloc: Global, cause: Cause) -> Result<String, AllocError>
     ensures { IfOk result (λ text. string_bytes text ≡ finish_text cause) }
 {
@@ -66,7 +66,7 @@ fn unfinished_text(alloc: Global, cause: Cause) -> Result<String, AllocError>
     }
 }
 
-// The answer of a run that is over.
+// Returns the answer to a script whose run is over. Fails if memory is refused.
 fn answer_end(alloc: Global, end: End) -> Result<Answer, AllocError>
     ensures { IfOk result (λ a. MatchEnd end (λ text. (a.status ≡ 0) × (string_bytes a.text ≡ text))
         (λ cause. (a.status ≡ 5) × (string_bytes a.text ≡ finish_text cause))
@@ -88,7 +88,7 @@ fn answer_end(alloc: Global, end: End) -> Result<Answer, AllocError>
     }
 }
 
-// Plays a script of a map.
+// Plays a script of a map, and returns its answer.
 fn answer_map<R: Threads + Wait + Sync>(
     rt: &R,
     alloc: Global,
@@ -104,7 +104,7 @@ fn answer_map<R: Threads + Wait + Sync>(
     answer_end(alloc, play_map(rt, alloc, workers, stripes, calls)?)
 }
 
-// Plays a script of a set.
+// Plays a script of a set, and returns its answer.
 fn answer_set<R: Threads + Wait + Sync>(
     rt: &R,
     alloc: Global,
@@ -120,7 +120,7 @@ fn answer_set<R: Threads + Wait + Sync>(
     answer_end(alloc, play_set(rt, alloc, workers, stripes, calls)?)
 }
 
-// Plays a script of an index.
+// Plays a script of an index, and returns its answer.
 fn answer_index<R: Threads + Wait + Sync>(
     rt: &R,
     alloc: Global,
@@ -136,7 +136,7 @@ fn answer_index<R: Threads + Wait + Sync>(
     answer_end(alloc, play_index(rt, alloc, workers, stripes, calls)?)
 }
 
-// Plays a script of a cache.
+// Plays a script of a cache, and returns its answer.
 fn answer_cache<R: Threads + Wait + Sync>(
     rt: &R,
     alloc: Global,
@@ -152,7 +152,7 @@ fn answer_cache<R: Threads + Wait + Sync>(
     answer_end(alloc, play_cache(rt, alloc, workers, stripes, calls)?)
 }
 
-// Makes the calls of a script, or names its first bad line.
+// Makes the calls of a script and returns the answer, or the answer that names its first bad line.
 fn answer_by_kind<R: Threads + Wait + Sync>(
     rt: &R,
     alloc: Global,
@@ -182,7 +182,7 @@ fn answer_by_kind<R: Threads + Wait + Sync>(
     }
 }
 
-// Checks the whole script, and then makes its calls.
+// Checks the whole script, then makes its calls, and returns the answer.
 fn answer_script<R: Threads + Wait + Sync>(
     rt: &R,
     alloc: Global,
@@ -194,7 +194,7 @@ fn answer_script<R: Threads + Wait + Sync>(
     answer_by_kind(rt, alloc, script)
 }
 
-// Writes a text and ends with the status, or with that of a failed stream.
+// Writes `text`, and returns `status`, or `STREAM_FAILED` if the write fails.
 fn finish<W: Write>(writer: &mut W, text: &str, status: u8) -> u8
     ensures status { (result ≡ status) ⊎ (result ≡ 4) }
     ensures bytes { result ≢ 4 → Appends (W.contents writer.old) (W.contents writer.new) text.now }
@@ -205,23 +205,23 @@ fn finish<W: Write>(writer: &mut W, text: &str, status: u8) -> u8
     status
 }
 
-/// Reads a script, makes its calls on a new container of the kind that it names, and writes what they answered. The
-/// answer is the exit status.
+/// Reads a script, makes its calls on a new container of the kind that the script names, and writes their replies.
+/// Returns the exit status.
 ///
-/// The script is read whole before any line is checked, every line is checked before any call is made, and the whole
-/// output is written last. Each worker makes its calls on a thread of its own, on a recorded container in as many
-/// stripes as the script names.
+/// The script is read whole before any line is checked. Every line is checked before any call is made. The whole
+/// output is written last. Each worker makes its calls on a thread of its own, on a recorded container with the number
+/// of stripes that the script names.
 ///
-/// - [`FINISHED`]: written are for each worker from 0 the line `worker W` and a line for each of its calls' replies,
-///   then `contents N`, N lines `KEY VALUE`, of a set `KEY`, in rising order of keys, and `records R`, where R is the
-///   number of call records: clearing and counting make one a stripe.
-/// - [`BAD_CALL`]: written is the line `line N: bad call` alone, where N, counted from 1, is the first line that isn't
-///   in the grammar. No call was made.
-/// - [`NO_MEMORY`]: written is the line `out of memory` alone.
-/// - [`STREAM_FAILED`]: nothing was written where the read failed; where a write failed, nothing after it.
-/// - [`UNFINISHED`]: written is the line `finish N` alone: 7 where a pass is missing, 8 where a record is misrouted, 9
-///   where a receipt isn't its record.
-/// - [`DIFFERS`]: nothing is written. Receipts that came back aren't those of the script's calls.
+/// - [`FINISHED`]: writes for each worker, from 0, the line `worker W` and a line for each reply; then `contents N`
+///   and N lines `KEY VALUE`, for a set `KEY`, in rising order of keys; then `records R`. R is the number of call
+///   records; a clearing and a count make one record in each stripe.
+/// - [`BAD_CALL`]: writes only the line `line N: bad call`. N, counted from 1, is the first line that isn't in the
+///   grammar. No call was made.
+/// - [`NO_MEMORY`]: writes only the line `out of memory`.
+/// - [`STREAM_FAILED`]: if the read failed, nothing was written; if a write failed, nothing was written after it.
+/// - [`UNFINISHED`]: writes only the line `finish N`. N is 7 if a pass is missing, 8 if a record is misrouted, and 9
+///   if a receipt differs from its record.
+/// - [`DIFFERS`]: writes nothing. What was recorded is not what the script has.
 pub fn play<T: Threads + Wait + Sync, R: Read, W: Write>(
     rt: &T,
     alloc: Global,

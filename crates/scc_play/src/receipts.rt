@@ -1,4 +1,4 @@
-//! What a worker's calls were answered, from the receipts of what they became.
+//! The replies to a worker's calls, from the receipts of these calls.
 ghost use Rattle.std.specs.Prelude.{◌≡◌, ℕ, ◌<◌, length, map, min, IfOk, IfSome, true, drop};
 ghost use Rattle.std.specs.List.{AllByRecursion, sum_by};
 ghost use Rattle.scc_play.specs.Answered.{AreAnswered, AreInOrder, IsAnswered, IsJoint, number_of, calls_by};
@@ -8,7 +8,7 @@ use scc_print::printed::Printed;
 use scc_script::line::WorkerCall;
 use std::alloc::{AllocError, Global};
 
-// The calls of one worker, in their order.
+// Returns the calls of worker `worker`, in their order. Fails if memory is refused.
 pub(crate) fn calls_of<P: Printed>(
     alloc: Global,
     worker: usize,
@@ -25,7 +25,7 @@ pub(crate) fn calls_of<P: Printed>(
     Ok(own)
 }
 
-// Whether all receipts are of this call.
+// Returns whether all receipts are of the call `call`.
 fn are_all_of<P: Printed>(call: &P::Call, receipts: &[Receipt<P::Call, P::Reply>]) -> bool
     ensures { result ≡ true → AllByRecursion (λ r. r.call ≡ call.now) receipts.now }
 {
@@ -38,7 +38,7 @@ fn are_all_of<P: Printed>(call: &P::Call, receipts: &[Receipt<P::Call, P::Reply>
     true
 }
 
-// Whether the receipts are of one stripe after another, stripe 0 first.
+// Returns whether the receipts are of one stripe after another, stripe 0 first.
 fn are_in_order<A, R>(receipts: &[Receipt<A, R>]) -> bool
     ensures { result ≡ true → AreInOrder receipts.now }
 {
@@ -50,7 +50,7 @@ fn are_in_order<A, R>(receipts: &[Receipt<A, R>]) -> bool
     true
 }
 
-// The sum of the numbers that replies tell.
+// Returns the sum of the numbers in the replies of `receipts`, at most `usize::MAX`.
 fn sum_of<P: Printed>(receipts: &[Receipt<P::Call, P::Reply>]) -> usize
     ensures { result ≡ min 18446744073709551615 (sum_by (λ r. number_of (P.counted r.reply)) receipts.now) }
 {
@@ -61,7 +61,7 @@ fn sum_of<P: Printed>(receipts: &[Receipt<P::Call, P::Reply>]) -> usize
     sum
 }
 
-// The reply to a call of all stripes.
+// Returns the reply to a call of all stripes, from the receipts of the stripes.
 fn joint_reply<P: Printed>(receipts: &[Receipt<P::Call, P::Reply>]) -> P::Reply
     requires { 0 < length receipts.now }
     ensures { IsJoint P.key_of P.counted P.count_reply (map (λ r. r.reply) receipts.now) result }
@@ -75,7 +75,7 @@ fn joint_reply<P: Printed>(receipts: &[Receipt<P::Call, P::Reply>]) -> P::Reply
     }
 }
 
-// The reply to the call, where these are the receipts of what it became.
+// Returns the reply to `call`, or `None` if `receipts` are not the receipts that `call` must have.
 fn reply_of<P: Printed>(
     stripes: usize,
     call: &P::Call,
@@ -105,7 +105,7 @@ fn reply_of<P: Printed>(
     }
 }
 
-// How many records the call becomes.
+// Returns the number of records that `call` makes.
 fn records_of<P: Printed>(stripes: usize, call: &P::Call) -> usize {
     match P::key(call) {
         Some(_) => 1,
@@ -113,7 +113,8 @@ fn records_of<P: Printed>(stripes: usize, call: &P::Call) -> usize {
     }
 }
 
-// The replies to the calls of a worker, where its receipts are those of what they became.
+// Returns the replies to the calls of a worker, or `None` if `receipts` are not the receipts that these calls must
+// have. Fails if memory is refused.
 pub(crate) fn replies_of<P: Printed>(
     alloc: Global,
     stripes: usize,

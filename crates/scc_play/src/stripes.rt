@@ -1,4 +1,4 @@
-//! What workers were told, and the end of their run.
+//! The replies that workers got, and the end of their run.
 ghost use Rattle.std.specs.Prelude.{◌≡◌, ℕ, ◌<◌, List, length, map, IfOk, IfSome, Ok, Some, slice_get, vec_len};
 ghost use Rattle.std.specs.String.{string_bytes};
 ghost use Rattle.scc_contents.specs.Routing.{stripe_of};
@@ -21,7 +21,8 @@ use scc_script::line::WorkerCall;
 use std::alloc::{AllocError, Global};
 use std::sync::ledger::Ledger;
 
-// What each worker was told, where the passes are in order and their receipts are those of the script's calls.
+// Returns the replies that each worker got. Returns `None` if the passes are not in order, or if their receipts are
+// not those of the script's calls. Fails if memory is refused.
 fn told_by_all<P: Printed, L: Ledger>(
     alloc: Global,
     stripes: usize,
@@ -48,7 +49,7 @@ fn told_by_all<P: Printed, L: Ledger>(
     Ok(Some(told))
 }
 
-/// The calls of each worker, in its order.
+/// Returns the calls of each worker, in its order. Fails if memory is refused.
 pub(crate) fn divided<P: Printed>(
     alloc: Global,
     workers: usize,
@@ -65,7 +66,7 @@ pub(crate) fn divided<P: Printed>(
     Ok(lists)
 }
 
-// Why the script's run isn't finished, where it isn't for want of memory.
+// Returns why the run isn't finished. Fails if the cause is that memory was refused.
 fn cause_of(error: FinishError) -> Result<Cause, AllocError>
     ensures missing { result ≡ Ok Cause.Missing → error ≡ FinishError.Missing }
     ensures misrouted { result ≡ Ok Cause.Misrouted → (i : ℕ) × (j : ℕ) × (error ≡ FinishError.Misrouted i j) }
@@ -79,7 +80,8 @@ fn cause_of(error: FinishError) -> Result<Cause, AllocError>
     }
 }
 
-/// The output of a run that is over, or why it isn't finished, or that its receipts aren't those of the script's calls.
+/// Returns the output of a run that is over, or why it isn't finished, or that what was recorded is not what the
+/// script has. Fails if memory is refused.
 pub fn finish_run<P: Printed + Drop, L: Ledger, M: Site<P::Hasher>>(
     alloc: Global,
     workers: usize,

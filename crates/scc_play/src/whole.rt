@@ -1,4 +1,4 @@
-//! What a finished run holds, as text.
+//! The text of a finished run.
 ghost use Rattle.std.specs.Prelude.{◌≡◌, ℕ, ◌<◌, List, length, map, IfOk, IfSome, true};
 ghost use Rattle.std.specs.List.{AllByRecursion, flat_map, sum_by};
 ghost use Rattle.std.specs.List.Sorted.{IsPermutation, IsSorted};
@@ -13,7 +13,7 @@ use scc_print::texts::output_text;
 use scc_recorded::Finished;
 use std::alloc::{AllocError, Global};
 
-// Whether each call of a history was made by one of so many workers.
+// Returns whether each call of `history` was made by a worker below `workers`.
 fn is_known<A, R>(workers: usize, history: &[Step<A, R>]) -> bool
     ensures { result ≡ true → AllByRecursion (IsMadeBy workers) history.now }
 {
@@ -27,7 +27,7 @@ fn is_known<A, R>(workers: usize, history: &[Step<A, R>]) -> bool
     true
 }
 
-// Whether each call of all histories was made by one of so many workers.
+// Returns whether each call of all `histories` was made by a worker below `workers`.
 fn are_known<A, R>(workers: usize, histories: &[Vec<Step<A, R>>]) -> bool
     ensures { result ≡ true → AllByRecursion (AllByRecursion (IsMadeBy workers)) (map (λ h. h.items) histories.now) }
 {
@@ -39,7 +39,7 @@ fn are_known<A, R>(workers: usize, histories: &[Vec<Step<A, R>>]) -> bool
     true
 }
 
-// Whether all numbers are 0.
+// Returns whether all numbers are 0.
 fn are_none(numbers: &[usize]) -> bool
     ensures { result ≡ true → AllByRecursion (λ n. n ≡ 0) numbers.now }
 {
@@ -51,7 +51,7 @@ fn are_none(numbers: &[usize]) -> bool
     true
 }
 
-// The number of call records of a history.
+// Returns the number of call records in `history`.
 fn count_of<A, R>(history: &[Step<A, R>]) -> usize
     ensures { result ≡ calls_in history.now }
 {
@@ -64,7 +64,7 @@ fn count_of<A, R>(history: &[Step<A, R>]) -> usize
     count
 }
 
-// The number of call records of all histories; None past the greatest number.
+// Returns the number of call records in all `histories`, or `None` if it is above `usize::MAX`.
 fn records_in<A, R>(histories: &[Vec<Step<A, R>>]) -> Option<usize>
     ensures { IfSome result (λ n. n ≡ sum_by calls_in (map (λ h. h.items) histories.now)) }
 {
@@ -75,7 +75,7 @@ fn records_in<A, R>(histories: &[Vec<Step<A, R>>]) -> Option<usize>
     Some(records)
 }
 
-// The contents of all parts, in rising order.
+// Returns the contents of all parts, in rising order. Fails if memory is refused.
 fn sorted_items<P: Printed + Drop>(alloc: Global, parts: Vec<P>) -> Result<Vec<P::Item>, AllocError>
     ensures same { IfOk result (λ items. IsPermutation (flat_map P.shown parts.items) items.items) }
     ensures rising { IfOk result (λ items. IsSorted P.Item.cmp items.items) }
@@ -90,7 +90,8 @@ fn sorted_items<P: Printed + Drop>(alloc: Global, parts: Vec<P>) -> Result<Vec<P
     Ok(items)
 }
 
-/// The output of a run, where its stripes began without arrays and each call was made by one of so many workers.
+/// Returns the output of a run. Returns `None` if some stripe began with an array, or if some call was made by no
+/// worker below `workers`. Fails if memory is refused.
 pub(crate) fn whole_text<P: Printed + Drop>(
     alloc: Global,
     workers: usize,

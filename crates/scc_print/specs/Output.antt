@@ -1,4 +1,4 @@
--- The text of a run that was finished.
+-- The text of a finished run.
 use Rattle.std.specs.Prelude.{ℕ, ◌+◌, true, false, List, [], ◌∷◌, ◌++◌, length, Option, Some, None, codes}
 use Rattle.std.specs.List.{flat_map}
 use Rattle.std.specs.Fmt.{decimal}
@@ -10,7 +10,7 @@ abbrev pub value_line : List ℕ → Option ℕ → List ℕ
 value_line word None = codes "none\n"
 value_line word (Some n) = word ++ (codes " " ++ (decimal n ++ codes "\n"))
 
--- a word and a pair, or what stands for no pair
+-- a word and a pair, or the text for a missing pair
 abbrev pub pair_line : List ℕ → Option (ℕ × ℕ) → List ℕ → List ℕ
 pair_line word None missing = missing ++ codes "\n"
 pair_line word (Some p) missing = word ++ (codes " " ++ (decimal p.0 ++ (codes " " ++ (decimal p.1 ++ codes "\n"))))
@@ -33,7 +33,7 @@ reply_line (Count count) = codes "count " ++ (decimal count ++ codes "\n")
 abbrev pub content_line : ℕ × ℕ → List ℕ
 content_line p = decimal p.0 ++ (codes " " ++ (decimal p.1 ++ codes "\n"))
 
--- the line of a reply of a set, whose values are nothing; replies that a set doesn't give have no line
+-- the line of a set's reply, in which values are nothing; a reply that a set doesn't give has no line
 abbrev pub key_reply_line : Reply ℕ (Unit {0}) → List ℕ
 key_reply_line Inserted = codes "ok\n"
 key_reply_line Cleared = codes "ok\n"
@@ -51,20 +51,20 @@ key_reply_line (Evicted pair) = []
 abbrev pub key_line : ℕ → List ℕ
 key_line k = decimal k ++ codes "\n"
 
--- a line for each reply, and one for each pair or key
+-- one line for each reply, pair or key of the list
 abbrev pub lines_of_all : {X : Type 0} → (X → List ℕ) → List X → List ℕ
 lines_of_all line xs = flat_map line xs
 
--- the line of a worker, and its replies
+-- the line of a worker, and the lines of its replies
 abbrev pub worker_text : {R : Type 0} → (R → List ℕ) → ℕ → List R → List ℕ
 worker_text reply worker replies = codes "worker " ++ (decimal worker ++ (codes "\n" ++ lines_of_all reply replies))
 
--- the lines of all workers, of whom the first has this number
+-- the lines of all workers, the first of whom has the number `worker`
 abbrev pub workers_text : {R : Type 0} → (R → List ℕ) → ℕ → List (List R) → List ℕ
 workers_text reply worker [] = []
 workers_text reply worker (replies ∷ more) = worker_text reply worker replies ++ workers_text reply (worker + 1) more
 
--- the number of items, and a line for each
+-- the number of items, and a line for each item
 abbrev pub contents_text : {X : Type 0} → (X → List ℕ) → List X → List ℕ
 contents_text content items = codes "contents " ++ (decimal (length items) ++ (codes "\n" ++ lines_of_all content items))
 

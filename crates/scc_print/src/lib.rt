@@ -1,4 +1,4 @@
-//! What a script's calls are answered with, as text.
+//! The replies and the contents of a script's run, as text.
 #![tactic(auto)]
 
 pub mod printed;

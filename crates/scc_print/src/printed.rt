@@ -14,62 +14,62 @@ use std::alloc::AllocError;
 
 /// A container whose replies and contents are printed.
 pub trait Printed: WholeCalls {
-    /// What a line of the contents is printed of.
+    /// An item of the contents, for which one line is printed.
     type Item: Copy + Ord;
 
-    // What the contents are printed of, in any order.
+    // The items of the contents, in any order.
     ghost shown: { Self → List Self.Item };
 
     ghost reply_line: { Self.Reply → List ℕ };
 
     ghost item_line: { Self.Item → List ℕ };
 
-    // The reply of a count.
+    // The reply with a count.
     ghost count_reply: { ℕ → Self.Reply };
 
-    /// Takes all contents out, to the end of the list.
+    /// Moves all items out of the container to the end of `items`. Fails if memory is refused.
     fn take_items(&mut self, items: &mut Vec<Self::Item>) -> Result<(), AllocError>
         ensures { OnOk result ((more : List Self.Item) × (items.new.items ≡ items.old.items ++ more) × IsPermutation
             (shown self.old) more) };
 
-    /// Adds the line of a reply.
+    /// Adds the line of a reply to `output`. Fails if memory is refused.
     fn add_reply(output: &mut String, reply: Self::Reply) -> Result<(), AllocError>
         ensures { OnOk result (string_bytes output.new ≡ string_bytes output.old ++ reply_line reply) };
 
-    /// Adds the line of an item.
+    /// Adds the line of an item to `output`. Fails if memory is refused.
     fn add_item(output: &mut String, item: Self::Item) -> Result<(), AllocError>
         ensures { OnOk result (string_bytes output.new ≡ string_bytes output.old ++ item_line item) };
 
-    /// The reply of a count.
+    /// Returns the reply with the count `count`.
     fn count_reply(count: usize) -> Self::Reply
         ensures { result ≡ count_reply count };
 
-    /// The same call again.
+    /// Returns a copy of the call, which is the very same call.
     fn same_call(call: &Self::Call) -> Self::Call
         ensures { result ≡ call.now };
 
-    /// The same reply again.
+    /// Returns a copy of the reply, which is the very same reply.
     fn same_reply(reply: &Self::Reply) -> Self::Reply
         ensures { result ≡ reply.now };
 
-    /// A clone of a call equals it.
+    /// States that a clone of a call equals the call.
     fn equal_calls()
         ensures { ClonesEqual Self.Call.is_clone Self.Call.eq };
 
-    /// A clone of a reply equals it.
+    /// States that a clone of a reply equals the reply.
     fn equal_replies()
         ensures { ClonesEqual Self.Reply.is_clone Self.Reply.eq };
 
-    /// Calls that compare as equal are the same.
+    /// States that calls that compare as equal are the same.
     fn exact_calls()
         ensures { (a b : Self.Call) → Self.Call.eq a b ≡ true → a ≡ b };
 
-    /// Replies that compare as equal are the same.
+    /// States that replies that compare as equal are the same.
     fn exact_replies()
         ensures { (a b : Self.Reply) → Self.Reply.eq a b ≡ true → a ≡ b };
 }
 
-/// Calls that compare as equal are the same, and so are replies.
+/// States that calls that compare as equal are the same, and that replies that compare as equal are the same.
 pub fn are_exact<P: Printed>()
     ensures calls { AreSame P.Call.eq }
     ensures replies { AreSame P.Reply.eq }

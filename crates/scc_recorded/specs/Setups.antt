@@ -1,16 +1,16 @@
--- What each of several stripes gets of what a recorded container is made with.
+-- What a recorded container is made with, divided among its stripes.
 use Rattle.std.specs.Prelude.{◌≡◌, ℕ, ◌+◌, ◌/◌, ◌%◌, ◌==◌, ◌⊎◌, if◌then◌else◌}
 use Rattle.scc_calls.specs.declared.fixed.Request.{Request}
 
--- so many stripes may be asked for
+-- the number of stripes that may be asked for
 abbrev pub IsStripes : ℕ → Type 0
 IsStripes stripes = (stripes ≡ 1) ⊎ (stripes ≡ 2) ⊎ (stripes ≡ 4) ⊎ (stripes ≡ 8) ⊎ (stripes ≡ 16)
 
--- how many first bits of a hash pick one of so many stripes
+-- how many first bits of a hash name one of `stripes` stripes
 abbrev pub skipped_for : ℕ → ℕ
 skipped_for stripes = if stripes == 1 then 0 else if stripes == 2 then 1 else if stripes == 4 then 2 else if stripes == 8 then 3 else 4
 
--- the share of one stripe, rounded up
+-- the share of one stripe in `slots`, rounded up
 abbrev pub share_among : ℕ → ℕ → ℕ
 share_among slots stripes = if slots % stripes == 0 then slots / stripes else slots / stripes + 1
 

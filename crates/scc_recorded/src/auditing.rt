@@ -1,4 +1,4 @@
-//! The ledgers tell that there are as many call records as receipts.
+//! The ledgers prove that there are as many call records as receipts.
 ghost use Rattle.scc_history.specs.Stamps.{calls_in};
 ghost use Rattle.std.specs.List.{sum_by};
 ghost use Rattle.std.specs.Prelude.{◌≡◌, ◌+◌, ◌<◌, length};
@@ -11,8 +11,8 @@ use scc_calls::{Calls, Step};
 use std::sync::ledger::{Book, Ledger, Share};
 
 impl<C: Calls, L: Ledger, M: Site<C::Hasher>> Closed<C, L, M> {
-    /// Compares nothing and changes nothing, and shows by the ledgers that all passes together have as many receipts as
-    /// all stripes have call records. `finish` does so too.
+    /// Proves by the ledgers that all passes together have as many receipts as all stripes have call records. Compares
+    /// nothing and changes nothing. `finish` proves this too.
     pub fn audit(&mut self, passes: &mut [Pass<C, L>])
         requires { length passes.old ≡ self.old.passes }
         ensures equal { sum_by (λ s. calls_in s.stripe.history.items) self.old.stripes.items
@@ -35,7 +35,7 @@ impl<C: Calls, L: Ledger, M: Site<C::Hasher>> Closed<C, L, M> {
 }
 
 impl<C: Calls, L: Ledger> Pass<C, L> {
-    // The book's total is the number of all receipts.
+    // Proves that the total of `book` is the number of all receipts.
     fn audit_all(passes: &mut [Pass<C, L>], book: &mut Book<L>)
         requires { (length passes.old ≡ L.parts) × (0 < L.parts) }
         ensures total { book.old.total ≡ sum_by (λ p. length p.log.receipts.items) passes.old }
@@ -47,7 +47,7 @@ impl<C: Calls, L: Ledger> Pass<C, L> {
         Pass::audit_from(passes, book, &mut seen);
     }
 
-    // Lends the share of each pass to `seen`, and asks the book once all have.
+    // Adds the share of each pass to `seen`, audits the book once all shares are there, and gives the shares back.
     fn audit_from(passes: &mut [Pass<C, L>], book: &mut Book<L>, seen: &mut Share<L>)
         requires parts { seen.old.parts + length passes.old ≡ L.parts }
         requires backed { (seen.old.parts ≡ 0) → (seen.old.amount ≡ 0) }
@@ -71,7 +71,7 @@ impl<C: Calls, L: Ledger> Pass<C, L> {
 }
 
 impl<C: Calls, M: Site<C::Hasher>> CountedStripe<C, M> {
-    // The book's total is the number of all call records.
+    // Proves that the total of `book` is the number of all call records.
     fn audit_all(stripes: &mut [CountedStripe<C, M>], book: &mut Book<M>)
         requires { (length stripes.old ≡ M.parts) × (0 < M.parts) }
         ensures total { book.old.total ≡ sum_by (λ s. calls_in s.stripe.history.items) stripes.old }
@@ -83,7 +83,7 @@ impl<C: Calls, M: Site<C::Hasher>> CountedStripe<C, M> {
         CountedStripe::audit_from(stripes, book, &mut seen);
     }
 
-    // Lends the share of each stripe to `seen`, and asks the book once all have.
+    // Adds the share of each stripe to `seen`, audits the book once all shares are there, and gives the shares back.
     fn audit_from(stripes: &mut [CountedStripe<C, M>], book: &mut Book<M>, seen: &mut Share<M>)
         requires parts { seen.old.parts + length stripes.old ≡ M.parts }
         requires backed { (seen.old.parts ≡ 0) → (seen.old.amount ≡ 0) }
@@ -106,7 +106,7 @@ impl<C: Calls, M: Site<C::Hasher>> CountedStripe<C, M> {
     }
 }
 
-// The number of call records.
+// Returns the number of call records in `history`.
 fn count_of<A, R>(history: &[Step<A, R>]) -> u64
     ensures { result ≡ calls_in history.now }
 {

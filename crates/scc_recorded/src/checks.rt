@@ -1,4 +1,4 @@
-//! What is compared before a run is finished.
+//! The comparisons before a run is finished.
 ghost use Rattle.scc_calls.specs.Histories.{CallsRouted, StepRouted, FirstMisrouted};
 ghost use Rattle.scc_contents.specs.Routing.{stripe_of};
 ghost use Rattle.scc_history.specs.Receipts.{AreAll, seen};
@@ -14,7 +14,7 @@ use scc_history::{Histories, Receipt, first_difference};
 use std::alloc::{AllocError, Global};
 use std::sync::ledger::Ledger;
 
-// Whether the passes have so many numbers, each once.
+// Returns whether the numbers of the passes are the numbers below `count`, each once. Fails if memory is refused.
 pub(crate) fn are_all<C: Calls, L: Ledger>(
     alloc: Global,
     passes: &[Pass<C, L>],
@@ -36,7 +36,7 @@ pub(crate) fn are_all<C: Calls, L: Ledger>(
     Ok(true)
 }
 
-// The first call that doesn't stand in its own stripe.
+// Returns stripe and index of the first call that doesn't stand in its own stripe, or `None` if there is none.
 pub(crate) fn misrouted<C: Calls, M: Site<C::Hasher>>(
     hasher: &C::Hasher,
     stripes: &[CountedStripe<C, M>],
@@ -58,7 +58,7 @@ pub(crate) fn misrouted<C: Calls, M: Site<C::Hasher>>(
     None
 }
 
-// The first call of a history that doesn't route to its stripe.
+// Returns the index of the first call in `history` that doesn't route to stripe `part`, or `None` if there is none.
 fn misplaced<C: Calls>(
     hasher: &C::Hasher,
     count: usize,
@@ -104,7 +104,8 @@ fn is_placed<C: Calls>(
     }
 }
 
-// The least pass whose receipts aren't its records, with the first place.
+// Returns the least number of a pass whose receipts differ from its records, with the first place at which they
+// differ. Returns `None` if there is no such pass.
 pub(crate) fn first_disagreement<'b, 'a: 'b, C: Calls, L: Ledger>(
     passes: &'b [Pass<C, L>],
     records: &'b [Vec<Receipt<&'a C::Call, &'a C::Reply>>],
@@ -125,7 +126,8 @@ pub(crate) fn first_disagreement<'b, 'a: 'b, C: Calls, L: Ledger>(
     first
 }
 
-// The one of the lesser pass, the earlier one if there is none in the second.
+// Returns the disagreement of the pass with the lesser number. `first` is the least one so far; `found` is the place
+// in pass `number`, if it has one.
 fn lesser(
     first: Option<(usize, usize)>,
     number: usize,

@@ -1,4 +1,4 @@
-//! Stripes out of their locks.
+//! The stripes without their locks.
 ghost use Rattle.scc_calls.specs.declared.fixed.Request.{Request};
 ghost use Rattle.std.specs.Prelude.{◌≡◌, ◌+◌, ◌<◌, ◌≤◌, map, MatchOption, Some, slice_get, vec_len, [], vec_capacity, IfOk};
 
@@ -10,7 +10,7 @@ use scc_history::{Histories, Stripe};
 use std::alloc::{AllocError, Global};
 use std::sync::ledger::Ledger;
 
-/// The stripes of a container that nobody calls any more.
+/// The stripes of a container on which no call is made any more.
 #[derive(Drop)]
 pub struct Closed<C: Calls, L: Ledger, M: Site<C::Hasher>> {
     pub stripes: Vec<CountedStripe<C, M>>,
@@ -32,7 +32,7 @@ impl<C: Calls + Drop, L: Ledger, M: Site<C::Hasher>> Recorded<C, L, M>
 where
     C::Hasher: Drop,
 {
-    /// Takes the stripes out of their locks. It takes no memory.
+    /// Takes the stripes out of their locks. Allocates nothing.
     pub fn close(self) -> Closed<C, L, M>
         ensures stripes { vec_len result.stripes ≡ self.stripes }
         ensures passes { result.passes ≡ self.passes }
@@ -69,7 +69,7 @@ where
 }
 
 impl<C: Calls, L: Ledger, M: Site<C::Hasher>> Closed<C, L, M> {
-    /// The stripe with that number, if there is one.
+    /// Returns stripe `i`, or `None` if there is no such stripe.
     pub fn stripe(&self, i: usize) -> Option<&Stripe<C>>
         ensures { MatchOption result (vec_len self.now.stripes ≤ i)
             (λ s. slice_get (map (λ g. g.stripe) self.now.stripes.items) i ≡ Some s.now) }
@@ -99,7 +99,7 @@ impl<C: Calls, M: Site<C::Hasher>> Histories for CountedStripe<C, M> {
 }
 
 impl<C: Calls, M: Site<C::Hasher>> CountedStripe<C, M> {
-    // The container, the history and the number of buckets at opening.
+    // Returns the container, the history and the number of buckets at opening.
     pub(crate) fn into_parts(self) -> (C, Vec<Step<C::Call, C::Reply>>, usize)
         ensures { (result.0 ≡ self.stripe.container) × (result.1 ≡ self.stripe.history)
             × (result.2 ≡ self.stripe.opened) }
@@ -116,7 +116,7 @@ impl<C: Calls, M: Site<C::Hasher>> CountedStripe<C, M> {
     }
 }
 
-// An empty list with room for all stripes. It stands under a lock, so that threads may share what holds it.
+// An empty list with room for all stripes. It is behind a lock, so that threads may share the container that holds it.
 #[derive(Drop)]
 pub struct StripeRoom<C: Calls, M: Site<C::Hasher>> {
     pub(crate) list: Vec<CountedStripe<C, M>>,
@@ -124,7 +124,7 @@ pub struct StripeRoom<C: Calls, M: Site<C::Hasher>> {
     pub ghost reserved: { M.all ≤ vec_capacity list },
 }
 
-// An empty list with room for so many.
+// Returns an empty list with room for `count` items. Fails if memory is refused.
 pub(crate) fn list_for<T>(alloc: Global, count: usize) -> Result<Vec<T>, AllocError>
     ensures { IfOk result (λ v. (v.items ≡ []) × (count ≤ vec_capacity v)) }
 {

@@ -1,4 +1,4 @@
-//! What a lock guards: a stripe with its part of a ledger, and the two books of receipts and records.
+//! What a lock guards: a stripe with its part of a ledger, and the books of receipts and records.
 ghost use Rattle.scc_calls.specs.Calling.{MayNotReply};
 ghost use Rattle.scc_calls.specs.Copies.{ClonesEqual};
 ghost use Rattle.scc_calls.specs.Made.{IsMadeFor};
@@ -18,7 +18,7 @@ use std::marker::PhantomData;
 use std::sync::ledger::{Book, Ledger, Share};
 use std::sync::{Mutex, Wait};
 
-/// A stripe that was made for the request of its site, with its part of the count of records.
+/// A stripe that was made for the request of its site, with its part of the ledger of records.
 #[derive(Drop)]
 pub struct CountedStripe<C: Calls, M: Site<C::Hasher>> {
     pub stripe: Stripe<C>,
@@ -30,7 +30,7 @@ pub struct CountedStripe<C: Calls, M: Site<C::Hasher>> {
 }
 
 impl<C: Calls, M: Site<C::Hasher>> CountedStripe<C, M> {
-    // An empty stripe, which takes one part of the ledger.
+    // Returns an empty stripe, which takes one part of the ledger from `all`. Fails if memory is refused.
     pub(crate) fn open(
         alloc: Global,
         number: usize,
@@ -57,7 +57,7 @@ impl<C: Calls, M: Site<C::Hasher>> CountedStripe<C, M> {
         Ok(CountedStripe { stripe, ledger })
     }
 
-    // One step of the stripe of that number, counted in both books.
+    // Makes one recorded call on the stripe, whose number is `number`, and counts it in both books.
     pub(crate) fn call_counted<L: Ledger, R: Wait>(
         &mut self,
         rt: &R,
@@ -96,7 +96,8 @@ impl<C: Calls, M: Site<C::Hasher>> CountedStripe<C, M> {
     }
 }
 
-/// The number of the parts of a ledger. It stands apart from the tokens, since a fact beside one can't name that number.
+/// The number of the parts of a ledger. It is a type of its own, since a fact beside a token of the ledger can't name
+/// this number.
 #[derive(Drop)]
 pub struct PartCount<L: Ledger> {
     pub count: usize,
@@ -106,7 +107,7 @@ pub struct PartCount<L: Ledger> {
 }
 
 impl<L: Ledger> PartCount<L> {
-    // The ledger has so many.
+    // Returns `count`, the number of the ledger's parts.
     pub(crate) fn new(count: usize) -> PartCount<L>
         requires all { count ≡ L.parts }
         requires some { 0 < count }
@@ -119,7 +120,7 @@ impl<L: Ledger> PartCount<L> {
     }
 }
 
-/// The numbers of all receipts and of all call records, which are equal.
+/// The books of all receipts and of all call records, whose totals are equal.
 #[derive(Drop)]
 pub struct Count<L: Ledger, M: Ledger> {
     pub(crate) receipts: Book<L>,
@@ -128,7 +129,7 @@ pub struct Count<L: Ledger, M: Ledger> {
 }
 
 impl<L: Ledger, M: Ledger> Count<L, M> {
-    // Two books of nothing.
+    // Returns two books whose totals are 0.
     pub(crate) fn new(receipts: Book<L>, records: Book<M>) -> Count<L, M>
         requires { (receipts.total ≡ 0) × (records.total ≡ 0) }
     {

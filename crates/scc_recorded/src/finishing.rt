@@ -1,4 +1,4 @@
-//! What a run was.
+//! A finished run, and why a run can't be finished.
 ghost use Rattle.scc_calls.specs.Histories.{CallsRouted};
 ghost use Rattle.scc_contents.specs.Routing.{stripe_of};
 ghost use Rattle.scc_history.specs.Orders.{IsOnlyStampOrder, steps_at};
@@ -21,7 +21,7 @@ use std::fmt::Debug;
 use std::sync::ledger::Ledger;
 use thiserror::Error;
 
-/// What a run was.
+/// What a run was: the containers, their histories and the order of the steps.
 #[derive(Drop)]
 pub struct Finished<C: Calls> {
     /// The container of each stripe.
@@ -30,11 +30,11 @@ pub struct Finished<C: Calls> {
     pub histories: Vec<Vec<Step<C::Call, C::Reply>>>,
     /// The number of buckets of each stripe at opening.
     pub opened: Vec<usize>,
-    /// The places of all steps, as stripe and index, in the order of their stamps.
+    /// The places of all steps, each a stripe and an index, in the order of their stamps.
     pub order: Vec<(usize, usize)>,
 }
 
-/// All that was handed in, and why the run wasn't finished.
+/// A run that can't be finished: the container, the passes and the cause.
 #[derive(Drop)]
 pub struct Unfinished<C: Calls, L: Ledger, M: Site<C::Hasher>> {
     pub recorded: Closed<C, L, M>,
@@ -46,13 +46,13 @@ impl<C: Calls + Drop, L: Ledger, M: Site<C::Hasher>> Closed<C, L, M>
 where
     C::Hasher: Drop,
 {
-    /// What the run was, where the passes are all that were handed out, each call stands in the stripe of its key, and
-    /// each pass has a receipt for each of its call records and no other. Where the passes are all, they have as many
-    /// receipts together as the stripes have call records, also if it is refused.
+    /// Returns what the run was. It succeeds if the passes are all that were handed out, each call stands in the
+    /// stripe of its key, and each pass has a receipt for each of its call records and no other. If the passes are
+    /// all, they have as many receipts together as the stripes have call records, also if `finish` fails.
     ///
-    /// It takes time by the number of records times the logarithm of the number of stripes. Where it is refused, all
-    /// that was handed in comes back unchanged. `Missing` comes first, then `Misrouted`, then `Disagrees`; `Memory`
-    /// only where memory for a list was refused.
+    /// Takes time proportional to the number of records times the logarithm of the number of stripes. If it fails,
+    /// container and passes come back unchanged. `Missing` comes first, then `Misrouted`, then `Disagrees`; `Memory`
+    /// comes only if memory for a list is refused.
     pub fn finish(self, passes: Vec<Pass<C, L>>) -> Result<Finished<C>, Unfinished<C, L, M>>
         ensures parts { IfOk result (λ f. (f.parts.items ≡ map (λ s. s.stripe.container) self.stripes.items)
             × (map (λ h. h.items) f.histories.items ≡ map (λ s. s.stripe.history.items) self.stripes.items)
@@ -78,7 +78,7 @@ where
         closed.finish_counted(passes)
     }
 
-    // Shows that there are as many call records as receipts, where there are as many passes as were handed out.
+    // Proves that there are as many call records as receipts, if there are as many passes as were handed out.
     fn count(&mut self, passes: &mut Vec<Pass<C, L>>)
         ensures same { (self.new ≡ self.old) × (passes.new ≡ passes.old) }
         ensures equal { AreAll self.old.passes (map (λ p. p.log.number) passes.old.items)
@@ -90,7 +90,8 @@ where
         }
     }
 
-    // What the run was, where there are as many call records as receipts if the passes are all.
+    // Returns what the run was, as `finish` does. There must be as many call records as receipts if the passes are
+    // all.
     fn finish_counted(self, passes: Vec<Pass<C, L>>) -> Result<Finished<C>, Unfinished<C, L, M>>
         requires { AreAll self.passes (map (λ p. p.log.number) passes.items)
             → sum_by (λ s. calls_in s.stripe.history.items) self.stripes.items
@@ -151,7 +152,7 @@ where
         })
     }
 
-    // The stamp order, where nothing speaks against the run.
+    // Returns the stamp order if nothing speaks against the run, else the first cause against it.
     fn order_of(&self, passes: &[Pass<C, L>]) -> Result<Vec<(usize, usize)>, FinishError>
         ensures complete { IfOk result (λ v. AreAll self.now.passes (map (λ p. p.log.number) passes.now)) }
         ensures routed { IfOk result (λ v. CallsRouted C.key_of
@@ -199,8 +200,8 @@ impl<C: Calls + Drop, L: Ledger, M: Site<C::Hasher>> Recorded<C, L, M>
 where
     C::Hasher: Drop,
 {
-    /// What the run was: [`Recorded::close`], and then [`Closed::finish`], with its costs and its refusals. Where it is
-    /// refused, the stripes come back out of their locks, so a further try is [`Closed::finish`].
+    /// Returns what the run was: [`Recorded::close`], and then [`Closed::finish`], with its costs and its errors. If
+    /// it fails, the stripes come back without their locks, so a further try is made by [`Closed::finish`].
     pub fn finish(self, passes: Vec<Pass<C, L>>) -> Result<Finished<C>, Unfinished<C, L, M>>
         ensures finished { IfOk result (λ f. IsFinished (make_kind C.limits C.empty C.key_of C.means C.resizes C.whole
             C.whole_means C.whole_resizes C.setting C.state C.Call.eq C.Reply.eq
@@ -223,7 +224,7 @@ where
     }
 }
 
-// The containers, the histories and the numbers of buckets at opening of all stripes, moved out.
+// Moves the containers, the histories and the numbers of buckets at opening of all stripes to the three lists.
 fn move_out<C: Calls + Drop, M: Site<C::Hasher>>(
     stripes: Vec<CountedStripe<C, M>>,
     parts: &mut Vec<C>,
@@ -249,14 +250,15 @@ fn move_out<C: Calls + Drop, M: Site<C::Hasher>>(
 /// Why a run was not finished.
 #[derive(Clone, Copy, Debug, PartialEq, Error)]
 pub enum FinishError {
-    /// The passes aren't all that were handed out, each once.
+    /// The passes are not all that were handed out, each once.
     #[error("a pass is missing")]
     Missing,
-    /// The key of that record doesn't route to that stripe. It is the first such, by stripe and then by index.
+    /// The key of the call at `index` of the history of `stripe` doesn't route to this stripe. It is the first such
+    /// call, by stripe and then by index.
     #[error("misrouted record")]
     Misrouted { stripe: usize, index: usize },
-    /// That receipt of that pass and that call record of its number differ, or one of them is missing. It is the first
-    /// such, by pass and then by receipt.
+    /// Receipt number `receipt` of pass `pass` differs from call record number `receipt` of this pass, or one of them
+    /// is missing. It is the first such receipt, by pass and then by receipt.
     #[error("receipt disagrees")]
     Disagrees { pass: usize, receipt: usize },
     /// Memory for a list was refused.

@@ -1,4 +1,4 @@
-//! Containers in parts behind locks, whose calls are recorded, and what their histories prove at the end.
+//! Containers in stripes behind locks, whose calls are recorded, and what their histories prove at the end.
 #![tactic(auto)]
 
 ghost use Rattle.scc_calls.specs.Copies.{ClonesEqual, MayNotClone};
@@ -35,8 +35,8 @@ use std::sync::{Mutex, Wait};
 
 /// A container in stripes, each behind a lock with its history. Threads share it by reference.
 ///
-/// L is the ledger of the receipts, in one part for each pass; M that of the call records, in one part for each stripe,
-/// and it names what the stripes were made for.
+/// `L` is the ledger of the receipts, in one part for each pass. `M` is the ledger of the call records, in one part
+/// for each stripe; it names the request for which the stripes were made.
 #[derive(Drop)]
 pub struct Recorded<C: Calls, L: Ledger, M: Site<C::Hasher>> {
     /// The number of stripes.
@@ -67,7 +67,7 @@ pub(crate) struct LockedStripe<C: Calls, M: Site<C::Hasher>> {
 }
 
 impl<C: Calls, M: Site<C::Hasher>> LockedStripe<C, M> {
-    // One step of the stripe, whose receipt bears this number.
+    // Makes one recorded call on the stripe. The receipt has the number of the stripe.
     pub(crate) fn call_locked<L: Ledger, R: Wait>(
         &self,
         rt: &R,
@@ -96,7 +96,7 @@ impl<C: Calls, M: Site<C::Hasher>> LockedStripe<C, M> {
 }
 
 impl<C: Calls, L: Ledger, M: Site<C::Hasher>> Recorded<C, L, M> {
-    // The stripe of that number.
+    // Returns stripe `i`.
     pub(crate) fn locked_stripe(&self, i: usize) -> &LockedStripe<C, M>
         requires { i < self.now.stripes }
         ensures { result.now.number ≡ i }
@@ -104,12 +104,12 @@ impl<C: Calls, L: Ledger, M: Site<C::Hasher>> Recorded<C, L, M> {
         &self.locks[i]
     }
 
-    /// Makes a call with a key, in the stripe of its key, whose number its receipt bears. Any thread may call it, and
-    /// may wait for that stripe's lock.
+    /// Makes a call with a key on the stripe of its key. The receipt has the number of this stripe. Any thread may
+    /// call it, and may wait for the lock of the stripe.
     ///
-    /// `Room` comes where memory for the record or the receipt was refused, or no stamp is left; then nothing was
-    /// touched. `Container` comes only if the container may refuse the call for memory, or a clone of its reply may be
-    /// refused.
+    /// Fails with `Room` if memory for the record, the receipt or a clone of the call is refused, or if no stamp is
+    /// left; then nothing changed. Fails with `Container` only if the container may refuse the call for memory, or if
+    /// a clone of its reply may be refused.
     pub fn call<R: Wait>(
         &self,
         rt: &R,

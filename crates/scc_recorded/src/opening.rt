@@ -1,4 +1,4 @@
-//! Recorded containers are opened.
+//! How a recorded container is opened.
 ghost use Rattle.scc_recorded.specs.Setups.{IsStripes, request_of};
 ghost use Rattle.std.specs.List.{AllByRecursion, range_with_len};
 ghost use Rattle.std.specs.Prelude.{◌≡◌, ◌+◌, ◌<◌, ◌≤◌, [], IfOk, Some, map, vec_len};
@@ -18,10 +18,10 @@ impl<C: Calls + Drop, L: Ledger, M: Site<C::Hasher>> Recorded<C, L, M>
 where
     C::Hasher: CloneOwner + Drop,
 {
-    /// An empty container in so many stripes, and the passes of those who may call it, numbered from 0.
+    /// Returns an empty container in `stripes` stripes, and `passes` passes, numbered from 0.
     ///
-    /// The slots and the maximum are divided evenly among the stripes. Fails where memory is refused, or the hasher
-    /// can't be shared once more.
+    /// The slots and the maximum are divided evenly among the stripes. Fails if memory is refused, or if the hasher
+    /// can't be shared with one more owner.
     pub fn open(
         alloc: Global,
         setup: Setup<C::Hasher>,
@@ -75,7 +75,7 @@ where
     }
 }
 
-// So many passes of nothing, numbered from 0.
+// Returns `passes` passes without receipts, numbered from 0. Fails if memory is refused.
 fn pass_all<C: Calls, L: Ledger>(
     alloc: Global,
     passes: usize,
@@ -96,7 +96,8 @@ fn pass_all<C: Calls, L: Ledger>(
     Ok(handed)
 }
 
-// So many empty stripes, each behind a lock.
+// Returns `stripes` empty stripes, each behind a lock. Fails if memory is refused, or if the hasher can't be shared
+// with one more owner.
 fn lock_all<C: Calls + Drop, M: Site<C::Hasher>>(
     alloc: Global,
     skipped: u32,

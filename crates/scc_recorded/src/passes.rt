@@ -6,7 +6,7 @@ use scc_history::{Log, Receipt};
 use std::alloc::Global;
 use std::sync::ledger::{Ledger, Share};
 
-/// The right to call a recorded container, with the receipts of the calls that were made by it.
+/// The right to call a recorded container, with the receipts of the calls that were made with it.
 #[derive(Drop)]
 pub struct Pass<C: Calls, L: Ledger> {
     pub log: Log<C>,
@@ -16,28 +16,28 @@ pub struct Pass<C: Calls, L: Ledger> {
 }
 
 impl<C: Calls, L: Ledger> Pass<C, L> {
-    /// Its number among the passes that were handed out with it, from 0.
+    /// Returns the number of the pass among the passes that were handed out with it, from 0.
     pub fn number(&self) -> usize
         ensures { result ≡ self.now.log.number }
     {
         self.log.number
     }
 
-    /// The greatest stamp that it knows of. Its next call gets a greater one.
+    /// Returns the greatest stamp that the pass knows of. Its next call gets a greater stamp.
     pub fn clock(&self) -> u64
         ensures { result ≡ self.now.log.clock }
     {
         self.log.clock
     }
 
-    /// The receipts of its calls, in their order.
+    /// Returns the receipts of the pass, in the order of its calls.
     pub fn receipts(&self) -> &[Receipt<C::Call, C::Reply>]
         ensures { result.now ≡ self.now.log.receipts.items }
     {
         self.log.receipts.as_slice()
     }
 
-    /// Later calls of this pass get stamps above all that the other knows of.
+    /// Raises the clock, so that later calls of this pass get stamps above all that `other` knows of.
     pub fn told(&mut self, other: &Pass<C, L>)
         ensures clock { self.new.log.clock ≡ max self.old.log.clock other.now.log.clock }
         ensures same { (self.new.log.number ≡ self.old.log.number)
@@ -46,7 +46,7 @@ impl<C: Calls, L: Ledger> Pass<C, L> {
         self.log.told(&other.log);
     }
 
-    // A pass of nothing, which takes one part of the ledger.
+    // Returns a pass without receipts, which takes one part of the ledger from `all`.
     pub(crate) fn open(alloc: Global, number: usize, all: &mut Share<L>) -> Pass<C, L>
         requires part { (0 < all.old.parts) × (all.old.amount ≡ 0) }
         ensures log { (result.log.number ≡ number) × (result.log.clock ≡ 0) × (result.log.receipts.items ≡ []) }

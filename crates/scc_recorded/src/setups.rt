@@ -1,4 +1,4 @@
-//! What a recorded container is made with, and what its stripes were made for.
+//! What a recorded container is made with, and the request that its stripes are made for.
 ghost use Rattle.scc_calls.specs.declared.fixed.Request.{Request};
 ghost use Rattle.scc_recorded.specs.Setups.{IsStripes, skipped_for, share_among};
 ghost use Rattle.std.specs.Prelude.{◌≡◌, ◌≤◌, ◌<◌, ℕ, None, Option};
@@ -10,14 +10,14 @@ use std::sync::ledger::Ledger;
 /// What a recorded container is made with.
 #[derive(Drop)]
 pub struct Setup<H> {
-    /// So many slots at least in all stripes together; no array for 0.
+    /// The least number of slots in all stripes together; 0 for no array.
     pub capacity: usize,
-    /// The slots above which a cache shouldn't grow, in all stripes together. The other kinds don't look at it.
+    /// The number of slots above which a cache shouldn't grow, in all stripes together. The other kinds don't use it.
     pub maximum: usize,
     pub hasher: H,
 }
 
-// How many first bits of a hash pick one of so many stripes.
+// Returns how many first bits of a hash name one of `stripes` stripes.
 pub(crate) fn bits_among(stripes: usize) -> u32
     requires { IsStripes stripes }
     ensures bits { result ≡ skipped_for stripes }
@@ -32,7 +32,7 @@ pub(crate) fn bits_among(stripes: usize) -> u32
     }
 }
 
-// The share of one stripe, rounded up.
+// Returns the share of one stripe in `slots`, rounded up.
 pub(crate) fn share_among(slots: usize, stripes: usize) -> usize
     requires { 0 < stripes }
     ensures { result ≡ share_among slots stripes }
@@ -45,7 +45,7 @@ pub(crate) fn share_among(slots: usize, stripes: usize) -> usize
     }
 }
 
-/// A ledger of stripes that were all made for one request. Who opens them chooses it.
+/// A ledger of stripes that are all made for one request. Whoever opens the stripes chooses the request.
 pub trait Site<H>: Ledger {
     ghost chosen: { Option (Request H) };
 

@@ -1,4 +1,4 @@
-//! Calls of every stripe, one after another.
+//! Calls on every stripe, one after another.
 ghost use Rattle.scc_calls.specs.Copies.{ClonesEqual};
 ghost use Rattle.scc_recorded.specs.Adds.{Adds, IsOf, number_of};
 ghost use Rattle.std.specs.List.{sum_by};
@@ -13,10 +13,10 @@ use std::sync::Wait;
 use std::sync::ledger::Ledger;
 
 impl<C: WholeCalls, L: Ledger, M: Site<C::Hasher>> Recorded<C, L, M> {
-    /// Clears all stripes, stripe 0 first, each with a call, a stamp and a receipt of its own.
+    /// Clears all stripes, stripe 0 first. Each stripe has a call, a stamp and a receipt of its own.
     ///
-    /// The only error is `Room`, where a stripe has no room for the record or the receipt, or no stamp is left; then
-    /// those before it are cleared and recorded, and their receipts stand in the pass.
+    /// Fails only with `Room`: if memory for a record, a receipt or a clone of the call is refused, or if no stamp is
+    /// left. Then the stripes that were called before are cleared and recorded, and their receipts are in the pass.
     pub fn clear<R: Wait>(&self, rt: &R, pass: &mut Pass<C, L>) -> Result<(), CallError>
         requires calls { ClonesEqual C.Call.is_clone C.Call.eq }
         requires replies { ClonesEqual C.Reply.is_clone C.Reply.eq }
@@ -37,11 +37,11 @@ impl<C: WholeCalls, L: Ledger, M: Site<C::Hasher>> Recorded<C, L, M> {
         Ok(())
     }
 
-    /// The sum of the entries that the stripes hold, counted one after another, each with a call, a stamp and a receipt
-    /// of its own. It stops at the greatest number.
+    /// Returns the sum of the entries of all stripes, at most `usize::MAX`. The stripes are counted one after another;
+    /// each has a call, a stamp and a receipt of its own.
     ///
-    /// The only error is `Room`, where a stripe has no room for the record or the receipt, or no stamp is left; then
-    /// those before it are counted and recorded, and their receipts stand in the pass.
+    /// Fails only with `Room`: if memory for a record, a receipt or a clone of the call is refused, or if no stamp is
+    /// left. Then the stripes that were called before are counted and recorded, and their receipts are in the pass.
     pub fn len<R: Wait>(&self, rt: &R, pass: &mut Pass<C, L>) -> Result<usize, CallError>
         requires calls { ClonesEqual C.Call.is_clone C.Call.eq }
         requires replies { ClonesEqual C.Reply.is_clone C.Reply.eq }
@@ -67,7 +67,7 @@ impl<C: WholeCalls, L: Ledger, M: Site<C::Hasher>> Recorded<C, L, M> {
     }
 }
 
-// The sum of the numbers that replies tell.
+// Returns the sum of the numbers in the replies of `receipts`, at most `usize::MAX`.
 fn sum_of<C: WholeCalls>(receipts: &[Receipt<C::Call, C::Reply>]) -> usize
     ensures { result ≡ min 18446744073709551615 (sum_by (λ r. number_of (C.counted r.reply)) receipts.now) }
 {

@@ -1,7 +1,7 @@
-//! Reads a script of calls from standard input, makes them on the container that it names, and writes what they
-//! answered.
+//! Reads a script of calls from standard input, makes the calls on the container that the script names, and writes
+//! their replies.
 //!
-//! The process ends with the status that [`play`] answers. Where what was recorded isn't what the script has, a line on
+//! The process ends with the status that [`play`] returns. If what was recorded is not what the script has, a line on
 //! standard error says so.
 #![tactic(auto)]
 

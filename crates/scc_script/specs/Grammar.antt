@@ -1,5 +1,5 @@
--- The grammar of a script: what a line means, and what the whole text means.
--- A text is a list of bytes. Its lines stand between line feeds, and a line's fields between spaces.
+-- The grammar of a script: what a line means, and what the whole text means. A text is a list of bytes. Line feeds
+-- separate its lines, and spaces separate the fields of a line.
 use Rattle.std.specs.Prelude.{ℕ, ◌+◌, ◌^◌, ◌==◌, ◌&&◌, ◌||◌, ◌≡◌, ◌≤◌, ◌<◌, ◌⊎◌, Bool, true, false, cond, List, [], ◌∷◌, ◌++◌, map, Option, Some, None, Result, Ok, Err, codes, length, nat_lt}
 use Rattle.std.specs.List.{slice_split, list_all}
 use Rattle.std.specs.Char.{is_ascii_digit}
@@ -19,7 +19,7 @@ use Rattle.scc_script.specs.declared.line.Kind.{Kind}
 use Rattle.scc_script.specs.declared.line.Kind.TheVariants.{Map, Set, Index, Cache}
 use Rattle.scc_script.specs.declared.line.WorkerCall.{WorkerCall}
 
--- what a kind calls its calls: those without an argument, those with a key, those with a key and a value
+-- the names of a kind's calls: of calls without an argument, with a key, and with a key and a value
 pub record Names (C : Type 0) : Type 0 where
   pub bare : List ℕ → Option C
   pub keyed : List ℕ → ℕ → Option C
@@ -31,15 +31,15 @@ parts byte text = slice_split (λ b. b == byte) text
 
 -- Numbers
 
--- one or more digits, of a value that 64 bits hold
+-- one or more digits, with a value that 64 bits hold
 abbrev pub is_number : List ℕ → Bool
 is_number field = nat_lt 0 (length field) && (list_all is_ascii_digit field && nat_lt (digits_value 10 field) (2 ^ 64))
 
--- the number that a field is written for, if it is one
+-- the number that a field is written for, if it is a number
 abbrev pub number_of : List ℕ → Option ℕ
 number_of field = cond (is_number field) (Some (digits_value 10 field)) None
 
--- what follows from a value, where there is one
+-- what follows from a value, if there is a value
 abbrev pub if_there : {A C : Type 0} → Option A → (A → Option C) → Option C
 if_there None f = None
 if_there (Some x) f = f x
@@ -53,7 +53,7 @@ either len clear name =
     (cond (bytes_eq name (codes "clear")) (Some clear)
     None)
 
--- a map's call of that name with a key
+-- the map call of this name with a key
 abbrev pub map_keyed : List ℕ → ℕ → Option (MapCall ℕ ℕ)
 map_keyed name key =
     cond (bytes_eq name (codes "read")) (Some (map_call.Read key))
@@ -62,7 +62,7 @@ map_keyed name key =
     (cond (bytes_eq name (codes "replace")) (Some (map_call.Replace key))
     None)))
 
--- a map's call of that name with a key and a value
+-- the map call of this name with a key and a value
 abbrev pub map_paired : List ℕ → ℕ → ℕ → Option (MapCall ℕ ℕ)
 map_paired name key value =
     cond (bytes_eq name (codes "insert")) (Some (map_call.Insert key value))
@@ -73,7 +73,7 @@ map_paired name key value =
 abbrev pub map_names : Names (MapCall ℕ ℕ)
 map_names = record { bare = either map_call.Len map_call.Clear; keyed = map_keyed; paired = map_paired }
 
--- a set's call of that name with a key
+-- the set call of this name with a key
 abbrev pub set_keyed : List ℕ → ℕ → Option (SetCall ℕ)
 set_keyed name key =
     cond (bytes_eq name (codes "insert")) (Some (set_call.Insert key))
@@ -87,7 +87,7 @@ set_keyed name key =
 abbrev pub set_names : Names (SetCall ℕ)
 set_names = record { bare = either set_call.Len set_call.Clear; keyed = set_keyed; paired = λ name key value. None }
 
--- an index's call of that name with a key
+-- the index call of this name with a key
 abbrev pub index_keyed : List ℕ → ℕ → Option (IndexCall ℕ ℕ)
 index_keyed name key =
     cond (bytes_eq name (codes "read")) (Some (index_call.Read key))
@@ -95,7 +95,7 @@ index_keyed name key =
     (cond (bytes_eq name (codes "remove")) (Some (index_call.Remove key))
     None))
 
--- an index's call of that name with a key and a value
+-- the index call of this name with a key and a value
 abbrev pub index_paired : List ℕ → ℕ → ℕ → Option (IndexCall ℕ ℕ)
 index_paired name key value =
     cond (bytes_eq name (codes "insert")) (Some (index_call.Insert key value))
@@ -106,7 +106,7 @@ index_paired name key value =
 abbrev pub index_names : Names (IndexCall ℕ ℕ)
 index_names = record { bare = either index_call.Len index_call.Clear; keyed = index_keyed; paired = index_paired }
 
--- a cache's call of that name with a key
+-- the cache call of this name with a key
 abbrev pub cache_keyed : List ℕ → ℕ → Option (CacheCall ℕ ℕ)
 cache_keyed name key =
     cond (bytes_eq name (codes "get")) (Some (cache_call.Get key))
@@ -116,7 +116,7 @@ cache_keyed name key =
     (cond (bytes_eq name (codes "replace")) (Some (cache_call.Replace key))
     None))))
 
--- a cache's call of that name with a key and a value
+-- the cache call of this name with a key and a value
 abbrev pub cache_paired : List ℕ → ℕ → ℕ → Option (CacheCall ℕ ℕ)
 cache_paired name key value =
     cond (bytes_eq name (codes "put")) (Some (cache_call.Put key value))
@@ -130,23 +130,23 @@ cache_names = record { bare = either cache_call.Len cache_call.Clear; keyed = ca
 -- Lines
 
 module _ {C : Type 0} (names : Names C) where
-  -- the arguments that stand behind a name: none, a key, or a key and a value
+  -- a call of this name, by the fields behind the name: no argument, a key, or a key and a value
   abbrev pub call_of_arguments : List ℕ → List (List ℕ) → Option C
   call_of_arguments name [] = names.bare name
   call_of_arguments name (key ∷ []) = if_there (number_of key) (λ k. names.keyed name k)
   call_of_arguments name (key ∷ value ∷ []) = if_there (number_of key) (λ k. if_there (number_of value) (λ v. names.paired name k v))
   call_of_arguments name (key ∷ value ∷ extra ∷ more) = None
 
-  -- a name and its arguments
+  -- a call, by the fields of its name and its arguments
   abbrev pub call_of_name : List (List ℕ) → Option C
   call_of_name [] = None
   call_of_name (name ∷ arguments) = call_of_arguments name arguments
 
-  -- a call of this worker, one of so many
+  -- a call of this worker, if the worker is below `workers`
   abbrev pub call_by : ℕ → ℕ → List (List ℕ) → Option (WorkerCall C)
   call_by workers worker call = cond (nat_lt worker workers) (if_there (call_of_name call) (λ c. Some (record { worker = worker; call = c }))) None
 
-  -- a call's line is a worker, one of so many, a name and arguments
+  -- a call's line: a worker below `workers`, a name and arguments
   abbrev pub call_of_fields : ℕ → List (List ℕ) → Option (WorkerCall C)
   call_of_fields workers [] = None
   call_of_fields workers (worker ∷ call) = if_there (number_of worker) (λ w. call_by workers w call)
@@ -164,24 +164,24 @@ kind_of_name name =
     (cond (bytes_eq name (codes "cache")) (Some Cache)
     None)))
 
--- so many workers: 1 to 16
+-- a number of workers that is allowed: 1 to 16
 abbrev pub is_crew : ℕ → Bool
 is_crew workers = nat_lt 0 workers && nat_lt workers 17
 
--- so many stripes: 1, 2, 4, 8 or 16, and of a cache 4 at most
+-- a number of stripes that is allowed: 1, 2, 4, 8 or 16, and at most 4 for a cache
 abbrev pub is_division : Kind → ℕ → Bool
 is_division Cache stripes = (stripes == 1) || ((stripes == 2) || (stripes == 4))
 is_division kind stripes = (stripes == 1) || ((stripes == 2) || ((stripes == 4) || ((stripes == 8) || (stripes == 16))))
 
--- the same as facts
+-- a number of workers that is allowed, as a fact
 abbrev pub IsCrew : ℕ → Type 0
 IsCrew workers = (0 < workers) × (workers ≤ 16)
 
--- into how many stripes a container may be divided
+-- a number of stripes that is allowed for some kind, as a fact
 abbrev pub IsDivision : ℕ → Type 0
 IsDivision stripes = (stripes ≡ 1) ⊎ (stripes ≡ 2) ⊎ (stripes ≡ 4) ⊎ (stripes ≡ 8) ⊎ (stripes ≡ 16)
 
--- the first line of a script, where its numbers are allowed
+-- the header of this kind and these numbers, if the numbers are allowed
 abbrev pub header_of_numbers : Kind → ℕ → ℕ → Option Header
 header_of_numbers kind workers stripes = cond (is_crew workers && is_division kind stripes) (Some (record { kind = kind; workers = workers; stripes = stripes })) None
 
@@ -193,36 +193,38 @@ header_of_fields (kind ∷ workers ∷ []) = None
 header_of_fields (kind ∷ workers ∷ stripes ∷ []) = if_there (kind_of_name kind) (λ k. if_there (number_of workers) (λ w. if_there (number_of stripes) (λ s. header_of_numbers k w s)))
 header_of_fields (kind ∷ workers ∷ stripes ∷ extra ∷ more) = None
 
--- the first line of a script, where it is one
+-- the header that a line means, if it is a header
 abbrev pub header_of_line : List ℕ → Option Header
 header_of_line line = header_of_fields (parts 32 line)
 
 -- The whole text
 
--- the parts of a text without an empty one behind its last line feed
+-- the parts of a text, without an empty part behind its last line feed
 abbrev pub without_end : List (List ℕ) → List (List ℕ)
 without_end [] = []
 without_end ([] ∷ []) = []
 without_end ((b ∷ bs) ∷ []) = (b ∷ bs) ∷ []
 without_end (part ∷ next ∷ more) = part ∷ without_end (next ∷ more)
 
--- the lines of a text: each ends with a line feed or with the text, and one carriage return before that is not part of it
+-- the lines of a text: each ends with a line feed or with the text, and one carriage return before that end is not
+-- part of the line
 unfoldable pub lines_of : List ℕ → List (List ℕ)
 lines_of text = map strip_carriage_return (without_end (parts 10 text))
 
 module _ {C : Type 0} where
-  -- `done` calls, and then what follows
+  -- the calls `done`, and then the calls that follow, or the bad line that follows
   abbrev pub after_calls : List C → Result (List C) ℕ → Result (List C) ℕ
   after_calls done (Ok more) = Ok (done ++ more)
   after_calls done (Err number) = Err number
 
-  -- the line of this number, read as a call, and then what follows it
+  -- the line of this number, read as a call, and then what follows the line
   abbrev pub first_then : Option C → ℕ → Result (List C) ℕ → Result (List C) ℕ
   first_then None number rest = Err number
   first_then (Some call) number rest = after_calls (call ∷ []) rest
 
 module _ {C : Type 0} (names : Names C) (workers : ℕ) where
-  -- the lines from this number on, as calls of so many workers in their order or the number of the first bad one: an empty one is no call and not bad
+  -- the lines from this number on, as calls of `workers` workers in their order, or the number of the first bad line.
+  -- An empty line is no call and not bad
   abbrev pub calls_of_lines : ℕ → List (List ℕ) → Result (List (WorkerCall C)) ℕ
   calls_of_lines number [] = Ok []
   calls_of_lines number ([] ∷ lines) = calls_of_lines (number + 1) lines
@@ -248,7 +250,7 @@ meaning_of_kind Set workers stripes lines = meaning_by (set_calls workers stripe
 meaning_of_kind Index workers stripes lines = meaning_by (index_calls workers stripes) (calls_of_lines index_names workers 2 lines)
 meaning_of_kind Cache workers stripes lines = meaning_by (cache_calls workers stripes) (calls_of_lines cache_names workers 2 lines)
 
--- what the lines after the first mean, where that was one
+-- what the lines after the first line mean, if the first line is a header
 abbrev pub meaning_of_lines : Option Header → List (List ℕ) → Meaning
 meaning_of_lines None lines = bad_line 1
 meaning_of_lines (Some h) lines = meaning_of_kind h.kind h.workers h.stripes lines

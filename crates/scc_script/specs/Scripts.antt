@@ -1,4 +1,4 @@
--- What the parser's answer says of a script.
+-- What the parser's result says of a script.
 use Rattle.std.specs.Prelude.{ℕ, List, Result, Ok, Err}
 use Rattle.scc_script.specs.Grammar.{IsCrew, IsDivision, Meaning, map_calls, set_calls, index_calls, cache_calls, bad_line}
 use Rattle.scc_script.specs.declared.line.WorkerCall.{WorkerCall}
@@ -20,7 +20,7 @@ meaning_of (Index workers stripes calls) = index_calls workers stripes calls.ite
 meaning_of (Cache workers stripes calls) = cache_calls workers stripes calls.items
 meaning_of (BadLine number) = bad_line number
 
--- a good script has lawful numbers of workers and of stripes
+-- a script without a bad line has allowed numbers of workers and of stripes
 abbrev pub HasCrew : Script → Type 0
 HasCrew (Map workers stripes calls) = IsCrew workers × IsDivision stripes
 HasCrew (Set workers stripes calls) = IsCrew workers × IsDivision stripes

@@ -2,9 +2,9 @@
 ghost use Rattle.std.specs.Prelude.{◌≡◌, ◌<◌, ◌∷◌, [], MatchOption, length};
 ghost use Rattle.scc_script.specs.Grammar.{parts};
 
-/// The text before the first `byte` and the text after it, or `None` where there is no such byte.
+/// Returns the text before the first `byte` and the text after it, or `None` if `text` has no such byte.
 ///
-/// The parts of `text` are then the first of the two and the parts of the second, or `text` alone.
+/// The parts of `text` are the first text and the parts of the second, or `text` alone if it has no such byte.
 pub fn cut_at(text: &[u8], byte: u8) -> Option<(&[u8], &[u8])>
     ensures parts { MatchOption result (parts byte text.now ≡ text.now ∷ [])
         (λ cut. parts byte text.now ≡ cut.0.now ∷ parts byte cut.1.now) }

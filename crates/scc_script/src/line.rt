@@ -23,14 +23,14 @@ pub struct Header {
     pub stripes: usize,
 }
 
-/// A call, and who makes it.
+/// A call, and the worker that makes it.
 #[derive(Clone, Copy, Debug, PartialEq)]
 pub struct WorkerCall<C> {
     pub worker: usize,
     pub call: C,
 }
 
-// The call of this name whose arguments are the fields of `arguments`.
+// Returns the call named `name` whose arguments are the fields of `arguments`, or `None` if there is no such call.
 fn call_with<C: Named>(name: &[u8], arguments: &[u8]) -> Option<C>
     ensures { result ≡ call_of_arguments C.names name.now (parts 32 arguments.now) }
 {
@@ -43,7 +43,7 @@ fn call_with<C: Named>(name: &[u8], arguments: &[u8]) -> Option<C>
     }
 }
 
-// The call whose name and arguments are the fields of `text`.
+// Returns the call whose name and arguments are the fields of `text`, or `None` if there is no such call.
 fn named_call<C: Named>(text: &[u8]) -> Option<C>
     ensures { result ≡ call_of_name C.names (parts 32 text.now) }
 {
@@ -53,10 +53,11 @@ fn named_call<C: Named>(text: &[u8]) -> Option<C>
     }
 }
 
-/// The call that a line means: one of so many workers, a call's name and exactly its arguments, one space between two
-/// fields.
+/// Returns the call that `line` means: a worker below `workers`, a call's name and exactly its arguments, with one
+/// space between two fields.
 ///
-/// `None` where the line is no such call. The line has neither its line feed nor the carriage return before that.
+/// Returns `None` if the line is no such call. The line has neither its line feed nor the carriage return before the
+/// line feed.
 pub fn parse_line<C: Named>(line: &[u8], workers: usize) -> Option<WorkerCall<C>>
     ensures { result ≡ call_of_line C.names workers line.now }
 {
@@ -72,7 +73,7 @@ pub fn parse_line<C: Named>(line: &[u8], workers: usize) -> Option<WorkerCall<C>
     }
 }
 
-// The kind of this name.
+// Returns the kind named `name`, or `None` if there is no such kind.
 fn kind_named(name: &[u8]) -> Option<Kind>
     ensures { result ≡ kind_of_name name.now }
 {
@@ -89,7 +90,7 @@ fn kind_named(name: &[u8]) -> Option<Kind>
     }
 }
 
-// Whether a container of the kind may have so many stripes.
+// Returns whether a container of the kind may have `stripes` stripes.
 fn may_divide(kind: Kind, stripes: usize) -> bool
     ensures value { result ≡ is_division kind stripes }
     ensures some { IsTrue result → IsDivision stripes }
@@ -100,7 +101,7 @@ fn may_divide(kind: Kind, stripes: usize) -> bool
     }
 }
 
-// The header of these three, where there may be so many workers and stripes.
+// Returns the header of this kind and these numbers, or `None` if the numbers are not allowed.
 fn header_with(kind: Kind, workers: usize, stripes: usize) -> Option<Header>
     ensures value { result ≡ header_of_numbers kind workers stripes }
     ensures crew { IfSome result (λ h. IsCrew h.workers × IsDivision h.stripes) }
@@ -116,8 +117,8 @@ fn header_with(kind: Kind, workers: usize, stripes: usize) -> Option<Header>
     }
 }
 
-/// The kind that a script's first line names, with its numbers of workers and of stripes; `None` where it is no such
-/// line.
+/// Returns the kind that a script's first line names, with its numbers of workers and of stripes. Returns `None` if
+/// `line` is no such line.
 pub fn parse_header(line: &[u8]) -> Option<Header>
     ensures value { result ≡ header_of_line line.now }
     ensures crew { IfSome result (λ h. IsCrew h.workers × IsDivision h.stripes) }

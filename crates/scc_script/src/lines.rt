@@ -5,7 +5,7 @@ ghost use Rattle.scc_script.specs.Grammar.{lines_of};
 
 use crate::fields::cut_at;
 
-/// The line without its last byte, where that is a carriage return.
+/// Returns the line without its last byte if that is a carriage return, else the line.
 pub fn without_return(line: &[u8]) -> &[u8]
     ensures { result.now ≡ strip_carriage_return line.now }
 {
@@ -15,10 +15,10 @@ pub fn without_return(line: &[u8]) -> &[u8]
     }
 }
 
-/// The first line of a text that has a byte, and the text behind it.
+/// Returns the first line of `text`, and the text behind it. `text` must have a byte.
 ///
-/// The line ends with a line feed or with the text; that line feed, and one carriage return before the end, aren't
-/// part of it.
+/// The line ends with a line feed or with the text. Neither the line feed nor one carriage return before the end is
+/// part of the line.
 pub fn first_line(text: &[u8]) -> (&[u8], &[u8])
     requires { 0 < length text.now }
     ensures lines { lines_of text.now ≡ result.0.now ∷ lines_of result.1.now }

@@ -1,4 +1,4 @@
-//! What each kind of container calls its calls in a script.
+//! The names of the calls of each kind in a script.
 ghost use Rattle.std.specs.Prelude.{◌≡◌, ℕ};
 ghost use Rattle.scc_script.specs.Grammar.{Names, either, map_keyed, map_paired, set_keyed, index_keyed, index_paired, cache_keyed, cache_paired};
 
@@ -9,20 +9,21 @@ pub trait Named: Copy {
     // The names of the calls.
     ghost names: { Names Self };
 
-    /// The call of this name that takes no argument.
+    /// Returns the call named `name` that takes no argument, or `None` if there is none.
     fn bare(name: &[u8]) -> Option<Self>
         ensures { result ≡ names.bare name.now };
 
-    /// The call of this name that takes a key.
+    /// Returns the call named `name` that takes a key, or `None` if there is none.
     fn keyed(name: &[u8], key: u64) -> Option<Self>
         ensures { result ≡ names.keyed name.now key };
 
-    /// The call of this name that takes a key and a value.
+    /// Returns the call named `name` that takes a key and a value, or `None` if there is none.
     fn paired(name: &[u8], key: u64, value: u64) -> Option<Self>
         ensures { result ≡ names.paired name.now key value };
 }
 
-// One of the two calls without an argument that all kinds have.
+// Returns the one of `len` and `clear` that `name` names, or `None`. All kinds have these two calls without an
+// argument.
 fn either_call<C: Copy>(name: &[u8], len: C, clear: C) -> Option<C>
     ensures { result ≡ either len clear name.now }
 {
@@ -35,7 +36,7 @@ fn either_call<C: Copy>(name: &[u8], len: C, clear: C) -> Option<C>
     }
 }
 
-// The call of a map that takes a key.
+// Returns the map call named `name` that takes a key, or `None` if there is none.
 fn map_call_at(name: &[u8], key: u64) -> Option<MapCall<u64, u64>>
     ensures { result ≡ map_keyed name.now key }
 {
@@ -52,7 +53,7 @@ fn map_call_at(name: &[u8], key: u64) -> Option<MapCall<u64, u64>>
     }
 }
 
-// The call of a map that takes a key and a value.
+// Returns the map call named `name` that takes a key and a value, or `None` if there is none.
 fn map_call_of(name: &[u8], key: u64, value: u64) -> Option<MapCall<u64, u64>>
     ensures { result ≡ map_paired name.now key value }
 {
@@ -65,7 +66,7 @@ fn map_call_of(name: &[u8], key: u64, value: u64) -> Option<MapCall<u64, u64>>
     }
 }
 
-// The call of a set that takes a key.
+// Returns the set call named `name` that takes a key, or `None` if there is none.
 fn set_call_at(name: &[u8], key: u64) -> Option<SetCall<u64>>
     ensures { result ≡ set_keyed name.now key }
 {
@@ -84,7 +85,7 @@ fn set_call_at(name: &[u8], key: u64) -> Option<SetCall<u64>>
     }
 }
 
-// The call of an index that takes a key.
+// Returns the index call named `name` that takes a key, or `None` if there is none.
 fn index_call_at(name: &[u8], key: u64) -> Option<IndexCall<u64, u64>>
     ensures { result ≡ index_keyed name.now key }
 {
@@ -99,7 +100,7 @@ fn index_call_at(name: &[u8], key: u64) -> Option<IndexCall<u64, u64>>
     }
 }
 
-// The call of an index that takes a key and a value.
+// Returns the index call named `name` that takes a key and a value, or `None` if there is none.
 fn index_call_of(name: &[u8], key: u64, value: u64) -> Option<IndexCall<u64, u64>>
     ensures { result ≡ index_paired name.now key value }
 {
@@ -112,7 +113,7 @@ fn index_call_of(name: &[u8], key: u64, value: u64) -> Option<IndexCall<u64, u64
     }
 }
 
-// The call of a cache that takes a key.
+// Returns the cache call named `name` that takes a key, or `None` if there is none.
 fn cache_call_at(name: &[u8], key: u64) -> Option<CacheCall<u64, u64>>
     ensures { result ≡ cache_keyed name.now key }
 {
@@ -131,7 +132,7 @@ fn cache_call_at(name: &[u8], key: u64) -> Option<CacheCall<u64, u64>>
     }
 }
 
-// The call of a cache that takes a key and a value.
+// Returns the cache call named `name` that takes a key and a value, or `None` if there is none.
 fn cache_call_of(name: &[u8], key: u64, value: u64) -> Option<CacheCall<u64, u64>>
     ensures { result ≡ cache_paired name.now key value }
 {

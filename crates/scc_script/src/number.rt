@@ -2,9 +2,10 @@
 ghost use Rattle.std.specs.Prelude.{◌≡◌};
 ghost use Rattle.scc_script.specs.Grammar.{number_of};
 
-/// The number that `field` is written for: one or more ASCII digits, leading zeros among them, and nothing else.
+/// Returns the number that `field` is written for: one or more ASCII digits and nothing else. Leading zeros are
+/// allowed.
 ///
-/// `None` where `field` has no digit, has another byte, or stands for more than the greatest `u64`.
+/// Returns `None` if `field` has no digit, has another byte, or stands for more than the greatest `u64`.
 pub fn parse_number(field: &[u8]) -> Option<u64>
     ensures { result ≡ number_of field.now }
 {

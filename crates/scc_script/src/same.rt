@@ -1,13 +1,14 @@
-//! A hash that is the key itself, so that a script decides where its keys go.
+//! A hash that is the key itself, so that a script decides to which bucket and stripe its keys go.
 ghost use Rattle.scc_script.specs.Hashes.{same_write};
 
 use std::hash::{BuildHasher, Hasher};
 
-/// Builds hashers by which a `u64` is its own hash.
+/// Builds hashers under which a `u64` is its own hash.
 #[derive(Clone, Copy, Debug, PartialEq)]
 pub struct Same;
 
-/// Finishes with the bytes of the last write of exactly eight bytes, as a native `u64`; with 0 where there was none.
+/// A hasher that finishes with the bytes of the last write of exactly eight bytes, as a native `u64`, or with 0 if
+/// there was no such write.
 #[derive(Clone, Copy, Debug, PartialEq)]
 pub struct SameHasher {
     last: u64,

@@ -9,16 +9,16 @@ use crate::names::Named;
 use scc_calls::{CacheCall, IndexCall, MapCall, SetCall};
 use std::alloc::{AllocError, Global};
 
-/// What a script is.
+/// What a script is, once it is read.
 #[derive(Drop)]
 pub enum Script {
     /// Every line is good: the numbers of workers and of stripes, and the calls of a map in their order.
     Map(usize, usize, Vec<WorkerCall<MapCall<u64, u64>>>),
-    /// The same of a set.
+    /// As `Map`, with the calls of a set.
     Set(usize, usize, Vec<WorkerCall<SetCall<u64>>>),
-    /// The same of an index.
+    /// As `Map`, with the calls of an index.
     Index(usize, usize, Vec<WorkerCall<IndexCall<u64, u64>>>),
-    /// The same of a cache.
+    /// As `Map`, with the calls of a cache.
     Cache(usize, usize, Vec<WorkerCall<CacheCall<u64, u64>>>),
     /// The number of the first line that isn't in the grammar, counted from 1.
     BadLine(usize),
@@ -31,7 +31,8 @@ enum Lines<C> {
     BadLine(usize),
 }
 
-// The calls of the lines of `text`, whose first has the number 2, by so many workers.
+// Returns the calls of the lines of `text`, whose first line has the number 2, by `workers` workers. Fails if memory
+// is refused.
 fn parse_calls<C: Named>(alloc: Global, workers: usize, text: &[u8]) -> Result<Lines<C>, AllocError>
     ensures { IfOk result (λ lines. calls_or_line lines ≡ calls_of_lines C.names workers 2 (lines_of text.now)) }
 {
@@ -52,7 +53,7 @@ fn parse_calls<C: Named>(alloc: Global, workers: usize, text: &[u8]) -> Result<L
     Ok(Lines::Calls(calls))
 }
 
-// What the lines behind the header are.
+// Returns what the lines behind the header are. Fails if memory is refused.
 fn parse_rest(alloc: Global, header: Header, rest: &[u8]) -> Result<Script, AllocError>
     requires { IsCrew header.workers × IsDivision header.stripes }
     ensures value { IfOk result (λ script. meaning_of script
@@ -83,7 +84,7 @@ fn parse_rest(alloc: Global, header: Header, rest: &[u8]) -> Result<Script, Allo
 
 /// Reads a script: a header, and then a call on each line that isn't empty.
 ///
-/// Answers the calls of all lines in their order, or the number of the first bad line; an error is want of memory.
+/// Returns the calls of all lines in their order, or the number of the first bad line. Fails if memory is refused.
 pub fn parse_script(alloc: Global, text: &[u8]) -> Result<Script, AllocError>
     ensures value { IfOk result (λ script. meaning_of script ≡ script_of text.now) }
     ensures crew { IfOk result HasCrew }

@@ -1,4 +1,4 @@
--- What the arguments of a replacement decide of its answer, whatever the stripe held.
+-- What the arguments of a replacement decide of its result, whatever the stripe held.
 use Rattle.std.specs.Prelude.{◌≡◌, Bool, true}
 use Rattle.std.specs.declared.cmp.PartialEq as eq
 use Rattle.std.specs.declared.hash.Hash as hash
@@ -11,7 +11,7 @@ use Rattle.scc_cache.specs.declared.held.HeldReplace.{HeldReplace}
 use Rattle.scc_cache.specs.declared.held.HeldReplace.TheVariants.{Replaced, NotReplaced}
 
 module _ {G N K V S T : Type 0} {d : guard.Ghosts G (Cached (K × V) S)} {g : eq.Ghosts K} {h : hash.Ghosts K} {b : builder.Ghosts S T} {w : hasher.Ghosts T} where
-  -- k is the key of the entry, and the old one equals it; or k is the key that the vacant entry has
+  -- k is the key of the entry, and the old key equals k; or k is the key of the vacant entry
   abbrev pub ReplacesEqual : (K → K → Bool) → K → HeldReplace G N K V S T d g h b w → Type 0
   ReplacesEqual same k (Replaced o old) = (same k old ≡ true) × ((occupied_pair o).0 ≡ k)
   ReplacesEqual same k (NotReplaced e) = e.key ≡ k

@@ -1,5 +1,5 @@
-//! The calls on one key. Each states what its arguments decide; what it does to the stripe is that of the owned call of
-//! its name.
+//! The calls on one key. A contract states what the arguments decide; the call does to the stripe what the owned call
+//! of its name does.
 ghost use Rattle.std.specs.Prelude.{◌≡◌, ◌⊎◌, IfErr, IfSome};
 ghost use Rattle.scc_cache.specs.Entries.{Exists, Memory};
 ghost use Rattle.scc_contents.specs.Replies.{HasKey, ReadsEqual, PassesWith};
@@ -10,9 +10,9 @@ use std::hash::{BuildHasher, Hash};
 use std::sync::Wait;
 
 impl<K: Eq + Hash, V, H: BuildHasher> HashCache<K, V, H> {
-    /// Puts in the pair where no key equals `k`, as the most recent of its bucket, and answers the pair that it drove
-    /// out of that bucket. Where a key equals `k`, and where the stripe has no array and none can be had, the supplied
-    /// pair comes back.
+    /// Inserts the pair if no key equals `k`, as the most recent of its bucket, and returns the pair that was evicted
+    /// from that bucket, if any. Fails if a key equals `k`, or if the stripe has no array and memory for one is
+    /// refused; then `k` and `v` come back.
     pub fn put_sync(
         &self,
         rt: &impl Wait,
@@ -25,7 +25,8 @@ impl<K: Eq + Hash, V, H: BuildHasher> HashCache<K, V, H> {
         self.stripes.write(rt, stripe).put_sync(k, v)
     }
 
-    /// The answer of `f` on the pair of `k`, or None where there is none. The order of the pairs stays.
+    /// Calls `f` on the pair of `k`, and returns what `f` returns. Returns `None` without calling `f` if no key equals
+    /// `k`. Refreshes nothing.
     pub fn read_sync<R, F: FnOnce(&K, &V) -> R>(&self, rt: &impl Wait, k: &K, f: F) -> Option<R>
         requires { F.IsAlwaysCallable f }
         ensures answer { IfSome result (ReadsEqual K.eq F.FnOnce f k.now) }
@@ -33,15 +34,16 @@ impl<K: Eq + Hash, V, H: BuildHasher> HashCache<K, V, H> {
         self.stripes.read(rt, self.stripes.route(k)).read_sync(k, f)
     }
 
-    /// Whether a key equals `k`. The order of the pairs stays.
+    /// Returns whether a key equals `k`. Refreshes nothing.
     pub fn contains_sync(&self, rt: &impl Wait, k: &K) -> bool {
         self.stripes
             .read(rt, self.stripes.route(k))
             .contains_sync(k)
     }
 
-    /// Takes out the pair of `k` where `f` answers true on its value. What `f` wrote goes with the pair, and stays
-    /// where it answers false; then the answer is None, and the order of the pairs stays.
+    /// Removes the pair of `k` if `f` returns true on its value, and returns the pair with what `f` wrote. If `f`
+    /// returns false, what `f` wrote stays, and `None` is returned, and the order of the pairs stays. If no key equals
+    /// `k`, returns `None` without calling `f`.
     pub fn remove_if_sync<F: FnOnce(&mut V) -> bool>(
         &self,
         rt: &impl Wait,
@@ -57,7 +59,7 @@ impl<K: Eq + Hash, V, H: BuildHasher> HashCache<K, V, H> {
             .remove_if_sync(k, f)
     }
 
-    /// Takes out the pair whose key equals `k`, and answers it.
+    /// Removes the pair whose key equals `k`, and returns the pair.
     pub fn remove_sync(&self, rt: &impl Wait, k: &K) -> Option<(K, V)>
         ensures key { IfSome result (HasKey K.eq k.now) }
     {

@@ -1,5 +1,5 @@
-//! The calls that answer an entry, which holds the lock of its stripe. Each makes a stored pair the most recent of its
-//! bucket.
+//! The calls that return an entry. An entry holds the lock of its stripe. Each of these calls refreshes the pair that
+//! it finds.
 ghost use Rattle.std.specs.Prelude.{◌≡◌, true, IfSome};
 ghost use Rattle.std.specs.Sync.RwLock.{write_guard_value};
 ghost use Rattle.scc_contents.specs.Contents.{key_hash};
@@ -14,8 +14,8 @@ use std::hash::{BuildHasher, Hash};
 use std::sync::Wait;
 
 impl<K: Eq + Hash, V, H: BuildHasher> HashCache<K, V, H> {
-    /// The entry of `k`: occupied at the stored pair, which becomes the most recent of its bucket, or vacant with `k`.
-    /// It makes no array.
+    /// Returns the entry of `k`: occupied if a key equals `k`, else vacant with `k`. The pair of an occupied entry
+    /// becomes the most recent of its bucket. Inserts nothing and makes no array.
     pub fn entry_sync(&self, rt: &impl Wait, k: K) -> Entry<'_, K, V, H>
     where
         K: Drop,
@@ -28,8 +28,8 @@ impl<K: Eq + Hash, V, H: BuildHasher> HashCache<K, V, H> {
         HeldEntry::of(self.stripes.write(rt, stripe), k, ())
     }
 
-    /// The occupied entry of `k`, whose pair becomes the most recent of its bucket, or None where no key equals it;
-    /// then nothing changes.
+    /// Returns the occupied entry of `k`, whose pair becomes the most recent of its bucket, or `None` if no key equals
+    /// `k`. If it returns `None`, nothing changes.
     pub fn get_sync(&self, rt: &impl Wait, k: &K) -> Option<OccupiedEntry<'_, K, V, H>>
         ensures key { IfSome result (λ o. HasKey K.eq k.now (occupied_pair o)) }
         ensures entry { IfSome result (λ o. (before : Cached (K × V) H) × IsRefreshed K.eq before k.now o) }
@@ -39,9 +39,9 @@ impl<K: Eq + Hash, V, H: BuildHasher> HashCache<K, V, H> {
         HeldOccupied::of(self.stripes.write(rt, self.stripes.route(k)), k, ())
     }
 
-    /// Puts `k` in the place of the key that equals it, keeps the value, makes the pair the most recent of its bucket,
-    /// and answers the entry with the old key. Where no key equals it, nothing changes, and it answers the vacant
-    /// entry.
+    /// Puts `k` in the place of the key that equals `k`, keeps the value, makes the pair the most recent of its
+    /// bucket, and returns the occupied entry with the old key. If no key equals `k`, changes nothing and returns the
+    /// vacant entry.
     pub fn replace_sync(&self, rt: &impl Wait, k: K) -> ReplaceResult<'_, K, V, H>
         ensures key { ReplacesEqual K.eq k result }
         ensures step { (before : Cached (K × V) H) × Replaces K.eq before k result }

@@ -22,10 +22,10 @@ use std::hash::{BuildHasher, BuildHasherDefault, FoldHasher, Hash};
 use std::sync::Arc;
 
 /// A cache from keys to values that threads share by reference. Each of its stripes is an owned cache behind a lock,
-/// and a call takes the lock of the stripe of its key. Each stripe has its share of the maximum, and drives out by
-/// itself.
+/// and a call takes the lock of the stripe of its key. Each stripe has its share of the maximum, and evicts its pairs
+/// on its own.
 ///
-/// A thread that holds an entry and calls into the same stripe waits for itself.
+/// A thread that holds an entry and makes a call on the stripe of that entry waits for itself forever.
 #[derive(Drop)]
 pub struct HashCache<K: Eq + Hash, V, H: BuildHasher = BuildHasherDefault<FoldHasher>> {
     stripes: Striped<Owned<K, V, Shared<H>>, H>,
@@ -33,14 +33,14 @@ pub struct HashCache<K: Eq + Hash, V, H: BuildHasher = BuildHasherDefault<FoldHa
 }
 
 impl<K: Eq + Hash + Drop, V: Drop> HashCache<K, V> {
-    /// An empty cache without arrays: its maximum is 256 slots, in four stripes.
+    /// Returns an empty cache of four stripes without arrays, with a maximum of 256 slots. Fails if memory is refused.
     pub fn new(alloc: Global) -> Result<Self, MakeError>
         ensures maximum { IfOk result (λ c. c.maximum ≡ 256) }
     {
         HashCache::with_hasher(alloc, BuildHasherDefault::new())
     }
 
-    /// An empty cache by the rules of `with_capacity_and_hasher`.
+    /// Returns an empty cache of `capacity` and `maximum`, as `with_capacity_and_hasher` does.
     pub fn with_capacity(alloc: Global, capacity: usize, maximum: usize) -> Result<Self, MakeError>
         ensures maximum { IfOk result (λ c. (n : ℕ) × IsSlotsAsked capacity n × IsArraySize (max maximum n) c.maximum) }
     {
@@ -49,17 +49,18 @@ impl<K: Eq + Hash + Drop, V: Drop> HashCache<K, V> {
 }
 
 impl<K: Eq + Hash + Drop, V: Drop, H: BuildHasher + Drop> HashCache<K, V, H> {
-    /// An empty cache without arrays: its maximum is 256 slots, in four stripes.
+    /// Returns an empty cache of four stripes without arrays, with a maximum of 256 slots. Fails if memory is refused.
     pub fn with_hasher(alloc: Global, hasher: H) -> Result<Self, MakeError>
         ensures maximum { IfOk result (λ c. c.maximum ≡ 256) }
     {
         HashCache::with_capacity_and_hasher(alloc, 0, DEFAULT_MAXIMUM_CAPACITY, hasher)
     }
 
-    /// An empty cache. Its arrays have the least power of two of slots that is at least `capacity` and 64 together;
-    /// none is made for 0. Its maximum is the greatest of `maximum`, these slots and 64, raised to a power of two, at
-    /// most 2 ^ 63. Both are divided evenly among as many stripes as get 64 slots each, of those asked for or else of
-    /// the maximum, 16 at most.
+    /// Returns an empty cache. The slots of its arrays together are the least power of two that is at least `capacity`
+    /// and at least 64; if `capacity` is 0, there are none. Its maximum is the greatest of `maximum`, these slots and
+    /// 64, rounded up to a power of two, at most 2^63. Slots and maximum are divided evenly among the stripes: the
+    /// greatest number of stripes that gives each stripe 64 slots or more, at most 16, counted by the slots, or by the
+    /// maximum if `capacity` is 0. Fails if memory is refused.
     pub fn with_capacity_and_hasher(
         alloc: Global,
         capacity: usize,

@@ -1,4 +1,4 @@
-//! Sizes. They look at the stripes one after another.
+//! Sizes. A call looks at the stripes one after another.
 ghost use Rattle.std.specs.Prelude.{◌≡◌};
 
 use super::HashCache;
@@ -7,22 +7,22 @@ use std::ops::RangeInclusive;
 use std::sync::Wait;
 
 impl<K: Eq + Hash, V, H: BuildHasher> HashCache<K, V, H> {
-    /// The number of pairs, at most the greatest number.
+    /// Returns the number of pairs, at most `usize::MAX`. Takes time proportional to the number of stripes.
     pub fn len(&self, rt: &impl Wait) -> usize {
         self.stripes.count(rt)
     }
 
-    /// Whether no stripe has a pair.
+    /// Returns whether no stripe has a pair. Each stripe is looked at in turn, as it is at that moment.
     pub fn is_empty(&self, rt: &impl Wait) -> bool {
         self.stripes.is_empty(rt)
     }
 
-    /// The slots of all stripes, at most the greatest number.
+    /// Returns the number of slots of all stripes, at most `usize::MAX`.
     pub fn capacity(&self, rt: &impl Wait) -> usize {
         self.stripes.slots(rt)
     }
 
-    /// From the slots that the cache keeps at least to those that it may grow to.
+    /// Returns the range from the minimum of the cache to the greatest number of slots that it may grow to.
     pub fn capacity_range(&self) -> RangeInclusive<usize>
         ensures high { result.end ≡ self.now.maximum }
     {

@@ -1,5 +1,5 @@
-//! Walks over all stripes, one after another. The closure is lent to each stripe in turn. No walk makes a pair more
-//! recent.
+//! Walks over all stripes, one after another. A walk lends its closure to each stripe in turn. No walk refreshes a
+//! pair.
 ghost use Rattle.std.specs.Prelude.{◌≡◌, ◌≤◌, ◌++◌, List, OnErr};
 ghost use Rattle.std.specs.Vec.{vec_len, vec_capacity};
 ghost use Rattle.scc_contents.specs.Walks.{CalledOn, Walks};
@@ -11,8 +11,8 @@ use std::hash::{BuildHasher, Hash};
 use std::sync::Wait;
 
 impl<K: Eq + Hash, V, H: BuildHasher> HashCache<K, V, H> {
-    /// Calls `f` on pairs, stripe after stripe, until its first false, and answers false where it stopped. One stripe
-    /// is held for reading at a time.
+    /// Calls `f` on the pairs, stripe after stripe, until `f` returns false. Returns false if `f` did, else true. One
+    /// stripe is locked at a time, for reading.
     pub fn iter_sync<F: FnMut(&K, &V) -> bool>(&self, rt: &impl Wait, mut f: F) -> bool
         requires { F.IsAlwaysCallable f }
         ensures calls { (es : List (K × V)) × (last : F) × Walks (CalledOn F.FnMut) f es result last }
@@ -25,8 +25,8 @@ impl<K: Eq + Hash, V, H: BuildHasher> HashCache<K, V, H> {
         true
     }
 
-    /// Calls `f` on the pairs, stripe after stripe, with the value to write, and takes out those on which it answers
-    /// false. Then the array of the stripe may become smaller.
+    /// Calls `f` on the pairs, stripe after stripe, with the value to write, and removes each pair on which `f`
+    /// returns false. Then the array of the stripe may shrink.
     pub fn retain_sync<F: FnMut(&K, &mut V) -> bool>(&self, rt: &impl Wait, mut f: F)
     where
         K: Drop,
@@ -40,10 +40,10 @@ impl<K: Eq + Hash, V, H: BuildHasher> HashCache<K, V, H> {
         }
     }
 
-    /// Calls `f` on the pairs, stripe after stripe, with the value to write, until it stops, and answers false where it
-    /// stopped. A pair on which it answers `Take` or `TakeStop` goes to the end of `taken`. Room for one pair is made
-    /// in `taken` before each call of `f`; where it can't be had, the walk ends with an error, and what it did so far
-    /// stays.
+    /// Calls `f` on the pairs, stripe after stripe, with the value to write, until `f` returns `KeepStop` or
+    /// `TakeStop`. Returns false if `f` stopped the walk, else true. A pair on which `f` returns `Take` or `TakeStop`
+    /// moves to the end of `taken`. Before each call of `f`, room for one pair is made in `taken`. Fails if memory for
+    /// that room is refused; what the walk did before then stays.
     pub fn iter_mut_sync<F: FnMut(&K, &mut V) -> Verdict>(
         &self,
         rt: &impl Wait,
@@ -66,7 +66,7 @@ impl<K: Eq + Hash, V, H: BuildHasher> HashCache<K, V, H> {
         Ok(true)
     }
 
-    /// Takes out the pairs of each stripe in turn.
+    /// Removes the pairs of each stripe in turn.
     pub fn clear_sync(&self, rt: &impl Wait)
     where
         K: Drop,

@@ -1,4 +1,4 @@
-//! What is done with a whole cache: comparisons, and caches made of items. They look at the stripes one after another.
+//! Calls on a whole cache: comparing, making a cache of items. They look at the stripes one after another.
 ghost use Rattle.std.specs.Prelude.{◌<◌};
 ghost use Rattle.std.specs.Iterator.{IsFinite};
 ghost use Rattle.scc_stripes.specs.Stripes.{stripe_count};
@@ -11,14 +11,14 @@ use std::hash::{BuildHasher, Hash};
 use std::sync::Wait;
 
 impl<K: Eq + Hash, V: PartialEq, H: BuildHasher> HashCache<K, V, H> {
-    /// Whether each pair of either cache, as its stripe is looked at, has its key with an equal value in the other. A
-    /// stripe of each is held for reading at a time; a cache may be compared with itself. Neither the order of the
-    /// pairs nor a maximum plays a part, and no pair becomes more recent.
+    /// Returns whether each pair of either cache has an equal key with an equal value in the other cache. Each stripe
+    /// is looked at as it is at that moment. One stripe of each cache is locked at a time, for reading. A cache may be
+    /// compared with itself. Neither the order of the pairs nor the maximum matters, and nothing is refreshed.
     pub fn eq_sync(&self, rt: &impl Wait, other: &Self) -> bool {
         self.is_within(rt, other) && other.is_within(rt, self)
     }
 
-    /// Whether each pair of this cache has its key with an equal value in the other.
+    /// Returns whether each pair of this cache has an equal key with an equal value in `other`.
     fn is_within(&self, rt: &impl Wait, other: &Self) -> bool {
         for stripe in 0..self.stripes.stripes() {
             if !self.is_stripe_within(rt, stripe, other) {
@@ -28,8 +28,9 @@ impl<K: Eq + Hash, V: PartialEq, H: BuildHasher> HashCache<K, V, H> {
         true
     }
 
-    /// Whether each pair of a stripe is in the other cache. It never waits while it holds the stripe: where it meets a
-    /// stripe of the other cache that it can't read at once, it lets its own go, waits for that one, and begins anew.
+    /// Returns whether each pair of stripe `stripe` is in `other`. It never waits while it holds that stripe. If a
+    /// stripe of `other` can't be read at once, it releases its own stripe, waits for the stripe of `other`, and
+    /// begins again.
     fn is_stripe_within(&self, rt: &impl Wait, stripe: usize, other: &Self) -> bool
         requires { stripe < stripe_count self.now.stripes }
     {
@@ -47,8 +48,8 @@ impl<K: Eq + Hash, V: PartialEq, H: BuildHasher> HashCache<K, V, H> {
         unreachable!()
     }
 
-    /// Whether the pair is there. Where its stripe can't be read at once, it notes the number of that, and answers
-    /// false.
+    /// Returns whether `k` is in this cache with a value that equals `v`. If the stripe of `k` can't be read at once,
+    /// writes the number of that stripe to `busy` and returns false.
     fn has_pair(&self, busy: &Cell<Option<usize>>, k: &K, v: &V) -> bool {
         let stripe = self.stripes.route(k);
         match self.stripes.try_read(stripe) {
@@ -63,7 +64,7 @@ impl<K: Eq + Hash, V: PartialEq, H: BuildHasher> HashCache<K, V, H> {
         }
     }
 
-    /// Waits until the stripe of that number can be read, and lets it go again.
+    /// Waits until stripe `stripe` can be read. Returns at once if there is no such stripe.
     fn wait_until_readable(&self, rt: &impl Wait, stripe: usize) {
         if stripe < self.stripes.stripes() {
             let _readable = self.stripes.read(rt, stripe);
@@ -72,9 +73,9 @@ impl<K: Eq + Hash, V: PartialEq, H: BuildHasher> HashCache<K, V, H> {
 }
 
 impl<K: Eq + Hash + Drop, V: Drop, H: BuildHasher + Default + Drop> HashCache<K, V, H> {
-    /// A cache of the items, put in their order, so that the first value of a key stays unless it was driven out in
-    /// between. Capacity and maximum are asked for as many pairs as there are items. It is refused for want of memory,
-    /// and then the items are dropped. The iterator has to end.
+    /// Returns a cache of `items`, put in their order, so that the first value of a key stays unless its pair is
+    /// evicted in between. Capacity and maximum are the number of items. Fails if memory is refused; then the items
+    /// are dropped. The iterator must end.
     pub fn try_from_iter<I: IntoIterator<Item = (K, V)>>(
         rt: &impl Wait,
         alloc: Global,

@@ -1,14 +1,14 @@
--- What a reservation stands for.
+-- The slots and the container of a reservation.
 use Rattle.std.specs.Prelude.{ℕ}
 use Rattle.scc_stripes.specs.Stripes.{reservation_slots}
 use Rattle.scc_shared_index.specs.declared.HashIndex.{HashIndex}
 use Rattle.scc_shared_index.specs.declared.sizes.Reserve.{Reserve}
 
 module _ {K V H T : Type 0} where
-  -- the number of slots
+  -- the number of slots that r reserves
   abbrev pub reserved_slots : Reserve K V H T → ℕ
   reserved_slots r = reservation_slots r.added
 
-  -- the index in which they are reserved
+  -- the index in which r reserves slots
   abbrev pub reserved_in : Reserve K V H T → HashIndex K V H T
   reserved_in r = r.of.now

@@ -5,10 +5,10 @@ use Rattle.scc_stripes.specs.Stripes.{stripes_hasher}
 use Rattle.scc_shared_index.specs.declared.HashIndex.{HashIndex}
 
 module _ {K V H T : Type 0} where
-  -- the stripes
+  -- the stripes of the index
   abbrev pub stripes_of : HashIndex K V H T → Striped (Contents (K × V) H) H
   stripes_of m = m.stripes
 
-  -- the hasher, which all stripes share
+  -- the hasher of the index, which all its stripes share
   abbrev pub hasher_of : HashIndex K V H T → H
   hasher_of m = stripes_hasher m.stripes

@@ -1,5 +1,5 @@
-//! The calls on one key. Each states what its arguments decide; what it does to the stripe is that of the owned call of
-//! its name.
+//! The calls on one key. A contract states what the arguments decide; the call does to the stripe what the owned call
+//! of its name does.
 ghost use Rattle.std.specs.Prelude.{◌≡◌, ◌⊎◌, IfErr, IfOk, IfSome, IsTrue, true};
 ghost use Rattle.std.specs.Arc.{arc_value};
 ghost use Rattle.scc_index.specs.Entries.{Exists, Memory};
@@ -12,8 +12,8 @@ use std::hash::{BuildHasher, Hash};
 use std::sync::{Arc, Wait};
 
 impl<K: Eq + Hash, V, H: BuildHasher> HashIndex<K, V, H> {
-    /// Inserts a version of the pair where no key equals `k`. Where one does, and where memory for the version or for
-    /// room that the insertion needs is refused, the supplied pair comes back.
+    /// Inserts a version of the pair if no key equals `k`. Fails if a key equals `k`, or if memory for the version or
+    /// for the insertion is refused; then `k` and `v` come back.
     pub fn insert_sync(&self, rt: &impl Wait, k: K, v: V) -> Result<(), InsertError<K, V>>
         ensures back { IfErr result (λ e. (e ≡ Exists (k, v)) ⊎ (e ≡ Memory (k, v))) }
     {
@@ -21,15 +21,16 @@ impl<K: Eq + Hash, V, H: BuildHasher> HashIndex<K, V, H> {
         self.stripes.write_to_insert(rt, stripe).insert_sync(k, v)
     }
 
-    /// Hands out the version of `k`, or None where no key equals it. The version never changes and lives as long as its
-    /// holders, whatever becomes of the index. It is refused where the version has 2^63 - 1 owners.
+    /// Returns the version of `k` with one more owner, or `None` if no key equals `k`. The version never changes and
+    /// lives as long as it has an owner, whatever happens to the index. Fails if the version has 2^63 - 1 owners.
     pub fn peek(&self, rt: &impl Wait, k: &K) -> Result<Option<Arc<Version<K, V>>>, MakeError>
         ensures key { IfOk result (λ o. IfSome o (λ a. HasKey K.eq k.now (arc_value a))) }
     {
         self.stripes.read(rt, self.stripes.route(k)).peek_shared(k)
     }
 
-    /// The answer of `f` on the pair of `k`, or None where there is none; then `f` isn't called. No owner is counted.
+    /// Calls `f` on the pair of `k`, and returns what `f` returns. Returns `None` without calling `f` if no key equals
+    /// `k`. No owner is counted.
     pub fn peek_with<R, F: FnOnce(&K, &V) -> R>(&self, rt: &impl Wait, k: &K, f: F) -> Option<R>
         requires { F.IsAlwaysCallable f }
         ensures answer { IfSome result (ReadsEqual K.eq F.FnOnce f k.now) }
@@ -40,7 +41,7 @@ impl<K: Eq + Hash, V, H: BuildHasher> HashIndex<K, V, H> {
             .peek_with_by_hint(hash, k, f)
     }
 
-    /// The same as `peek_with`.
+    /// As `peek_with`.
     pub fn read_sync<R, F: FnOnce(&K, &V) -> R>(&self, rt: &impl Wait, k: &K, f: F) -> Option<R>
         requires { F.IsAlwaysCallable f }
         ensures answer { IfSome result (ReadsEqual K.eq F.FnOnce f k.now) }
@@ -48,7 +49,7 @@ impl<K: Eq + Hash, V, H: BuildHasher> HashIndex<K, V, H> {
         self.peek_with(rt, k, f)
     }
 
-    /// Whether a key equals `k`. No owner is counted.
+    /// Returns whether a key equals `k`. No owner is counted.
     pub fn contains(&self, rt: &impl Wait, k: &K) -> bool {
         let hash = self.stripes.hash(k);
         self.stripes
@@ -56,7 +57,8 @@ impl<K: Eq + Hash, V, H: BuildHasher> HashIndex<K, V, H> {
             .contains_by_hint(hash, k)
     }
 
-    /// Takes out the version whose key equals `k`, and answers whether there was one. Who kept the version keeps it.
+    /// Removes the version whose key equals `k`, and returns whether there was such a version. Whoever keeps the
+    /// version still has it.
     pub fn remove_sync(&self, rt: &impl Wait, k: &K) -> bool
     where
         K: Drop,
@@ -70,8 +72,8 @@ impl<K: Eq + Hash, V, H: BuildHasher> HashIndex<K, V, H> {
         removed
     }
 
-    /// Takes out the version of `k` where `f` answers true on its value, and answers whether it did. `f` isn't called
-    /// where no key equals `k`.
+    /// Removes the version of `k` if `f` returns true on its value, and returns whether it did. If no key equals `k`,
+    /// returns false without calling `f`.
     pub fn remove_if_sync<F: FnOnce(&V) -> bool>(&self, rt: &impl Wait, k: &K, f: F) -> bool
     where
         K: Drop,

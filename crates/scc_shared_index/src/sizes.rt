@@ -1,4 +1,4 @@
-//! Sizes and reservations. They look at the stripes one after another.
+//! Sizes and reservations. A call looks at the stripes one after another.
 ghost use Rattle.std.specs.Prelude.{◌≡◌, ◌<◌, ◌≤◌, ◌^◌, IfSome};
 ghost use Rattle.scc_shared_index.specs.Reserves.{reserved_in, reserved_slots};
 
@@ -10,36 +10,37 @@ use std::ops::RangeInclusive;
 use std::sync::Wait;
 
 impl<K: Eq + Hash, V, H: BuildHasher> HashIndex<K, V, H> {
-    /// The number of pairs, at most the greatest number. It takes time in the number of stripes.
+    /// Returns the number of pairs, at most `usize::MAX`. Takes time proportional to the number of stripes.
     pub fn len(&self, rt: &impl Wait) -> usize {
         self.stripes.count(rt)
     }
 
-    /// Whether no stripe has a pair, as each is looked at.
+    /// Returns whether no stripe has a pair. Each stripe is looked at in turn, as it is at that moment.
     pub fn is_empty(&self, rt: &impl Wait) -> bool {
         self.stripes.is_empty(rt)
     }
 
-    /// The slots of all stripes, at most the greatest number. Each stripe looks at the minimum again, and may give back
-    /// slots that it no longer needs.
+    /// Returns the number of slots of all stripes, at most `usize::MAX`. Each stripe first follows the minimum, by
+    /// which its array may grow or shrink.
     pub fn capacity(&self, rt: &impl Wait) -> usize {
         self.stripes.slots(rt)
     }
 
-    /// From the slots that the index keeps at least to those that it may grow to.
+    /// Returns the range from the minimum of the index to the greatest number of slots that it may grow to.
     pub fn capacity_range(&self) -> RangeInclusive<usize>
         ensures high { result.end ≡ 2 ^ 63 }
     {
         self.stripes.minimum()..=GREATEST_CAPACITY
     }
 
-    /// The number of the bucket of `k` inside its stripe, 0 without an array.
+    /// Returns the number of the bucket of `k` in its stripe, or 0 if the stripe has no array.
     pub fn bucket_index(&self, rt: &impl Wait, k: &K) -> usize {
         self.stripes.read(rt, self.stripes.route(k)).bucket_index(k)
     }
 
-    /// Raises the minimum by so many slots until the answer is dropped; None for 0, and where the minimum would pass
-    /// the greatest capacity. Arrays with fewer slots than their share grow, unless memory is refused.
+    /// Raises the minimum by `additional` slots until the returned reservation is dropped. Returns `None` if
+    /// `additional` is 0 or if the minimum would pass the greatest capacity. An array with fewer slots than its share
+    /// of the minimum grows, unless memory is refused; the reservation is returned either way.
     pub fn reserve(&self, rt: &impl Wait, additional: usize) -> Option<Reserve<'_, K, V, H>>
         ensures { IfSome result (λ r. (reserved_slots r ≡ additional) × (0 < additional) × (additional ≤ 2 ^ 63)
             × (reserved_in r ≡ self.now)) }
@@ -49,7 +50,7 @@ impl<K: Eq + Hash, V, H: BuildHasher> HashIndex<K, V, H> {
     }
 }
 
-/// Slots that are reserved in an index until this is dropped. The drop waits for nobody.
+/// Slots that are reserved in an index until this token is dropped. The drop waits for no lock.
 #[derive(Drop)]
 pub struct Reserve<'h, K: Eq + Hash, V, H: BuildHasher = BuildHasherDefault<FoldHasher>> {
     of: &'h HashIndex<K, V, H>,
@@ -57,14 +58,14 @@ pub struct Reserve<'h, K: Eq + Hash, V, H: BuildHasher = BuildHasherDefault<Fold
 }
 
 impl<'h, K: Eq + Hash, V, H: BuildHasher> Reserve<'h, K, V, H> {
-    /// How many slots it stands for.
+    /// Returns the number of slots that are reserved.
     pub fn additional_capacity(&self) -> usize
         ensures { result ≡ reserved_slots self.now }
     {
         self.added.additional_capacity()
     }
 
-    /// The index in which they are reserved.
+    /// Returns the index in which the slots are reserved.
     pub fn as_ref(&self) -> &HashIndex<K, V, H>
         ensures { result.now ≡ reserved_in self.now }
     {

@@ -1,5 +1,5 @@
-//! Walks, stripe after stripe. Each says what its closure was called on in turn and what it answered, for lists of
-//! pairs that it finds in the stripes.
+//! Walks over all stripes, one after another. A contract says on which pairs the closure was called in turn and what
+//! it returned, for lists of pairs found in the stripes.
 ghost use Rattle.std.specs.Prelude.{List};
 ghost use Rattle.scc_contents.specs.Walks.{CalledOn, Walks};
 ghost use Rattle.scc_index.specs.IndexWalks.{Retains};
@@ -10,8 +10,8 @@ use std::hash::{BuildHasher, Hash};
 use std::sync::Wait;
 
 impl<K: Eq + Hash, V, H: BuildHasher> HashIndex<K, V, H> {
-    /// Calls `f` on pairs, stripe after stripe, until its first false, and answers false where it stopped. One stripe
-    /// is held for reading at a time.
+    /// Calls `f` on the pairs, stripe after stripe, until `f` returns false. Returns false if `f` did, else true. One
+    /// stripe is locked at a time, for reading.
     pub fn iter_sync<F: FnMut(&K, &V) -> bool>(&self, rt: &impl Wait, mut f: F) -> bool
         requires { F.IsAlwaysCallable f }
         ensures calls { (es : List (K × V)) × (last : F) × Walks (CalledOn F.FnMut) f es result last }
@@ -24,8 +24,8 @@ impl<K: Eq + Hash, V, H: BuildHasher> HashIndex<K, V, H> {
         true
     }
 
-    /// Calls `f` on the pairs, stripe after stripe, and takes out the versions of those on which it answers false. Then
-    /// the array of the stripe may become smaller. Who kept a version keeps it.
+    /// Calls `f` on the pairs, stripe after stripe, and removes the version of each pair on which `f` returns false.
+    /// Then the array of the stripe may shrink. Whoever keeps a removed version still has it.
     pub fn retain_sync<F: FnMut(&K, &V) -> bool>(&self, rt: &impl Wait, mut f: F)
     where
         K: Drop,
@@ -41,7 +41,7 @@ impl<K: Eq + Hash, V, H: BuildHasher> HashIndex<K, V, H> {
         }
     }
 
-    /// Takes out the versions of each stripe in turn. Who kept a version keeps it.
+    /// Removes the versions of each stripe in turn. Whoever keeps a removed version still has it.
     pub fn clear_sync(&self, rt: &impl Wait)
     where
         K: Drop,
@@ -54,8 +54,8 @@ impl<K: Eq + Hash, V, H: BuildHasher> HashIndex<K, V, H> {
         }
     }
 
-    /// A snapshot of the versions of each stripe as it is looked at, one held for reading at a time. It is refused for
-    /// want of memory, and where a version has 2^63 - 1 owners.
+    /// Returns a snapshot of the versions of each stripe as it is looked at. One stripe is locked at a time, for
+    /// reading. Fails if memory is refused, or if a version has 2^63 - 1 owners.
     pub fn iter(&self, rt: &impl Wait) -> Result<Iter<K, V>, MakeError>
     where
         K: Drop,

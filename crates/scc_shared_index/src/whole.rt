@@ -1,5 +1,4 @@
-//! What is done with a whole index: comparisons, clones, indexes made of items. They look at the stripes one after
-//! another.
+//! Calls on a whole index: comparing, cloning, making an index of items. They look at the stripes one after another.
 ghost use Rattle.std.specs.Prelude.{◌≡◌, ◌<◌, IfOk};
 ghost use Rattle.std.specs.Iterator.{IsFinite};
 ghost use Rattle.scc_stripes.specs.Stripes.{stripe_count};
@@ -14,8 +13,9 @@ use std::hash::{BuildHasher, Hash};
 use std::sync::Wait;
 
 impl<K: Eq + Hash, V: PartialEq, H: BuildHasher> HashIndex<K, V, H> {
-    /// Whether each pair of either index, as its stripe is looked at, has its key with an equal value in the other. A
-    /// stripe of each is held for reading at a time; an index may be compared with itself.
+    /// Returns whether each pair of either index has an equal key with an equal value in the other index. Each stripe
+    /// is looked at as it is at that moment. One stripe of each index is locked at a time, for reading. An index may
+    /// be compared with itself.
     pub fn eq_sync(&self, rt: &impl Wait, other: &Self) -> bool {
         self.is_within(rt, other) && other.is_within(rt, self)
     }
@@ -29,8 +29,9 @@ impl<K: Eq + Hash, V: PartialEq, H: BuildHasher> HashIndex<K, V, H> {
         true
     }
 
-    /// Whether each pair of a stripe is in the other index. It never waits while it holds the stripe: where it meets a
-    /// stripe of the other index that it can't read at once, it lets its own go, waits for that one, and begins anew.
+    /// Returns whether each pair of stripe `stripe` is in `other`. It never waits while it holds that stripe. If a
+    /// stripe of `other` can't be read at once, it releases its own stripe, waits for the stripe of `other`, and
+    /// begins again.
     fn is_stripe_within(&self, rt: &impl Wait, stripe: usize, other: &Self) -> bool
         requires { stripe < stripe_count self.now.stripes }
     {
@@ -48,8 +49,8 @@ impl<K: Eq + Hash, V: PartialEq, H: BuildHasher> HashIndex<K, V, H> {
         unreachable!()
     }
 
-    /// Whether the pair is there. Where its stripe can't be read at once, it notes the number of that, and answers
-    /// false.
+    /// Returns whether `k` is in this index with a value that equals `v`. If the stripe of `k` can't be read at once,
+    /// writes the number of that stripe to `busy` and returns false.
     fn has_pair(&self, busy: &Cell<Option<usize>>, k: &K, v: &V) -> bool {
         let stripe = self.stripes.route(k);
         match self.stripes.try_read(stripe) {
@@ -64,7 +65,7 @@ impl<K: Eq + Hash, V: PartialEq, H: BuildHasher> HashIndex<K, V, H> {
         }
     }
 
-    /// Waits until the stripe of that number can be read, and lets it go again.
+    /// Waits until stripe `stripe` can be read. Returns at once if there is no such stripe.
     fn wait_until_readable(&self, rt: &impl Wait, stripe: usize) {
         if stripe < self.stripes.stripes() {
             let _readable = self.stripes.read(rt, stripe);
@@ -73,9 +74,10 @@ impl<K: Eq + Hash, V: PartialEq, H: BuildHasher> HashIndex<K, V, H> {
 }
 
 impl<K: Eq + Hash + Clone + Drop, V: Clone + Drop, H: BuildHasher + Drop> HashIndex<K, V, H> {
-    /// An index with clones of the pairs that each stripe has when it is looked at, under the same hasher. It asks for
-    /// the capacity of this one. One stripe of this one is held at a time, for reading, and no lock is round the clones
-    /// before all are there.
+    /// Returns an index with clones of the pairs that each stripe holds when it is looked at, under the same hasher.
+    /// It asks for the capacity of this index. One stripe of this index is locked at a time, for reading. The new
+    /// stripes get their locks after the last clone. Fails if memory is refused, if a clone fails, or if two clones
+    /// have equal keys.
     pub fn try_clone(&self, rt: &impl Wait) -> Result<Self, MakeError>
         ensures hasher { IfOk result (λ m. hasher_of m ≡ hasher_of self.now) }
     {
@@ -90,8 +92,8 @@ impl<K: Eq + Hash + Clone + Drop, V: Clone + Drop, H: BuildHasher + Drop> HashIn
 }
 
 impl<K: Eq + Hash + Drop, V: Drop, H: BuildHasher + Default + Drop> HashIndex<K, V, H> {
-    /// An index of the items, inserted in their order: the first of equal keys stays. It is made for as many pairs as
-    /// there are items. It is refused for want of memory. The iterator has to end.
+    /// Returns an index of `items`, inserted in their order, so that the first of equal keys stays, with a capacity
+    /// for all of them. Fails if memory is refused; then the items are dropped. The iterator must end.
     pub fn try_from_iter<I: IntoIterator<Item = (K, V)>>(
         rt: &impl Wait,
         alloc: Global,

@@ -1,5 +1,5 @@
-//! The calls on one key. Each states what its arguments decide; what it does to the stripe is that of the owned call of
-//! its name.
+//! The calls on one key. A contract states what the arguments decide; the call does to the stripe what the owned call
+//! of its name does.
 ghost use Rattle.std.specs.Prelude.{◌≡◌, ◌⊎◌, IfErr, IfSome};
 ghost use Rattle.scc_map.specs.Entries.{Exists, Memory};
 ghost use Rattle.scc_contents.specs.Replies.{HasKey, ReadsEqual, WritesEqual, PassesWith};
@@ -10,8 +10,8 @@ use std::hash::{BuildHasher, Hash};
 use std::sync::Wait;
 
 impl<K: Eq + Hash, V, H: BuildHasher> HashMap<K, V, H> {
-    /// Inserts the pair where no key equals `k`. Where one does, and where a growth that the insertion needs is
-    /// refused, the supplied pair comes back.
+    /// Inserts the pair if no key equals `k`. Fails if a key equals `k`, or if memory that the insertion needs is
+    /// refused; then `k` and `v` come back.
     pub fn insert_sync(&self, rt: &impl Wait, k: K, v: V) -> Result<(), InsertError<K, V>>
         ensures back { IfErr result (λ e. (e ≡ Exists (k, v)) ⊎ (e ≡ Memory (k, v))) }
     {
@@ -19,8 +19,8 @@ impl<K: Eq + Hash, V, H: BuildHasher> HashMap<K, V, H> {
         self.stripes.write_to_insert(rt, stripe).insert_sync(k, v)
     }
 
-    /// Stores `v` at `k`, and answers the old value; a key that is there stays the stored one. Refused, the pair comes
-    /// back.
+    /// Stores `v` under `k`, and returns the old value. If a key equals `k`, the stored key stays. If memory is
+    /// refused, `k` and `v` come back.
     pub fn upsert_sync(&self, rt: &impl Wait, k: K, v: V) -> Result<Option<V>, InsertError<K, V>>
     where
         K: Drop,
@@ -30,8 +30,8 @@ impl<K: Eq + Hash, V, H: BuildHasher> HashMap<K, V, H> {
         self.stripes.write_to_insert(rt, stripe).upsert_sync(k, v)
     }
 
-    /// Lends the pair of `k` to `u`, the value to write, and answers what `u` answered; None where there is no such
-    /// pair.
+    /// Calls `u` on the pair of `k`, with the value to write, and returns what `u` returns. Returns `None` without
+    /// calling `u` if no key equals `k`.
     pub fn update_sync<R, U: FnOnce(&K, &mut V) -> R>(
         &self,
         rt: &impl Wait,
@@ -46,7 +46,8 @@ impl<K: Eq + Hash, V, H: BuildHasher> HashMap<K, V, H> {
             .update_sync(k, u)
     }
 
-    /// The answer of `f` on the pair of `k`, or None where there is none.
+    /// Calls `f` on the pair of `k`, and returns what `f` returns. Returns `None` without calling `f` if no key equals
+    /// `k`.
     pub fn read_sync<R, F: FnOnce(&K, &V) -> R>(&self, rt: &impl Wait, k: &K, f: F) -> Option<R>
         requires { F.IsAlwaysCallable f }
         ensures answer { IfSome result (ReadsEqual K.eq F.FnOnce f k.now) }
@@ -57,7 +58,7 @@ impl<K: Eq + Hash, V, H: BuildHasher> HashMap<K, V, H> {
             .read_by_hint(hash, k, f)
     }
 
-    /// Whether a key equals `k`.
+    /// Returns whether a key equals `k`.
     pub fn contains_sync(&self, rt: &impl Wait, k: &K) -> bool {
         let hash = self.stripes.hash(k);
         self.stripes
@@ -65,8 +66,9 @@ impl<K: Eq + Hash, V, H: BuildHasher> HashMap<K, V, H> {
             .contains_by_hint(hash, k)
     }
 
-    /// Takes out the pair of `k` where `f` answers true on its value. What `f` wrote goes with the pair, and stays
-    /// where it answers false; then the answer is None.
+    /// Removes the pair of `k` if `f` returns true on its value, and returns the pair with what `f` wrote. If `f`
+    /// returns false, what `f` wrote stays, and `None` is returned. If no key equals `k`, returns `None` without
+    /// calling `f`.
     pub fn remove_if_sync<F: FnOnce(&mut V) -> bool>(
         &self,
         rt: &impl Wait,
@@ -85,7 +87,7 @@ impl<K: Eq + Hash, V, H: BuildHasher> HashMap<K, V, H> {
         pair
     }
 
-    /// Takes out the pair whose key equals `k`, and answers it.
+    /// Removes the pair whose key equals `k`, and returns the pair.
     pub fn remove_sync(&self, rt: &impl Wait, k: &K) -> Option<(K, V)>
         ensures key { IfSome result (HasKey K.eq k.now) }
     {

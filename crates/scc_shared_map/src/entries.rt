@@ -1,4 +1,4 @@
-//! The calls that answer an entry, which holds the lock of its stripe.
+//! The calls that return an entry. An entry holds the lock of its stripe.
 ghost use Rattle.std.specs.Prelude.{◌≡◌, [], List, IfSome};
 ghost use Rattle.std.specs.Sync.RwLock.{write_guard_value};
 ghost use Rattle.scc_contents.specs.Contents.{Contents};
@@ -18,7 +18,8 @@ use std::hash::{BuildHasher, Hash};
 use std::sync::Wait;
 
 impl<K: Eq + Hash, V, H: BuildHasher> HashMap<K, V, H> {
-    /// The entry of `k`: occupied at the stored pair, or vacant with `k`. It makes no array.
+    /// Returns the entry of `k`: occupied if a key equals `k`, else vacant with `k`. Inserts nothing and makes no
+    /// array.
     pub fn entry_sync(&self, rt: &impl Wait, k: K) -> Entry<'_, K, V, H>
     where
         K: Drop,
@@ -31,7 +32,7 @@ impl<K: Eq + Hash, V, H: BuildHasher> HashMap<K, V, H> {
         HeldEntry::of(guard, k, seat)
     }
 
-    /// The occupied entry of `k`, or None where no key equals it.
+    /// Returns the occupied entry of `k`, or `None` if no key equals `k`.
     pub fn get_sync(&self, rt: &impl Wait, k: &K) -> Option<OccupiedEntry<'_, K, V, H>>
         ensures entry { IfSome result (λ o. IsOccupiedAt K.eq (occupied_map o) k.now o) }
         ensures unique { IfSome result (λ o. IsUnique K.eq (occupied_map o)) }
@@ -43,8 +44,8 @@ impl<K: Eq + Hash, V, H: BuildHasher> HashMap<K, V, H> {
         HeldOccupied::of(guard, k, seat)
     }
 
-    /// Puts `k` in the place of the key that equals it, keeps the value, and answers the entry with the old key. Where
-    /// no key equals it, it inserts nothing and answers the vacant entry.
+    /// Puts `k` in the place of the key that equals `k`, keeps the value, and returns the occupied entry with the old
+    /// key. If no key equals `k`, inserts nothing and returns the vacant entry.
     pub fn replace_sync(&self, rt: &impl Wait, k: K) -> ReplaceResult<'_, K, V, H>
         ensures step { (before : Contents (K × V) H) × Replaces K.eq before k result }
         ensures unique { IsUnique K.eq (write_guard_value (replaced_guard result)) }
@@ -56,7 +57,7 @@ impl<K: Eq + Hash, V, H: BuildHasher> HashMap<K, V, H> {
         HeldReplace::of(guard, k, seat)
     }
 
-    /// The first entry of the first stripe that has one.
+    /// Returns the first entry of the first stripe that has an entry, or `None` if no stripe has one.
     pub fn begin_sync(&self, rt: &impl Wait) -> Option<OccupiedEntry<'_, K, V, H>>
         ensures first { IfSome result (λ o. StandsIn (occupied_map o) o × (occupied_front o ≡ [])) }
         ensures seat { IfSome result (HasSeatIn (stripes_of self.now)) }
@@ -68,7 +69,8 @@ impl<K: Eq + Hash, V, H: BuildHasher> HashMap<K, V, H> {
         }
     }
 
-    /// The first entry on whose pair `p` answers true, stripe after stripe, in the order of each stripe's list.
+    /// Returns the first entry on whose pair `p` returns true, stripe after stripe, in the order of each stripe's
+    /// list. Returns `None` if there is no such pair.
     pub fn any_sync<P: FnMut(&K, &V) -> bool>(
         &self,
         rt: &impl Wait,

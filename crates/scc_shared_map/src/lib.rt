@@ -24,7 +24,7 @@ use std::sync::Arc;
 /// A map from keys to values that threads share by reference. Each of its stripes is an owned map behind a lock, and a
 /// call takes the lock of the stripe of its key.
 ///
-/// A thread that holds an entry and calls into the same stripe waits for itself.
+/// A thread that holds an entry and makes a call on the stripe of that entry waits for itself forever.
 #[derive(Drop)]
 pub struct HashMap<K: Eq + Hash, V, H: BuildHasher = BuildHasherDefault<FoldHasher>> {
     stripes: Striped<Owned<K, V, Shared<H>>, H>,
@@ -32,19 +32,20 @@ pub struct HashMap<K: Eq + Hash, V, H: BuildHasher = BuildHasherDefault<FoldHash
 }
 
 impl<K: Eq + Hash + Drop, V: Drop> HashMap<K, V> {
-    /// An empty map of 16 stripes without arrays.
+    /// Returns an empty map of 16 stripes without arrays. Fails if memory is refused.
     pub fn new(alloc: Global) -> Result<Self, MakeError> {
         HashMap::with_hasher(alloc, BuildHasherDefault::new())
     }
 
-    /// An empty map with at least so many slots in all stripes together.
+    /// Returns an empty map with at least `capacity` slots in all stripes together, as `with_capacity_and_hasher`
+    /// does.
     pub fn with_capacity(alloc: Global, capacity: usize) -> Result<Self, MakeError> {
         HashMap::with_capacity_and_hasher(alloc, capacity, BuildHasherDefault::new())
     }
 }
 
 impl<K: Eq + Hash, V, H: BuildHasher> HashMap<K, V, H> {
-    /// An empty map of 16 stripes without arrays.
+    /// Returns an empty map of 16 stripes without arrays. Fails if memory is refused.
     pub fn with_hasher(alloc: Global, hasher: H) -> Result<Self, MakeError>
     where
         K: Drop,
@@ -54,8 +55,9 @@ impl<K: Eq + Hash, V, H: BuildHasher> HashMap<K, V, H> {
         HashMap::with_capacity_and_hasher(alloc, 0, hasher)
     }
 
-    /// An empty map with at least so many slots in all stripes together. They are divided evenly among as many stripes
-    /// as get 64 slots each, 16 at most; 16 stripes without arrays for 0.
+    /// Returns an empty map with at least `capacity` slots in all stripes together. The slots are divided evenly among
+    /// the stripes: the greatest number of stripes that gives each stripe 64 slots or more, at most 16. If `capacity`
+    /// is 0, there are 16 stripes without arrays. Fails if memory is refused.
     pub fn with_capacity_and_hasher(
         alloc: Global,
         capacity: usize,
@@ -73,7 +75,7 @@ impl<K: Eq + Hash, V, H: BuildHasher> HashMap<K, V, H> {
         HashMap::in_stripes(alloc, bits_for(slots), slots, hasher)
     }
 
-    /// As many stripes as so many bits can number, each with its share of the slots.
+    /// Makes 2^`bits` stripes, each with its share of `slots`. Fails if memory is refused.
     fn in_stripes(alloc: Global, bits: u32, slots: usize, hasher: H) -> Result<Self, MakeError>
     where
         K: Drop,

@@ -1,4 +1,4 @@
-//! A map before a lock is round any of its stripes.
+//! A map whose stripes have no locks yet.
 ghost use Rattle.std.specs.Prelude.{◌≡◌, IfOk};
 ghost use Rattle.scc_stripes.specs.Parts.{parts_hasher, parts_owner};
 ghost use Rattle.scc_shared_map.specs.Stripes.{hasher_of};
@@ -19,7 +19,8 @@ pub(crate) struct Unlocked<K: Eq + Hash, V, H: BuildHasher> {
 }
 
 impl<K: Eq + Hash + Drop, V: Drop, H: BuildHasher + Drop> Unlocked<K, V, H> {
-    /// An empty one of that capacity, under the hasher of the map.
+    /// Returns an empty map without locks, for `capacity` slots, under the hasher of `map`. Fails if memory is
+    /// refused.
     pub(crate) fn alike(
         alloc: Global,
         map: &HashMap<K, V, H>,
@@ -40,7 +41,7 @@ impl<K: Eq + Hash + Drop, V: Drop, H: BuildHasher + Drop> Unlocked<K, V, H> {
         }
     }
 
-    /// Puts a lock round each stripe.
+    /// Puts a lock round each stripe. Fails if memory is refused.
     pub(crate) fn lock(self, alloc: Global) -> Result<HashMap<K, V, H>, MakeError>
         ensures hasher { IfOk result (λ m. hasher_of m ≡ parts_hasher self.parts) }
     {
@@ -50,7 +51,8 @@ impl<K: Eq + Hash + Drop, V: Drop, H: BuildHasher + Drop> Unlocked<K, V, H> {
         }
     }
 
-    /// Puts in clones of all pairs, up to the first that can't be put in, and answers whether there was none.
+    /// Inserts clones of all pairs of `from`, up to the first pair that can't be inserted. Returns whether all pairs
+    /// were inserted.
     pub(crate) fn put_all(&mut self, from: &Owned<K, V, Shared<H>>) -> bool
     where
         K: Clone,
@@ -68,8 +70,8 @@ impl<K: Eq + Hash + Drop, V: Drop, H: BuildHasher + Drop> Unlocked<K, V, H> {
         true
     }
 
-    /// Puts in clones of a key and a value, and answers whether that was done: each clone was made, no key equals that
-    /// of the key, and memory wasn't refused.
+    /// Inserts clones of `k` and `v`, and returns whether it did. It does unless a clone fails, a key equals the clone
+    /// of `k`, or memory is refused.
     fn put_clones(&mut self, k: &K, v: &V) -> bool
     where
         K: Clone,

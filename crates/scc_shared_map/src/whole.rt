@@ -1,4 +1,4 @@
-//! What is done with a whole map: comparisons, clones, maps made of items. They look at the stripes one after another.
+//! Calls on a whole map: comparing, cloning, making a map of items. They look at the stripes one after another.
 ghost use Rattle.std.specs.Prelude.{◌≡◌, ◌<◌, IfOk};
 ghost use Rattle.std.specs.Iterator.{IsFinite};
 ghost use Rattle.scc_stripes.specs.Stripes.{stripe_count};
@@ -13,8 +13,9 @@ use std::hash::{BuildHasher, Hash};
 use std::sync::Wait;
 
 impl<K: Eq + Hash, V: PartialEq, H: BuildHasher> HashMap<K, V, H> {
-    /// Whether each pair of either map, as its stripe is looked at, has its key with an equal value in the other. A
-    /// stripe of each is held for reading at a time; a map may be compared with itself.
+    /// Returns whether each pair of either map has an equal key with an equal value in the other map. Each stripe is
+    /// looked at as it is at that moment. One stripe of each map is locked at a time, for reading. A map may be
+    /// compared with itself.
     pub fn eq_sync(&self, rt: &impl Wait, other: &Self) -> bool {
         self.is_within(rt, other) && other.is_within(rt, self)
     }
@@ -28,8 +29,9 @@ impl<K: Eq + Hash, V: PartialEq, H: BuildHasher> HashMap<K, V, H> {
         true
     }
 
-    /// Whether each pair of a stripe is in the other map. It never waits while it holds the stripe: where it meets a
-    /// stripe of the other map that it can't read at once, it lets its own go, waits for that one, and begins anew.
+    /// Returns whether each pair of stripe `stripe` is in `other`. It never waits while it holds that stripe. If a
+    /// stripe of `other` can't be read at once, it releases its own stripe, waits for the stripe of `other`, and
+    /// begins again.
     fn is_stripe_within(&self, rt: &impl Wait, stripe: usize, other: &Self) -> bool
         requires { stripe < stripe_count self.now.stripes }
     {
@@ -47,7 +49,8 @@ impl<K: Eq + Hash, V: PartialEq, H: BuildHasher> HashMap<K, V, H> {
         unreachable!()
     }
 
-    /// Whether the pair is there; where its stripe can't be read at once, the number of that is noted.
+    /// Returns whether `k` is in this map with a value that equals `v`. If the stripe of `k` can't be read at once,
+    /// writes the number of that stripe to `busy` and returns false.
     fn has_pair(&self, k: &K, v: &V, busy: &Cell<Option<usize>>) -> bool {
         let stripe = self.stripes.route(k);
         match self.stripes.try_read(stripe) {
@@ -70,9 +73,10 @@ impl<K: Eq + Hash, V: PartialEq, H: BuildHasher> HashMap<K, V, H> {
 }
 
 impl<K: Eq + Hash + Clone + Drop, V: Clone + Drop, H: BuildHasher + Drop> HashMap<K, V, H> {
-    /// A map with clones of the pairs that each stripe has when it is looked at, under the same hasher. It asks for the
-    /// capacity of this one. One stripe of this one is held at a time, for reading, and no lock is round the clones
-    /// before all are there.
+    /// Returns a map with clones of the pairs that each stripe holds when it is looked at, under the same hasher. It
+    /// asks for the capacity of this map. One stripe of this map is locked at a time, for reading. The new stripes get
+    /// their locks after the last clone. Fails if memory is refused, if a clone fails, or if two clones have equal
+    /// keys.
     pub fn try_clone(&self, rt: &impl Wait) -> Result<Self, MakeError>
         ensures hasher { IfOk result (λ m. hasher_of m ≡ hasher_of self.now) }
     {
@@ -87,8 +91,8 @@ impl<K: Eq + Hash + Clone + Drop, V: Clone + Drop, H: BuildHasher + Drop> HashMa
 }
 
 impl<K: Eq + Hash + Drop, V: Drop, H: BuildHasher + Default + Drop> HashMap<K, V, H> {
-    /// A map of the items, upserted in their order. It is made for as many pairs as there are items. The iterator has
-    /// to end.
+    /// Returns a map of `items`, upserted in their order, with a capacity for all of them. Fails if memory is refused;
+    /// then the items are dropped. The iterator must end.
     pub fn try_from_iter<I: IntoIterator<Item = (K, V)>>(
         rt: &impl Wait,
         alloc: Global,

@@ -1,4 +1,4 @@
--- What the contracts of an entry cite: the key that it stands at, and where it stands in its stripe.
+-- The key of an entry, and where the key stands in its stripe.
 use Rattle.std.specs.Prelude.{◌≡◌, List, []}
 use Rattle.std.specs.Map.{keys_of}
 use Rattle.std.specs.declared.cmp.PartialEq as eq
@@ -16,43 +16,44 @@ use Rattle.scc_stripes.specs.declared.seats.Seat.{Seat}
 use Rattle.scc_stripes.specs.declared.Striped.{Striped}
 
 module _ {G N K S T : Type 0} {d : guard.Ghosts G (Contents (K × Unit {0}) S)} {g : eq.Ghosts K} {h : hash.Ghosts K} {b : builder.Ghosts S T} {w : hasher.Ghosts T} where
-  -- the key of the entry, and the keys before and after it in the list of its stripe
+  -- the key of entry o
   abbrev pub occupied_key : HeldKey (HeldOccupied G N K (Unit {0}) S T d g h b w) → K
   occupied_key o = (occupied_pair o.entry).0
 
-  -- the keys of the stripe before the entry
+  -- the keys of the stripe before entry o
   abbrev pub occupied_front : HeldKey (HeldOccupied G N K (Unit {0}) S T d g h b w) → List K
   occupied_front o = keys_of (pairs_before o.entry)
 
-  -- the keys of the stripe after the entry
+  -- the keys of the stripe after entry o
   abbrev pub occupied_back : HeldKey (HeldOccupied G N K (Unit {0}) S T d g h b w) → List K
   occupied_back o = keys_of (pairs_after o.entry)
 
-  -- p stands next after o in the list of the stripe, which stays
+  -- p is the entry that stands next after o in the list of the stripe, which stays
   abbrev pub IsNext : HeldKey (HeldOccupied G N K (Unit {0}) S T d g h b w) → HeldKey (HeldOccupied G N K (Unit {0}) S T d g h b w) → Type 0
   IsNext o p = pairs.IsNext o.entry p.entry
 
-  -- the key of o is out, the others of the stripe stay in their order, and p stands at the one that stood next after it
+  -- the key of o is removed, the other keys of the stripe stay in their order, and p is the entry that stood next
+  -- after o
   abbrev pub IsNextPastRemoved : HeldKey (HeldOccupied G N K (Unit {0}) S T d g h b w) → HeldKey (HeldOccupied G N K (Unit {0}) S T d g h b w) → Type 0
   IsNextPastRemoved o p = pairs.IsNextPastRemoved o.entry p.entry
 
-  -- o is the last of its stripe
+  -- o is the last entry of its stripe
   abbrev pub IsLastOfStripe : HeldKey (HeldOccupied G N K (Unit {0}) S T d g h b w) → Type 0
   IsLastOfStripe o = pairs_after o.entry ≡ []
 
-  -- o is the first of its stripe
+  -- o is the first entry of its stripe
   abbrev pub IsFirstOfStripe : HeldKey (HeldOccupied G N K (Unit {0}) S T d g h b w) → Type 0
   IsFirstOfStripe o = pairs_before o.entry ≡ []
 
-  -- p holds the same stripe as o
+  -- p holds the stripe that o holds
   abbrev pub HasSameRest : HeldKey (HeldOccupied G N K (Unit {0}) S T d g h b w) → HeldKey (HeldOccupied G N K (Unit {0}) S T d g h b w) → Type 0
   HasSameRest o p = seats.HasSameRest o.entry p.entry
 
 module _ {G O H K S T : Type 0} {d : guard.Ghosts G (Contents (K × Unit {0}) S)} {g : eq.Ghosts K} {h : hash.Ghosts K} {b : builder.Ghosts S T} {w : hasher.Ghosts T} where
-  -- o holds one of those stripes
+  -- o holds one of these stripes
   abbrev pub HasSeatIn : Striped O H → HeldKey (HeldOccupied G (Seat O H) K (Unit {0}) S T d g h b w) → Type 0
   HasSeatIn stripes o = seats.HasSeatIn stripes o.entry
 
-  -- p holds a later stripe than o, among the same stripes
+  -- p holds a later stripe than o, of the same stripes
   abbrev pub HasLaterSeat : HeldKey (HeldOccupied G (Seat O H) K (Unit {0}) S T d g h b w) → HeldKey (HeldOccupied G (Seat O H) K (Unit {0}) S T d g h b w) → Type 0
   HasLaterSeat o p = seats.HasLaterSeat o.entry p.entry

@@ -5,10 +5,10 @@ use Rattle.scc_shared_map.specs.Stripes as map
 use Rattle.scc_shared_set.specs.declared.HashSet.{HashSet}
 
 module _ {K H T : Type 0} where
-  -- the stripes
+  -- the stripes of the set
   abbrev pub stripes_of : HashSet K H T → Striped (Contents (K × Unit {0}) H) H
   stripes_of s = map.stripes_of s.map
 
-  -- the hasher, which all stripes share
+  -- the hasher of the set, which all its stripes share
   abbrev pub hasher_of : HashSet K H T → H
   hasher_of s = map.hasher_of s.map

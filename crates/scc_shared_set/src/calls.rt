@@ -1,4 +1,5 @@
-//! The calls on one key. Each states what its arguments decide; what it does to the stripe is that of the map's call.
+//! The calls on one key. A contract states what the arguments decide; the call does to the stripe what the map's call
+//! does.
 ghost use Rattle.std.specs.Prelude.{◌≡◌, ◌⊎◌, true, IfErr, IfOk, IfSome};
 ghost use Rattle.std.specs.Fn.{FnOnceReturnsAt, FnOnceTakesAt};
 ghost use Rattle.scc_shared_set.specs.Answers.{Exists, Memory, IsEqual, ReadsEqual};
@@ -10,8 +11,8 @@ use std::hash::{BuildHasher, Hash};
 use std::sync::Wait;
 
 impl<K: Eq + Hash, H: BuildHasher> HashSet<K, H> {
-    /// Inserts the key where no key equals it. Where one does, and where a growth that the insertion needs is refused,
-    /// the supplied key comes back.
+    /// Inserts `k` if no key equals `k`. Fails if a key equals `k`, or if memory that the insertion needs is refused;
+    /// then `k` comes back.
     pub fn insert_sync(&self, rt: &impl Wait, k: K) -> Result<(), KeyError<K>>
         ensures back { IfErr result (λ e. (e ≡ Exists k) ⊎ (e ≡ Memory k)) }
     {
@@ -22,8 +23,8 @@ impl<K: Eq + Hash, H: BuildHasher> HashSet<K, H> {
         }
     }
 
-    /// Puts `k` in the place of the key that equals it, and answers the old one; this takes no memory. Where no key
-    /// equals it, it is inserted under the same lock, and None is answered; refused, it comes back.
+    /// Puts `k` in the place of the key that equals `k`, and returns the old key; this allocates nothing. If no key
+    /// equals `k`, inserts `k` under the same lock and returns `None`. If memory is refused, `k` comes back.
     pub fn replace_sync(&self, rt: &impl Wait, k: K) -> Result<Option<K>, KeyError<K>>
     where
         K: Drop,
@@ -40,7 +41,8 @@ impl<K: Eq + Hash, H: BuildHasher> HashSet<K, H> {
         }
     }
 
-    /// The answer of `f` on the key that equals `k`, or None where there is none; then `f` isn't called.
+    /// Calls `f` on the key that equals `k`, and returns what `f` returns. Returns `None` without calling `f` if no
+    /// key equals `k`.
     pub fn read_sync<R, F: FnOnce(&K) -> R>(&self, rt: &impl Wait, k: &K, f: F) -> Option<R>
         requires { F.IsAlwaysCallable f }
         ensures answer { IfSome result (ReadsEqual K.eq F.FnOnce f k.now) }
@@ -55,13 +57,13 @@ impl<K: Eq + Hash, H: BuildHasher> HashSet<K, H> {
         )
     }
 
-    /// Whether a key equals `k`.
+    /// Returns whether a key equals `k`.
     pub fn contains_sync(&self, rt: &impl Wait, k: &K) -> bool {
         self.map.contains_sync(rt, k)
     }
 
-    /// Takes out the key that equals `k` where `f` answers true; the condition is asked only where there is one. Else
-    /// the answer is None.
+    /// Removes the key that equals `k` if `f` returns true, and returns the key. If `f` returns false, returns `None`.
+    /// If no key equals `k`, returns `None` without calling `f`.
     pub fn remove_if_sync<F: FnOnce() -> bool>(&self, rt: &impl Wait, k: &K, f: F) -> Option<K>
         requires { F.IsAlwaysCallable f }
         ensures key { IfSome result (IsEqual K.eq k.now) }
@@ -80,7 +82,7 @@ impl<K: Eq + Hash, H: BuildHasher> HashSet<K, H> {
         }
     }
 
-    /// Takes out the key that equals `k`, and answers it.
+    /// Removes the key that equals `k`, and returns the key.
     pub fn remove_sync(&self, rt: &impl Wait, k: &K) -> Option<K>
         ensures key { IfSome result (IsEqual K.eq k.now) }
     {

@@ -1,4 +1,4 @@
-//! Entries of a set, each of which holds the lock of its stripe.
+//! The entries of a set. An entry holds the lock of its stripe.
 ghost use Rattle.std.specs.Prelude.{◌≡◌, List, IfSome, IsSomeAnd};
 ghost use Rattle.std.specs.Fn.{CalledAt, TakesAt};
 ghost use Rattle.scc_set.specs.SetWalks.{Declines, PassesAt};
@@ -9,19 +9,19 @@ use super::HashSet;
 use std::hash::{BuildHasher, BuildHasherDefault, FoldHasher, Hash};
 use std::sync::Wait;
 
-/// A key that is there, at the entry of the map that holds its stripe.
+/// A stored key, at the entry of the map that stands at this key.
 #[derive(Drop)]
 pub struct HeldKey<E> {
     entry: E,
 }
 
-/// A key that is there, with the lock of its stripe held.
+/// A stored key whose stripe is locked.
 pub type OccupiedEntry<'a, K, H = BuildHasherDefault<FoldHasher>> = HeldKey<
     scc_map::locked::OccupiedEntry<'a, K, (), H>,
 >;
 
 impl<K: Eq + Hash, H: BuildHasher> HashSet<K, H> {
-    /// The first key of the first stripe that has one.
+    /// Returns the entry of the first key of the first stripe that has a key, or `None` if no stripe has one.
     pub fn begin_sync(&self, rt: &impl Wait) -> Option<OccupiedEntry<'_, K, H>>
         ensures first { IfSome result IsFirstOfStripe }
         ensures seat { IfSome result (HasSeatIn (stripes_of self.now)) }
@@ -32,7 +32,8 @@ impl<K: Eq + Hash, H: BuildHasher> HashSet<K, H> {
         }
     }
 
-    /// The first key on which `p` answers true, stripe after stripe, in the order of each stripe's list.
+    /// Returns the first entry on whose key `p` returns true, stripe after stripe, in the order of each stripe's list.
+    /// Returns `None` if there is no such key.
     pub fn any_sync<P: FnMut(&K) -> bool>(
         &self,
         rt: &impl Wait,
@@ -57,22 +58,23 @@ impl<K: Eq + Hash, H: BuildHasher> HashSet<K, H> {
 }
 
 impl<'a, K: Eq + Hash, H: BuildHasher> HeldKey<scc_map::locked::OccupiedEntry<'a, K, (), H>> {
-    /// The stored key.
+    /// Returns the stored key.
     pub fn get(&self) -> &K
         ensures { result.now ≡ occupied_key self.now }
     {
         self.entry.key()
     }
 
-    /// Takes out the key, and answers it. Then the array of the stripe may become smaller, and the lock is let go.
+    /// Removes the key, and returns it. Then the array of the stripe may shrink, and the lock is released.
     pub fn remove_entry(self) -> K
         ensures { result ≡ occupied_key self.entry }
     {
         self.entry.remove_entry().0
     }
 
-    /// The entry that stands next in the stripe's list; where this one is the last of its stripe, the first of a later
-    /// stripe. The lock of a stripe is let go before the next one is taken. Nothing is resized.
+    /// Returns the next entry in the list of the stripe. If this entry is the last of its stripe, returns the first
+    /// entry of a later stripe, or `None` if no later stripe has one. The lock of a stripe is released before the next
+    /// stripe is locked. Resizes nothing.
     pub fn next_sync(self, rt: &impl Wait) -> Option<OccupiedEntry<'a, K, H>>
         ensures next { (IsLastOfStripe self.entry → ⊥) → IsSomeAnd result (IsNext self.entry) }
         ensures later { IsLastOfStripe self.entry → IfSome result IsFirstOfStripe }
@@ -85,8 +87,8 @@ impl<'a, K: Eq + Hash, H: BuildHasher> HeldKey<scc_map::locked::OccupiedEntry<'a
         }
     }
 
-    /// Takes out the key, and answers it with the entry that stood next in the stripe's list; where it was the last of
-    /// its stripe, with the first of a later stripe. Nothing is resized.
+    /// Removes the key, and returns it with the next entry in the list of the stripe. If the key was the last of its
+    /// stripe, returns the first entry of a later stripe, or `None` if no later stripe has one. Resizes nothing.
     pub fn remove_and_sync(self, rt: &impl Wait) -> (K, Option<OccupiedEntry<'a, K, H>>)
         ensures key { result.0 ≡ occupied_key self.entry }
         ensures next { (IsLastOfStripe self.entry → ⊥) → IsSomeAnd result.1 (IsNextPastRemoved self.entry) }

@@ -1,4 +1,4 @@
-//! A hash set that threads share, over the hash map that they share.
+//! A hash set that threads share, over the hash map that threads share.
 #![tactic(auto)]
 
 mod calls;
@@ -13,32 +13,33 @@ use scc_shared_map::HashMap;
 use std::alloc::Global;
 use std::hash::{BuildHasher, BuildHasherDefault, FoldHasher, Hash};
 
-/// Slots that are reserved in a set until this is dropped. The drop waits for nobody.
+/// Slots that are reserved in a set until this token is dropped. The drop waits for no lock.
 pub type Reserve<'h, K, H = BuildHasherDefault<FoldHasher>> = scc_shared_map::Reserve<'h, K, (), H>;
 
 /// A set of keys that threads share by reference. It is a map with unit values: each of its stripes is an owned map
 /// behind a lock, and a call takes the lock of the stripe of its key.
 ///
-/// A thread that holds an entry and calls into the same stripe waits for itself.
+/// A thread that holds an entry and makes a call on the stripe of that entry waits for itself forever.
 #[derive(Drop)]
 pub struct HashSet<K: Eq + Hash, H: BuildHasher = BuildHasherDefault<FoldHasher>> {
     map: HashMap<K, (), H>,
 }
 
 impl<K: Eq + Hash + Drop> HashSet<K> {
-    /// An empty set of 16 stripes without arrays. It is refused for want of memory.
+    /// Returns an empty set of 16 stripes without arrays. Fails if memory is refused.
     pub fn new(alloc: Global) -> Result<Self, MakeError> {
         HashSet::with_hasher(alloc, BuildHasherDefault::new())
     }
 
-    /// An empty set with at least so many slots in all stripes together, by the rules of `with_capacity_and_hasher`.
+    /// Returns an empty set with at least `capacity` slots in all stripes together, as `with_capacity_and_hasher`
+    /// does.
     pub fn with_capacity(alloc: Global, capacity: usize) -> Result<Self, MakeError> {
         HashSet::with_capacity_and_hasher(alloc, capacity, BuildHasherDefault::new())
     }
 }
 
 impl<K: Eq + Hash, H: BuildHasher> HashSet<K, H> {
-    /// An empty set of 16 stripes without arrays. It is refused for want of memory.
+    /// Returns an empty set of 16 stripes without arrays. Fails if memory is refused.
     pub fn with_hasher(alloc: Global, hasher: H) -> Result<Self, MakeError>
     where
         K: Drop,
@@ -50,8 +51,9 @@ impl<K: Eq + Hash, H: BuildHasher> HashSet<K, H> {
         }
     }
 
-    /// An empty set with at least so many slots in all stripes together. They are divided evenly among as many stripes
-    /// as get 64 slots each, 16 at most; 16 stripes without arrays for 0. It is refused for want of memory.
+    /// Returns an empty set with at least `capacity` slots in all stripes together. The slots are divided evenly among
+    /// the stripes: the greatest number of stripes that gives each stripe 64 slots or more, at most 16. If `capacity`
+    /// is 0, there are 16 stripes without arrays. Fails if memory is refused.
     pub fn with_capacity_and_hasher(
         alloc: Global,
         capacity: usize,

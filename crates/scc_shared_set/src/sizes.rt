@@ -1,4 +1,4 @@
-//! Sizes and reservations of a set. They look at the stripes one after another.
+//! Sizes and reservations of a set. A call looks at the stripes one after another.
 ghost use Rattle.std.specs.Prelude.{◌≡◌, ◌<◌, ◌≤◌, ◌^◌, IfSome};
 ghost use Rattle.scc_shared_map.specs.Reserves.{reserved_slots};
 
@@ -8,41 +8,42 @@ use std::ops::RangeInclusive;
 use std::sync::Wait;
 
 impl<K: Eq + Hash, H: BuildHasher> HashSet<K, H> {
-    /// The number of keys, at most the greatest number.
+    /// Returns the number of keys, at most `usize::MAX`. Takes time proportional to the number of stripes.
     pub fn len(&self, rt: &impl Wait) -> usize {
         self.map.len(rt)
     }
 
-    /// Whether no stripe has a key.
+    /// Returns whether no stripe has a key. Each stripe is looked at in turn, as it is at that moment.
     pub fn is_empty(&self, rt: &impl Wait) -> bool {
         self.map.is_empty(rt)
     }
 
-    /// The slots of all stripes, at most the greatest number. Each stripe looks at the minimum again, and may give back
-    /// slots that it no longer needs.
+    /// Returns the number of slots of all stripes, at most `usize::MAX`. Each stripe first follows the minimum, by
+    /// which its array may grow or shrink.
     pub fn capacity(&self, rt: &impl Wait) -> usize {
         self.map.capacity(rt)
     }
 
-    /// From the slots that the set keeps at least to those that it may grow to.
+    /// Returns the range from the minimum of the set to the greatest number of slots that it may grow to.
     pub fn capacity_range(&self) -> RangeInclusive<usize>
         ensures high { result.end ≡ 2 ^ 63 }
     {
         self.map.capacity_range()
     }
 
-    /// The number of the bucket of `k`, as the map numbers it; 0 without an array.
+    /// Returns the number of the bucket of `k` in its stripe, or 0 if the stripe has no array.
     pub fn bucket_index(&self, rt: &impl Wait, k: &K) -> usize {
         self.map.bucket_index(rt, k)
     }
 
-    /// Whether the stripe of `k` has an array, and the bucket of `k` holds fewer than 32 keys.
+    /// Returns whether the stripe of `k` has an array in which the bucket of `k` holds fewer than 32 keys.
     pub fn has_room(&self, rt: &impl Wait, k: &K) -> bool {
         self.map.has_room(rt, k)
     }
 
-    /// Raises the minimum by so many slots until the answer is dropped; None for 0, and where the minimum would pass
-    /// the greatest capacity. Arrays with fewer slots than their share grow, unless memory is refused.
+    /// Raises the minimum by `additional` slots until the returned reservation is dropped. Returns `None` if
+    /// `additional` is 0 or if the minimum would pass the greatest capacity. An array with fewer slots than its share
+    /// of the minimum grows, unless memory is refused; the reservation is returned either way.
     pub fn reserve(&self, rt: &impl Wait, additional: usize) -> Option<Reserve<'_, K, H>>
         ensures { IfSome result (λ r. (reserved_slots r ≡ additional) × (0 < additional) × (additional ≤ 2 ^ 63)) }
     {

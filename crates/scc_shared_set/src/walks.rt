@@ -10,8 +10,8 @@ use std::hash::{BuildHasher, Hash};
 use std::sync::Wait;
 
 impl<K: Eq + Hash, H: BuildHasher> HashSet<K, H> {
-    /// Calls `f` on keys, stripe after stripe, until its first false, and answers false where it stopped. One stripe is
-    /// held for reading at a time.
+    /// Calls `f` on the keys, stripe after stripe, until `f` returns false. Returns false if `f` did, else true. One
+    /// stripe is locked at a time, for reading.
     pub fn iter_sync<F: FnMut(&K) -> bool>(&self, rt: &impl Wait, mut f: F) -> bool
         requires { F.IsAlwaysCallable f }
         ensures calls { (ks : List K) × (last : F) × Walks (CalledAt F.FnMut) f ks result last }
@@ -25,8 +25,8 @@ impl<K: Eq + Hash, H: BuildHasher> HashSet<K, H> {
         )
     }
 
-    /// Calls `f` on the keys, stripe after stripe, and takes out those on which it answers false. Then the array of the
-    /// stripe may become smaller.
+    /// Calls `f` on the keys, stripe after stripe, and removes each key on which `f` returns false. Then the array of
+    /// the stripe may shrink.
     pub fn retain_sync<F: FnMut(&K) -> bool>(&self, rt: &impl Wait, mut f: F)
     where
         K: Drop,
@@ -42,9 +42,10 @@ impl<K: Eq + Hash, H: BuildHasher> HashSet<K, H> {
         );
     }
 
-    /// Calls `f` on the keys, stripe after stripe, until it stops, and answers false where it stopped. A key on which
-    /// it answers `Take` or `TakeStop` goes to the end of `taken`. Room for one key is made in `taken` before each call
-    /// of `f`; where it can't be had, the walk ends with an error, and what it did so far stays.
+    /// Calls `f` on the keys, stripe after stripe, until `f` returns `KeepStop` or `TakeStop`. Returns false if `f`
+    /// stopped the walk, else true. A key on which `f` returns `Take` or `TakeStop` moves to the end of `taken`.
+    /// Before each call of `f`, room for one key is made in `taken`. Fails if memory for that room is refused; what
+    /// the walk did before then stays.
     pub fn iter_mut_sync<F: FnMut(&K) -> Verdict>(
         &self,
         rt: &impl Wait,
@@ -67,7 +68,7 @@ impl<K: Eq + Hash, H: BuildHasher> HashSet<K, H> {
         )
     }
 
-    /// Takes out the keys of each stripe in turn.
+    /// Removes the keys of each stripe in turn.
     pub fn clear_sync(&self, rt: &impl Wait)
     where
         K: Drop,

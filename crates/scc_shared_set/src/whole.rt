@@ -1,4 +1,4 @@
-//! What is done with a whole set: comparisons, clones, sets made of items. They look at the stripes one after another.
+//! Calls on a whole set: comparing, cloning, making a set of items. They look at the stripes one after another.
 ghost use Rattle.std.specs.Prelude.{◌≡◌, IfOk};
 ghost use Rattle.std.specs.Iterator.{IsFinite};
 ghost use Rattle.scc_shared_set.specs.Stripes.{hasher_of};
@@ -10,16 +10,17 @@ use std::hash::{BuildHasher, Hash};
 use std::sync::Wait;
 
 impl<K: Eq + Hash, H: BuildHasher> HashSet<K, H> {
-    /// Whether each key of either set, as its stripe is looked at, is in the other. A stripe of each is held for
-    /// reading at a time.
+    /// Returns whether each key of either set has an equal key in the other set. Each stripe is looked at as it is at
+    /// that moment. One stripe of each set is locked at a time, for reading. A set may be compared with itself.
     pub fn eq_sync(&self, rt: &impl Wait, other: &Self) -> bool {
         self.map.eq_sync(rt, &other.map)
     }
 }
 
 impl<K: Eq + Hash + Clone + Drop, H: BuildHasher + Drop> HashSet<K, H> {
-    /// A set with clones of the keys that each stripe has when it is looked at, under the same hasher. It asks for the
-    /// capacity of this one. It is refused for want of memory, and where a clone can't be had.
+    /// Returns a set with clones of the keys that each stripe holds when it is looked at, under the same hasher. It
+    /// asks for the capacity of this set. One stripe of this set is locked at a time, for reading. The new stripes get
+    /// their locks after the last clone. Fails if memory is refused, if a clone fails, or if two clones are equal.
     pub fn try_clone(&self, rt: &impl Wait) -> Result<Self, MakeError>
         ensures hasher { IfOk result (λ s. hasher_of s ≡ hasher_of self.now) }
     {
@@ -31,8 +32,8 @@ impl<K: Eq + Hash + Clone + Drop, H: BuildHasher + Drop> HashSet<K, H> {
 }
 
 impl<K: Eq + Hash + Drop, H: BuildHasher + Default + Drop> HashSet<K, H> {
-    /// A set of the items, inserted in their order, so that the first of equal keys stays. It is made for as many keys
-    /// as there are items. It is refused for want of memory. The iterator has to end.
+    /// Returns a set of `items`, inserted in their order, so that the first of equal keys stays, with a capacity for
+    /// all of them. Fails if memory is refused; then the items are dropped. The iterator must end.
     pub fn try_from_iter<I: IntoIterator<Item = K>>(
         rt: &impl Wait,
         alloc: Global,

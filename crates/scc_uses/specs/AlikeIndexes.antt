@@ -1,11 +1,11 @@
--- Calls of an index over keys and values of which equal ones need not be the same.
+-- Calls of an index over keys and values for which equal ones need not be the same.
 use Rattle.std.specs.Prelude.{◌≡◌, Bool, true}
 use Rattle.scc_calls.specs.Copies.{Alike}
 use Rattle.scc_calls.specs.declared.calls_as_values.IndexCall.{IndexCall}
 use Rattle.scc_calls.specs.declared.calls_as_values.IndexCall.TheVariants.{Insert, Update, Remove, Read, Contains, Clear, Len}
 
 module _ {K V : Type 0} (keys : K → K → Bool) (values : V → V → Bool) where
-  -- the same call of an index, with equal keys and alike values
+  -- both are the same call of an index, with equal keys and alike values
   abbrev pub IndexCallsAlike : IndexCall K V → IndexCall K V → Type 0
   IndexCallsAlike (Insert k v) (Insert l w) = (keys k l ≡ true) × Alike values v w
   IndexCallsAlike (Update k v) (Update l w) = (keys k l ≡ true) × Alike values v w

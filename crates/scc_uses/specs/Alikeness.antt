@@ -1,4 +1,5 @@
--- What two containers have in common that were given the same calls, over keys and values of which equal ones need not be the same.
+-- What two containers have in common that got the same calls, over keys and values for which equal ones need not be
+-- the same.
 use Rattle.std.specs.Prelude.{◌≡◌, Bool, true, List, [], ◌∷◌, Option, None, Some, is_some}
 use Rattle.std.specs.Map.{lookup}
 use Rattle.scc_set.specs.Keys.{find}
@@ -8,20 +9,20 @@ use Rattle.scc_calls.specs.declared.calls_as_values.MapCall.TheVariants.{Insert,
 use Rattle.scc_calls.specs.declared.replies.Reply.{Reply}
 use Rattle.scc_calls.specs.declared.replies.Reply.TheVariants.{Inserted, Exists, Old, Key, Pair, Value, Has, Evicted, Cleared, Count}
 
--- both have nothing, or what both have is related
+-- both are `None`, or both have a value and the values are related
 abbrev pub Both : {X : Type 0} → (X → X → Type 0) → Option X → Option X → Type 0
 Both like None None = Unit {0}
 Both like (Some a) (Some b) = like a b
 Both like None (Some b) = ⊥
 Both like (Some a) None = ⊥
 
--- as far as both lists go, what stands at one place is related
+-- as far as both lists go, the items at the same place are related
 abbrev pub AgreeAlong : {X : Type 0} → (X → X → Type 0) → List X → List X → Type 0
 AgreeAlong like [] ys = Unit {0}
 AgreeAlong like (x ∷ xs) [] = Unit {0}
 AgreeAlong like (x ∷ xs) (y ∷ ys) = like x y × AgreeAlong like xs ys
 
--- equal calls are the same, and equal replies, as those of numbers are
+-- equal calls are the same call, and equal replies the same reply, as for numbers
 abbrev pub AreExact : {C R : Type 0} → (C → C → Bool) → (R → R → Bool) → Type 0
 AreExact calls replies = AreSame calls × AreSame replies
 
@@ -38,11 +39,11 @@ abbrev pub HaveEqual : {K : Type 0} → (K → K → Bool) → List K → List K
 HaveEqual {K} keys ks ls = (q : K) → is_some (find keys ls q) ≡ is_some (find keys ks q)
 
 module _ {K V : Type 0} (keys : K → K → Bool) (values : V → V → Bool) where
-  -- the keys are equal, and the values alike
+  -- the keys are equal, and the values are alike
   abbrev pub PairsAlike : K × V → K × V → Type 0
   PairsAlike p q = (keys p.0 q.0 ≡ true) × Alike values p.1 q.1
 
-  -- the same reply, with equal keys and alike values in it
+  -- both are the same reply, with equal keys and alike values
   abbrev pub RepliesAlike : Reply K V → Reply K V → Type 0
   RepliesAlike Inserted Inserted = Unit {0}
   RepliesAlike (Exists k v) (Exists l w) = (keys k l ≡ true) × Alike values v w
@@ -56,7 +57,7 @@ module _ {K V : Type 0} (keys : K → K → Bool) (values : V → V → Bool) wh
   RepliesAlike (Count m) (Count n) = m ≡ n
   RepliesAlike q r = ⊥
 
-  -- the same call of a map, with equal keys and alike values
+  -- both are the same call of a map, with equal keys and alike values
   abbrev pub MapCallsAlike : MapCall K V → MapCall K V → Type 0
   MapCallsAlike (Insert k v) (Insert l w) = (keys k l ≡ true) × Alike values v w
   MapCallsAlike (Upsert k v) (Upsert l w) = (keys k l ≡ true) × Alike values v w

@@ -1,4 +1,4 @@
--- What counting means.
+-- The meaning of counting.
 use Rattle.std.specs.Prelude.{ℕ, suc, ◌^◌, ◌-◌, Option, None, Some, min}
 
 -- the count of a word after one more; it stays at the greatest number

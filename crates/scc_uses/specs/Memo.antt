@@ -1,4 +1,4 @@
--- What a memo answers.
+-- The value that a memo returns.
 use Rattle.std.specs.Prelude.{ℕ, Option, None, Some}
 
 -- the value of the pair, or the default

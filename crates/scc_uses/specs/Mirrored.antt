@@ -1,4 +1,4 @@
--- What the same calls on two containers of one kind do, each under a hasher and sizes of its own.
+-- What the same calls do to two containers of one kind with different hashers and sizes.
 use Rattle.std.specs.Prelude.{◌≡◌, ◌+◌, ◌++◌, ◌⊎◌, Bool, List, Result, length}
 use Rattle.std.specs.Result.{OnOk, OnErr}
 use Rattle.scc_contents.specs.Contents.{Contents, entries}
@@ -7,47 +7,49 @@ use Rattle.scc_calls.specs.Run.{IsRun}
 use Rattle.scc_calls.specs.States.{State, ResizesTo, setting_of, state_of}
 use Rattle.scc_uses.specs.Alikeness.{AgreeAlong, AreExact}
 
--- A container and the replies that its calls gave
+-- a container, and the replies of its calls
 abbrev pub Side : Type 0 → Type 0 → Type 0 → Type 0
 Side E H R = Contents E H × List R
 
--- replies are added, and with them the container went on by a run of the calls
+-- replies are added, and the container changed by a run of the calls with these replies
 abbrev pub AddsRun : {C R E H : Type 0} → (State E → C → R → State E → Type 0) → List C → Side E H R → Side E H R → Type 0
 AddsRun {R = R} moves calls a b = (made : List R) × (b.1 ≡ a.1 ++ made) × IsRun moves (ResizesTo (setting_of a.0)) (state_of a.0) calls made (state_of b.0)
 
--- as many replies as there are calls are added to the first, some to the second, and both agree as far as they go
+-- the first side got one reply for each call, the second side some replies, and both agree as far as they go
 abbrev pub AddAlike : {C R E H I : Type 0} → (R → R → Type 0) → List C → Side E H R → Side E I R → Side E H R → Side E I R → Type 0
 AddAlike {R = R} agree calls a b c d = (made : List R) × (others : List R) × (c.1 ≡ a.1 ++ made) × (d.1 ≡ b.1 ++ others) × (length made ≡ length calls) × AgreeAlong agree made others
 
--- as many replies as there are calls are added to the first, and the first of these to the second
+-- the first side got one reply for each call, and the second side the first of these replies
 abbrev pub AddSame : {C R E H I : Type 0} → List C → Side E H R → Side E I R → Side E H R → Side E I R → Type 0
 AddSame {R = R} calls a b c d = (made : List R) × (rest : List R) × (c.1 ≡ a.1 ++ (made ++ rest)) × (d.1 ≡ b.1 ++ made) × (length (made ++ rest) ≡ length calls)
 
 module _ {C R E H I X Y : Type 0} (equal_calls : C → C → Bool) (equal_replies : R → R → Bool) (moves : State E → C → R → State E → Type 0) (agree : R → R → Type 0)
     (alike same : List E → List E → Type 0) where
-  -- the calls, made on a and then on b, leave c and d
+  -- the calls are made on a and then on b, which become c and d
   pub record RunsOnBoth (calls : List C) (a : Side E H R) (b : Side E I R) (result : Result X Y) (c : Side E H R) (d : Side E I R) : Type 0 where
-    -- the first went on by a run of calls and replies that equal these
+    -- the first container changed by a run of calls and replies that equal these
     pub first : AddsRun (Means equal_calls equal_replies moves) calls a c
-    -- and so did the second
+    -- the second container changed by a run of calls and replies that equal these
     pub second : AddsRun (Means equal_calls equal_replies moves) calls b d
-    -- answered, each call has a reply
+    -- if it succeeds, each call has a reply
     pub all : OnOk result (length c.1 ≡ length a.1 + length calls)
-    -- the replies of both agree one by one
+    -- if it succeeds, the replies of both agree one by one
     pub replies : OnOk result ((made : List R) × (others : List R) × (c.1 ≡ a.1 ++ made) × (d.1 ≡ b.1 ++ others) × (length others ≡ length made) × AgreeAlong agree made others)
-    -- what both hold is alike
+    -- if it succeeds, the contents of both are alike
     pub contents : OnOk result (alike (entries c.0) (entries d.0))
-    -- and as many
+    -- if it succeeds, both hold the same number of entries
     pub count : OnOk result (length (entries d.0) ≡ length (entries c.0))
-    -- refused, the second wasn't touched, or the first answered all and the second some that agree
+    -- if it fails, the second container wasn't touched, or the first gave all replies and the second some replies,
+    -- which agree
     pub refused : OnErr result (((d.0 ≡ b.0) × (d.1 ≡ b.1)) ⊎ AddAlike agree calls a b c d)
-    -- where equal ones are the same, the first went on by a run of these very calls
+    -- if equal calls and equal replies are the same, the first container changed by a run of these very calls
     pub exact_first : AreExact equal_calls equal_replies → AddsRun moves calls a c
-    -- and so did the second
+    -- if equal calls and equal replies are the same, the second container changed by a run of these very calls
     pub exact_second : AreExact equal_calls equal_replies → AddsRun moves calls b d
-    -- from the same contents both give the same replies
+    -- if equal calls and equal replies are the same and the contents were the same, both give the same replies
     pub exact_replies : AreExact equal_calls equal_replies → same (entries a.0) (entries b.0) → OnOk result ((made : List R) × (c.1 ≡ a.1 ++ made) × (d.1 ≡ b.1 ++ made))
-    -- and hold the same again
+    -- if equal calls and equal replies are the same and the contents were the same, the contents are the same again
     pub exact_contents : AreExact equal_calls equal_replies → same (entries a.0) (entries b.0) → OnOk result (same (entries c.0) (entries d.0))
-    -- refused, the second wasn't touched, or gave the first of the other's replies
+    -- if equal calls and equal replies are the same, the contents were the same and it fails, the second container
+    -- wasn't touched, or it gave the first of the first container's replies
     pub exact_refused : AreExact equal_calls equal_replies → same (entries a.0) (entries b.0) → OnErr result (((d.0 ≡ b.0) × (d.1 ≡ b.1)) ⊎ AddSame calls a b c d)

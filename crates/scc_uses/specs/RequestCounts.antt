@@ -1,4 +1,4 @@
--- How requests are counted.
+-- The count of requests.
 use Rattle.std.specs.Prelude.{ℕ, suc, ◌^◌, ◌-◌, min}
 
 -- one more; the greatest number stays

@@ -1,8 +1,8 @@
--- What windows of requests mean.
+-- The meaning of windows of requests.
 use Rattle.std.specs.Prelude.{◌≤◌, ◌<◌, ◌-◌, ◌^◌, ℕ, suc, min, cond, Option, None, Some, nat_le}
 use Rattle.scc_uses.specs.declared.requests.Window.{Window}
 
--- the window of a user is over by now
+-- the window of the pair is over by now
 abbrev pub IsExpired : ℕ → ℕ → ℕ × Window → Type 0
 IsExpired width now p = width ≤ now - p.1.since
 

@@ -15,7 +15,8 @@ use std::hash::BuildHasher;
 use std::sync::Wait;
 use std::sync::ledger::{Blank, Ledger};
 
-/// A call by the one, and a later call by the other, who was told of it: its stamp is greater.
+/// Makes a call by `first`, tells `second` the clock of `first`, and makes a later call by `second`. The stamp of the
+/// later call is greater.
 pub fn one_after_another<C: Calls>(
     stripe: &mut Stripe<C>,
     first: &mut Log<C>,
@@ -33,8 +34,8 @@ pub fn one_after_another<C: Calls>(
     Ok(())
 }
 
-/// Finishes a run. Each pass then has as many receipts as there are call records with its number: no call went
-/// unanswered, and none was answered that isn't recorded.
+/// Finishes a run. Then each pass has one receipt for each call record with its number: every call was answered, and
+/// every answered call is recorded.
 pub fn audit<C: Calls + Drop, L: Ledger, M: Site<C::Hasher>>(
     closed: Closed<C, L, M>,
     passes: Vec<Pass<C, L>>,
@@ -48,7 +49,7 @@ where
     closed.finish(passes)
 }
 
-/// One insertion into a map of two stripes.
+/// Makes one insertion into a recorded map of two stripes, and returns its reply. Returns `None` if memory is refused.
 pub fn insert_once<H: BuildHasher + Drop, L: Ledger, M: Site<Shared<H>>, R: Wait>(
     rt: &R,
     alloc: Global,

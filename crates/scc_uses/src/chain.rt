@@ -6,7 +6,7 @@ ghost use Rattle.scc_contents.specs.Contents.{entries};
 use scc_common::InsertError;
 use scc_map::Owned;
 
-/// Inserts a pair, looks it up and takes it out again: the look-up finds the value, and the old pairs are left in some
+/// Inserts a pair, looks it up and removes it again. The look-up finds the value, and the old pairs are left in some
 /// order.
 pub fn insert_read_remove(
     map: &mut Owned<u64, u64>,

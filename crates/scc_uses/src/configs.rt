@@ -1,4 +1,4 @@
-//! Configurations in an index: a value is published anew while a reader keeps the version that it has.
+//! Configurations in an index: a value is published anew while a reader keeps its version.
 ghost use Rattle.std.specs.Arc.{arc_value};
 ghost use Rattle.std.specs.Prelude.{◌≡◌, nat_eq, Some, IfOk, IfErr, OnOk, OnErr};
 ghost use Rattle.scc_contents.specs.Contents.{entries};
@@ -8,8 +8,8 @@ use scc_common::Version;
 use scc_index::Owned;
 use std::sync::Arc;
 
-/// Publishes `value` under the key of a version that a reader keeps, and answers the value that the reader has, which
-/// stays what it was. Refused for want of memory, it hands `value` back, and look-ups find what they found.
+/// Publishes `value` under the key of the version `kept`, and returns the value of `kept`, which stays what it was. If
+/// memory is refused, `value` comes back, and look-ups find what they found before.
 pub fn republish(
     configs: &mut Owned<u64, u64>,
     kept: &Arc<Version<u64, u64>>,

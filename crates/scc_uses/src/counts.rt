@@ -22,7 +22,7 @@ pub fn count_word(counts: &mut Owned<u64, u64>, word: u64) -> Result<(), InsertE
     Ok(())
 }
 
-/// How often a word was counted. The entry is let go, and every count stays.
+/// Returns how often `word` was counted. Drops the entry, and every count stays.
 pub fn count_of(counts: &mut Owned<u64, u64>, word: u64) -> u64
     ensures answer { MatchOption (find nat_eq (entries counts.old) word) (result ≡ 0) (λ p. result ≡ p.1) }
     ensures same { counts.new ≡ counts.old }

@@ -6,7 +6,7 @@ ghost use Rattle.scc_set.specs.Keys.{find};
 use scc_set::Owned;
 use std::hash::{BuildHasher, Hash};
 
-/// Takes out of the first set the keys that the second has.
+/// Removes from `first` the keys that `second` has.
 pub fn subtract<K: Eq + Hash + Drop, H: BuildHasher, I: BuildHasher>(
     first: &mut Owned<K, H>,
     second: &Owned<K, I>,

@@ -7,7 +7,7 @@ use scc_common::{KeyError, MakeError};
 use scc_set::Owned;
 use std::alloc::Global;
 
-/// The words of a list, each once, however often it stands there. It is refused for want of memory.
+/// Returns the words of `words`, each once. Fails if memory is refused.
 pub fn distinct(alloc: Global, words: &[u64]) -> Result<Vec<u64>, MakeError>
     ensures words { IfOk result (λ l. (w : ℕ) → is_member nat_eq l.items w ≡ is_member nat_eq words.now w) }
     ensures once { IfOk result (λ l. IsDistinct nat_eq l.items) }

@@ -1,4 +1,4 @@
-//! A function that takes long to evaluate, whose values are kept in a memo.
+//! A function that takes long to evaluate, with a memo of its values.
 ghost use Rattle.std.specs.Prelude.{◌≡◌, ℕ, IfOk, IsOk};
 
 use scc_common::MakeError;
@@ -7,20 +7,20 @@ use std::alloc::Global;
 use std::hash::{BuildHasherDefault, FoldHasher};
 use std::marker::Model;
 
-/// The slots that an evaluator's memo may have.
+/// The greatest number of slots of an evaluator's memo.
 const MOST_SLOTS: usize = 256;
 
 /// A function that takes long to evaluate.
 pub trait Function: Drop {
-    // Its value at an argument.
+    // The value of the function at an argument.
     ghost value: { Self → ℕ → ℕ };
 
-    /// The value at the argument.
+    /// Returns the value at `argument`.
     fn evaluate(&self, argument: u64) -> u64
         ensures { result ≡ value self.now argument };
 }
 
-/// The function as one that a memo asks.
+/// The function in the form that a memo calls.
 #[derive(Drop)]
 pub struct Asked<F: Function>(F);
 
@@ -54,7 +54,7 @@ impl<F: Function> Model for Evaluator<F> {
 }
 
 impl<F: Function> Evaluator<F> {
-    /// The function with an empty memo.
+    /// Returns the function with an empty memo.
     pub fn new(alloc: Global, function: F) -> Result<Self, MakeError>
         ensures function { IfOk result (λ e. e ≡ function) }
         ensures succeeds { IsOk result }
@@ -69,7 +69,8 @@ impl<F: Function> Evaluator<F> {
         Ok(Evaluator { memo })
     }
 
-    /// The value at the argument: the one in the memo, or else a new one, which is kept there where memory can be had.
+    /// Returns the value at `argument`, from the memo if it has one. Else the value is new, and is stored unless
+    /// memory is refused.
     pub fn value_at(&mut self, argument: u64) -> u64
         ensures value { result ≡ F.value self.old argument }
         ensures function { self.new ≡ self.old }

@@ -1,11 +1,11 @@
-//! A map that is made with room and filled within it.
+//! A map that is made with room and is filled within it.
 ghost use Rattle.std.specs.Prelude.{◌≡◌, ◌<◌, ◌≤◌, IfSome};
 ghost use Rattle.scc_contents.specs.Contents.{bucket_count, pending_of};
 
 use scc_map::Owned;
 use std::alloc::Global;
 
-/// Inserts the key with itself, where the map lacks it and has room for it.
+/// Inserts `key` with itself as value, if the map lacks `key` and has room for it.
 fn add_within(map: &mut Owned<u64, u64>, key: u64)
     requires array { 0 < bucket_count map.old }
     ensures buckets { bucket_count map.new ≡ bucket_count map.old }
@@ -16,7 +16,8 @@ fn add_within(map: &mut Owned<u64, u64>, key: u64)
     }
 }
 
-/// A map with an array for 64 pairs, and with those of the keys for which it had room: no bucket waits for its pairs.
+/// Returns a map with an array for 64 pairs, in which each of `keys` was inserted for which there was room. No bucket
+/// waits for its pairs. Returns `None` if memory is refused.
 pub fn filled(alloc: Global, keys: &[u64]) -> Option<Owned<u64, u64>>
     ensures { IfSome result (λ m. pending_of m ≡ 0) }
 {

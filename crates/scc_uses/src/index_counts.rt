@@ -1,4 +1,4 @@
-//! Counting by entries of an index: one search for each word, and each new count is a version of its own.
+//! Counting by entries of an index: one search for each word, and a version of its own for each new count.
 ghost use Rattle.std.specs.Prelude.{◌≡◌, nat_eq, Some, IfErr, OnOk, OnErr};
 ghost use Rattle.scc_contents.specs.Contents.{entries};
 ghost use Rattle.scc_contents.specs.Pairs.{find, FindsInstead};
@@ -10,9 +10,9 @@ use scc_common::InsertError;
 use scc_index::Owned;
 use scc_index::borrowed::Entry;
 
-/// Counts a word once more: a new version has the new count, and who kept the old one keeps its count. A count stays at
-/// the greatest number once it is there. Refused for want of memory, the word comes back with the count that it would
-/// have, and the index holds the pairs that it held.
+/// Counts a word once more: a new version has the new count, and whoever keeps the old version keeps its count. A
+/// count stays at the greatest number once it is there. If memory is refused, the word comes back with the count that
+/// it would have, and the index holds the pairs that it held.
 pub fn count_word(counts: &mut Owned<u64, u64>, word: u64) -> Result<(), InsertError<u64, u64>>
     ensures counted { OnOk result (FindsInstead nat_eq (entries counts.old) word
         (Some (word, one_more (find nat_eq (entries counts.old) word))) (entries counts.new)) }

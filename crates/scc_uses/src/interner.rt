@@ -6,7 +6,8 @@ use scc_map::Owned;
 use std::alloc::Global;
 use std::marker::Model;
 
-/// Each distinct word has a number, from 0 on. A contract sees the list of the words in the order of their numbers.
+/// An interner: each distinct word has a number, from 0 on. A contract sees the list of the words in the order of
+/// their numbers.
 #[derive(Drop)]
 pub struct Interner {
     numbers: Owned<u64, u32>,
@@ -27,14 +28,14 @@ impl Model for Interner {
 /// Why a word got no number.
 #[derive(Clone, Copy, Debug, PartialEq)]
 pub enum InternError {
-    /// All numbers are given.
+    /// All numbers are used.
     Full,
-    /// There is no memory.
+    /// Memory was refused.
     Memory,
 }
 
 impl Interner {
-    /// No word.
+    /// Returns an interner without words.
     pub fn new(alloc: Global) -> Self
         ensures { result ≡ [] }
     {
@@ -44,7 +45,7 @@ impl Interner {
         }
     }
 
-    /// The number of a word: the one that it has, or the next one.
+    /// Returns the number of `word`: its number if it has one, else the next number, which becomes its number.
     pub fn intern(&mut self, word: u64) -> Result<u32, InternError>
         ensures number { IfOk result (IsNumberOf self.new word) }
         ensures words { IfOk result (λ n. (self.new ≡ self.old)
@@ -68,7 +69,7 @@ impl Interner {
         Ok(number)
     }
 
-    /// The word of a number.
+    /// Returns the word with the number `number`, or `None` if there is none.
     pub fn word_of(&self, number: u32) -> Option<u64>
         ensures { result ≡ slice_get self.now number }
     {

@@ -1,5 +1,5 @@
-//! Uses of the owned map, set, index and cache, as a caller writes them: each contract speaks of what a look-up finds
-//! or a run answers, and its proof cites nothing but the contracts of the containers and of runs, and their callers'
+//! Uses of the owned map, set, index and cache, as a caller writes them. Each contract speaks of what a look-up finds
+//! or a run answers. Its proof cites nothing but the contracts of the containers and of runs, and their callers'
 //! lemmas.
 #![tactic(auto)]
 

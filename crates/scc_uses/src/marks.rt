@@ -6,7 +6,7 @@ ghost use Rattle.scc_set.specs.Keys.{find};
 use scc_common::KeyError;
 use scc_set::Owned;
 
-/// Whether the key is new; it is in the set then.
+/// Inserts `key` into `seen` if it is new, and returns whether it was new.
 pub fn mark(seen: &mut Owned<u64>, key: u64) -> Result<bool, KeyError<u64>>
     ensures new { IfOk result (λ new. IsTrue new ↔ (find nat_eq (entries seen.old) key ≡ None)) }
     ensures marked { OnOk result (IsSome (find nat_eq (entries seen.new) key)) }

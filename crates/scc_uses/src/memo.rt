@@ -1,4 +1,4 @@
-//! A memo: a value is stored once, and then handed out.
+//! A memo: a value is stored once, and then returned.
 ghost use Rattle.std.specs.Prelude.{◌≡◌, nat_eq, None, Some, OnErr, IfOk};
 ghost use Rattle.scc_contents.specs.Contents.{entries};
 ghost use Rattle.scc_contents.specs.Pairs.{find, FindsInstead};
@@ -7,7 +7,7 @@ ghost use Rattle.scc_uses.specs.Memo.{stored_or};
 use scc_common::InsertError;
 use scc_map::Owned;
 
-/// The value of a key; a default is stored where there is none.
+/// Returns the value of `key`. If there is none, stores and returns `default`.
 pub fn get_or_insert(
     values: &mut Owned<u64, u64>,
     key: u64,

@@ -1,4 +1,4 @@
-//! The same calls on two maps, which differ in their hashers and sizes.
+//! The same calls on two maps with different hashers and sizes.
 ghost use Rattle.std.specs.List.Sorted.{IsPermutation};
 ghost use Rattle.scc_contents.specs.Contents.{entries};
 ghost use Rattle.scc_calls.specs.MapCalls.{MapMoves};
@@ -11,15 +11,16 @@ use scc_calls::{MapCall, Refused, Reply, run, runs_mean};
 use scc_map::Owned;
 use std::hash::{BuildHasher, Hash};
 
-/// Makes the same calls on two maps in which look-ups find alike values, each under a hasher, a capacity and a minimum
-/// of its own: the replies that it adds for both agree one by one, and look-ups find alike values in both again. A call
-/// that is made is a clone, which need only equal its original, and so keys and values need only be equal too.
+/// Makes the same calls on two maps in which look-ups find alike values. Each map has its own hasher, capacity and
+/// minimum. The replies that are added for both agree one by one, and look-ups find alike values in both maps again. A
+/// clone of each call is made; a clone need only equal its original, so keys and values too need only be equal.
 ///
-/// Where equal calls are the same, and equal replies, as of numbers, both give the very same replies, and the same
-/// pairs stay the same pairs, in some order.
+/// If equal calls are the same call, and equal replies the same reply, as for numbers, then both maps give the very
+/// same replies, and maps with the same pairs have the same pairs again, in some order.
 ///
-/// All calls are made on the first map before any on the second. Where one is refused on the first, the second isn't
-/// touched. Where one is refused on the second, the replies up to there agree with the first of those of the first map.
+/// All calls are made on the first map before any on the second. If a call is refused on the first map, the second is
+/// not touched. If a call is refused on the second map, its replies up to there agree with the first of those of the
+/// first map.
 pub fn run_on_both<K: Eq + Hash + Clone, V: Clone + PartialEq, H: BuildHasher, I: BuildHasher>(
     first: &mut Owned<K, V, H>,
     second: &mut Owned<K, V, I>,

@@ -1,4 +1,4 @@
-//! The same calls on two indexes, which differ in their hashers and sizes.
+//! The same calls on two indexes with different hashers and sizes.
 ghost use Rattle.scc_contents.specs.Contents.{entries};
 ghost use Rattle.scc_calls.specs.IndexCalls.{IndexMoves};
 ghost use Rattle.scc_calls.specs.Copies.{ClonesEqual};
@@ -10,17 +10,18 @@ use scc_calls::{IndexCall, Refused, Reply, run, runs_mean};
 use scc_index::Owned;
 use std::hash::{BuildHasher, Hash};
 
-/// Makes the same calls on two indexes in which look-ups find alike values, each under a hasher, a capacity and a
-/// minimum of its own: the replies that it adds for both agree one by one, and look-ups find alike values in both
-/// again. A call that is made is a clone, which need only equal its original, and so keys and values need only be equal
-/// too.
+/// Makes the same calls on two indexes in which look-ups find alike values. Each index has its own hasher, capacity
+/// and minimum. The replies that are added for both agree one by one, and look-ups find alike values in both indexes
+/// again. A clone of each call is made; a clone need only equal its original, so keys and values too need only be
+/// equal.
 ///
-/// Where equal calls are the same, and equal replies, as of numbers, both give the very same replies, and look-ups that
-/// found the same values do so again. Of two equal keys each index may store another one.
+/// If equal calls are the same call, and equal replies the same reply, as for numbers, then both indexes give the very
+/// same replies, and indexes in which look-ups find the same values are such indexes again. Of two equal keys, each
+/// index may store another one.
 ///
-/// All calls are made on the first index before any on the second. Where one is refused on the first, the second isn't
-/// touched. Where one is refused on the second, the replies up to there agree with the first of those of the first
-/// index.
+/// All calls are made on the first index before any on the second. If a call is refused on the first index, the second
+/// is not touched. If a call is refused on the second index, its replies up to there agree with the first of those of
+/// the first index.
 pub fn run_on_both_indexes<
     K: Eq + Hash + Clone + Drop,
     V: Clone + PartialEq + Drop,

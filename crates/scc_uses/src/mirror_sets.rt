@@ -1,4 +1,4 @@
-//! The same calls on two sets, which differ in their hashers and sizes.
+//! The same calls on two sets with different hashers and sizes.
 ghost use Rattle.std.specs.Prelude.{true};
 ghost use Rattle.std.specs.List.Sorted.{IsPermutation};
 ghost use Rattle.scc_contents.specs.Contents.{entries};
@@ -12,15 +12,16 @@ use scc_calls::{Refused, Reply, SetCall, run, runs_mean};
 use scc_set::Owned;
 use std::hash::{BuildHasher, Hash};
 
-/// Makes the same calls on two sets that have equal keys, each under a hasher, a capacity and a minimum of its own: the
-/// replies that it adds for both agree one by one, and both have equal keys again. A call that is made is a clone,
-/// which need only equal its original, and so keys and values need only be equal too.
+/// Makes the same calls on two sets that have equal keys. Each set has its own hasher, capacity and minimum. The
+/// replies that are added for both agree one by one, and both sets have equal keys again. A clone of each call is
+/// made; a clone need only equal its original, so keys too need only be equal.
 ///
-/// Where equal calls are the same, and equal replies, as of numbers, both give the very same replies, and the same keys
-/// stay the same keys, in some order.
+/// If equal calls are the same call, and equal replies the same reply, as for numbers, then both sets give the very
+/// same replies, and sets with the same keys have the same keys again, in some order.
 ///
-/// All calls are made on the first set before any on the second. Where one is refused on the first, the second isn't
-/// touched. Where one is refused on the second, the replies up to there agree with the first of those of the first set.
+/// All calls are made on the first set before any on the second. If a call is refused on the first set, the second is
+/// not touched. If a call is refused on the second set, its replies up to there agree with the first of those of the
+/// first set.
 pub fn run_on_both_sets<K: Eq + Hash + Clone, H: BuildHasher, I: BuildHasher>(
     first: &mut Owned<K, H>,
     second: &mut Owned<K, I>,

@@ -12,11 +12,11 @@ use std::hash::BuildHasher;
 use std::sync::Wait;
 use std::sync::ledger::Ledger;
 
-/// When the session of each name ends, by names.
+/// The ends of sessions, by their names.
 pub type Ends<H> = Owned<String, u64, Shared<H>>;
 
-/// Lets the session of that name end at that time, and answers when it was to end. The call has a receipt more and a
-/// later stamp than all that the pass had.
+/// Sets the end of the session `name` to `end`, and returns the reply, which has the old end. The pass gets one
+/// receipt, with a later stamp than all that it had.
 pub fn renew<H: BuildHasher, L: Ledger, M: Site<Shared<H>>, R: Wait>(
     rt: &R,
     store: &Recorded<Ends<H>, L, M>,
@@ -30,8 +30,8 @@ pub fn renew<H: BuildHasher, L: Ledger, M: Site<Shared<H>>, R: Wait>(
     store.call(rt, pass, MapCall::Upsert(name, end))
 }
 
-/// Finishes the run. Each pass then has as many receipts as there are call records with its number: no renewal went
-/// unanswered, and none was answered that isn't recorded. Along the order the stamps of calls don't fall.
+/// Finishes the run. Then each pass has one receipt for each call record with its number: every renewal was answered,
+/// and every answered renewal is recorded. Along the order the stamps of calls don't fall.
 pub fn audit_sessions<H: BuildHasher + Drop, L: Ledger, M: Site<Shared<H>>>(
     store: Recorded<Ends<H>, L, M>,
     passes: Vec<Pass<Ends<H>, L>>,

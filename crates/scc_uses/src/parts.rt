@@ -10,8 +10,8 @@ use std::alloc::Global;
 use std::hash::{BuildHasher, BuildHasherDefault, FoldHasher, Hash};
 use std::sync::Arc;
 
-/// Two empty parts that skip one bit of each hash. They hash alike, under the hasher of the owner, and with as many
-/// buckets they route alike.
+/// Makes two empty parts that skip one bit of each hash. They hash alike, under the hasher of `owner`, and route alike
+/// if they have the same number of buckets.
 pub fn two_parts<K: Eq + Hash + Drop, V: Drop, H: BuildHasher + Drop>(
     alloc: Global,
     owner: Arc<H>,
@@ -32,7 +32,7 @@ pub fn two_parts<K: Eq + Hash + Drop, V: Drop, H: BuildHasher + Drop>(
     Ok((first, second))
 }
 
-/// Whether both parts route the key alike.
+/// Returns whether both parts route `k` alike, which they do.
 pub fn route_alike<K: Eq + Hash, V, H: BuildHasher>(
     first: &Owned<K, V, Shared<H>>,
     second: &Owned<K, V, Shared<H>>,
@@ -49,7 +49,8 @@ type Fold = BuildHasherDefault<FoldHasher>;
 
 type Part = Owned<u64, u64, Shared<Fold>>;
 
-/// Two recorded parts, of which the calls are made on the one that the key routes to.
+/// Makes two recorded parts, makes the calls on the part to which `key` routes, and returns this part. Fails if memory
+/// is refused.
 pub fn run_in_parts(
     alloc: Global,
     owner: Shared<Fold>,

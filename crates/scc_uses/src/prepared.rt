@@ -1,12 +1,12 @@
-//! Room that is made before an insertion.
+//! An insertion that is prepared before it is made.
 ghost use Rattle.std.specs.Prelude.{◌≡◌, IfErr};
 
 use scc_common::InsertError;
 use scc_map::Owned;
 use std::hash::{BuildHasher, Hash};
 
-/// Inserts the pair where its key is new and room for it can be had, which is made first: the insertion itself then
-/// asks for no memory and can't be refused. Else the pair comes back.
+/// Makes room for `k`, and then inserts the pair if no key equals `k`: the insertion itself allocates nothing and
+/// can't be refused. If there is no room then, or a key equals `k`, the pair comes back.
 pub fn insert_prepared<K: Eq + Hash, V, H: BuildHasher>(
     map: &mut Owned<K, V, H>,
     k: K,

@@ -1,4 +1,4 @@
-//! Counts of the words that came last: a cache forgets those that didn't come for long.
+//! Counts of the words that came last: a cache forgets words that didn't come for long.
 ghost use Rattle.std.specs.Prelude.{◌≡◌, ℕ, nat_eq, None, Some, Ok, OnErr, IfOk};
 ghost use Rattle.std.specs.Hash as fed;
 ghost use Rattle.scc_contents.specs.Contents.{key_hash};
@@ -10,8 +10,8 @@ use scc_cache::Owned;
 use scc_common::InsertError;
 use std::hash::BuildHasher;
 
-/// Counts a word once more, and makes it the most recent of its bucket. A count stays at the greatest number once it is
-/// there. The answer is the word, with its count, that a new word drove out.
+/// Counts a word once more, and makes its pair the most recent of its bucket. A count stays at the greatest number
+/// once it is there. Returns the pair that a new word evicted, if any.
 pub fn count_recent<H: BuildHasher>(
     counts: &mut Owned<u64, u64, H>,
     word: u64,

@@ -1,4 +1,4 @@
-//! A cache of answers to requests, which counts those that it could answer and those that it could not.
+//! A cache of answers to requests, which counts its hits and its misses.
 ghost use Rattle.std.specs.Prelude.{◌≡◌, ℕ, ◌≤◌, [], nat_eq, length, IfOk};
 ghost use Rattle.std.specs.Hash as fed;
 ghost use Rattle.scc_contents.specs.Contents.{entries, key_hash};
@@ -10,7 +10,7 @@ use scc_common::MakeError;
 use std::alloc::Global;
 use std::hash::BuildHasher;
 
-/// Answers to requests, with how many requests were hits and how many were misses.
+/// Answers to requests, with the numbers of hits and of misses.
 #[derive(Drop)]
 pub struct RequestCache<H: BuildHasher> {
     pub answers: Owned<u64, u64, H>,
@@ -21,7 +21,8 @@ pub struct RequestCache<H: BuildHasher> {
 impl<H: BuildHasher> RequestCache<H> {
     ghost use Rattle.scc_uses.specs.RequestCounts.{one_more};
 
-    /// No answer yet, and room for the least power of two of answers that is at least `bound` and at least 64.
+    /// Returns a cache without answers. It has room for the least power of two of answers that is at least `bound` and
+    /// at least 64. Fails if memory is refused.
     pub fn new(alloc: Global, bound: usize, hasher: H) -> Result<Self, MakeError>
     where
         H: Drop,
@@ -36,9 +37,9 @@ impl<H: BuildHasher> RequestCache<H> {
         })
     }
 
-    /// The answer of `ask` to the request, which is called only where the cache has none. There are never more answers
-    /// than the bound; what was asked for is kept in the place of the answer that wasn't looked at for longest in its
-    /// bucket. A count stays at the greatest number once it is there.
+    /// Returns the answer to `request`: from the cache if it has one, else by `ask`. There are never more answers than
+    /// the bound. A new answer is stored; if its bucket is full, it evicts the answer of the bucket that wasn't looked
+    /// at for longest. A count stays at the greatest number once it is there.
     pub fn answer<F: FnOnce(u64) -> u64>(&mut self, request: u64, ask: F) -> u64
         requires { F.pre ask request }
         ensures hit { (p : ℕ × ℕ) → IsPresent (key_hash H.BuildHasher H.Hasher.Hasher fed.u64

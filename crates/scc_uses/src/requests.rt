@@ -8,7 +8,7 @@ use scc_common::{InsertError, Verdict, WalkError};
 use scc_map::Owned;
 use std::alloc::Global;
 
-/// When a window began, and the requests in it.
+/// The time at which a window began, and the number of requests in it.
 #[derive(Clone, Copy, Debug, PartialEq)]
 pub struct Window {
     pub since: u64,
@@ -25,7 +25,7 @@ pub struct Requests {
 impl Requests {
     ghost use Rattle.scc_uses.specs.Windows.{after_hit, IsExpired, IsLive, live_at};
 
-    /// No user.
+    /// Returns a table without users, for windows of `width`.
     pub fn new(alloc: Global, width: u64) -> Self
         ensures width { result.width ≡ width }
         ensures none { (q : ℕ) → find nat_eq (entries result.windows) q ≡ None }
@@ -36,7 +36,8 @@ impl Requests {
         }
     }
 
-    /// Counts a request of a user, in a new window where the old one has expired, and answers how many there are in it.
+    /// Counts a request of `user`, in a new window if the old one has expired, and returns the number of requests in
+    /// the window.
     pub fn hit(&mut self, user: u64, now: u64) -> Result<u64, InsertError<u64, Window>>
         ensures width { self.new.width ≡ self.old.width }
         ensures answer { IfOk result (λ n. n ≡ (after_hit self.old.width now
@@ -72,7 +73,8 @@ impl Requests {
         Ok(1)
     }
 
-    /// Takes the users whose windows have expired. Where there is no memory for all, some of them stay.
+    /// Removes the users whose windows have expired, and adds them to `taken`. If memory is refused, some of these
+    /// users stay.
     pub fn sweep(&mut self, now: u64, taken: &mut Vec<(u64, Window)>) -> Result<(), WalkError>
         ensures width { self.new.width ≡ self.old.width }
         ensures taken { (more : List (ℕ × Window)) × (taken.new.items ≡ taken.old.items ++ more)

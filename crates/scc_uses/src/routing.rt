@@ -7,14 +7,14 @@ use scc_map::borrowed::Entry;
 use std::alloc::Global;
 use std::marker::Model;
 
-/// Where packets go next, and at what cost.
+/// The next hop of a route, and its cost.
 #[derive(Clone, Copy, Debug, PartialEq)]
 pub struct Route {
     pub next_hop: u32,
     pub metric: u32,
 }
 
-/// The routes by destination. A contract sees the route to each as `route_to t destination`.
+/// The routes, by destination. A contract sees the route to each destination as `route_to t destination`.
 #[derive(Drop)]
 pub struct Routes {
     routes: Owned<u32, Route>,
@@ -35,7 +35,7 @@ impl Model for Routes {
 impl Routes {
     ghost use Rattle.scc_uses.specs.Routing.{route_to, Offers, IsAsBefore, not_by};
 
-    /// No route.
+    /// Returns a table without routes.
     pub fn new(alloc: Global) -> Self
         ensures { (d : ℕ) → route_to result d ≡ None }
     {
@@ -44,8 +44,8 @@ impl Routes {
         }
     }
 
-    /// Takes a route where there is none to its destination, or where its metric is lower than that of the one that is
-    /// there, and answers whether it did.
+    /// Takes `route` if there is no route to `destination` or if the metric of `route` is lower than that of the
+    /// stored route. Returns whether it took `route`.
     pub fn offer(&mut self, destination: u32, route: Route) -> Result<bool, InsertError<u32, Route>>
         ensures offered { IfOk result (Offers (route_to self.old destination) self.old destination route self.new) }
         ensures refused { OnErr result (IsAsBefore self.old self.new) }
@@ -67,7 +67,7 @@ impl Routes {
         }
     }
 
-    /// Withdraws all routes by a next hop.
+    /// Removes all routes by `next_hop`.
     pub fn withdraw(&mut self, next_hop: u32)
         ensures { (d : ℕ) → route_to self.new d ≡ not_by next_hop (route_to self.old d) }
     {
@@ -75,7 +75,7 @@ impl Routes {
             .retain_sync(|_, route| route.next_hop != next_hop);
     }
 
-    /// The route to a destination.
+    /// Returns the route to `destination`, or `None` if there is none.
     pub fn look_up(&self, destination: u32) -> Option<Route>
         ensures { result ≡ route_to self.now destination }
     {

@@ -7,36 +7,37 @@ use scc_shared_map::HashMap;
 use std::alloc::Global;
 use std::sync::Wait;
 
-/// The sessions by their numbers. Workers share it by reference; a call takes the lock of one
-/// stripe, and never two.
+/// The sessions, by their numbers. Workers share the store by reference. A call takes the lock of one stripe, and
+/// never two.
 #[derive(Drop)]
 pub struct SessionStore {
     ends: HashMap<u64, u64>,
 }
 
 impl SessionStore {
-    /// No session.
+    /// Returns a store without sessions. Fails if memory is refused.
     pub fn new(alloc: Global) -> Result<Self, MakeError> {
         let ends = HashMap::new(alloc)?;
         Ok(SessionStore { ends })
     }
 
-    /// Begins a session. Where one of that number is there, and for want of memory, number and end come back.
+    /// Begins a session. Fails if there is a session with the number `id`, or if memory is refused; then `id` and
+    /// `end` come back.
     pub fn begin(&self, rt: &impl Wait, id: u64, end: u64) -> Result<(), InsertError<u64, u64>>
         ensures { IfErr result (λ e. (e ≡ Exists (id, end)) ⊎ (e ≡ Memory (id, end))) }
     {
         self.ends.insert_sync(rt, id, end)
     }
 
-    /// Lets a session end at that time or later, and answers when it ends; None where there is none.
+    /// Lets session `id` end at `end` or later, and returns when it ends. Returns `None` if there is no such session.
     pub fn renew(&self, rt: &impl Wait, id: u64, end: u64) -> Option<u64>
         ensures { IfSome result (λ left. end ≤ left) }
     {
         self.ends.update_sync(rt, &id, |_, old| later(old, end))
     }
 
-    /// Removes a session that has ended by `now`, and answers it with its end; None where there is none, and where it
-    /// goes on.
+    /// Removes session `id` if it has ended by `now`, and returns it with its end. Returns `None` if there is no such
+    /// session or if it hasn't ended.
     pub fn expire(&self, rt: &impl Wait, id: u64, now: u64) -> Option<(u64, u64)>
         ensures { IfSome result (λ session. (session.0 ≡ id) × (session.1 ≤ now)) }
     {
@@ -44,7 +45,7 @@ impl SessionStore {
     }
 }
 
-/// Raises the end to that time, unless it is later.
+/// Raises `end` to `to` unless `end` is later, and returns the new end.
 fn later(end: &mut u64, to: u64) -> u64
     ensures { to ≤ result }
 {

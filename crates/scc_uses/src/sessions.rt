@@ -8,7 +8,7 @@ use std::alloc::Global;
 use std::hash::{BuildHasherDefault, FoldHasher};
 use std::marker::Model;
 
-/// The sessions by their numbers. A contract sees when each ends as `end_of s id`.
+/// The sessions, by their numbers. A contract sees the end of each session as `end_of s id`.
 pub struct Sessions {
     ends: Owned<u64, u64>,
 }
@@ -25,7 +25,7 @@ impl Model for Sessions {
 }
 
 impl Sessions {
-    /// No session.
+    /// Returns a table without sessions.
     pub fn new(alloc: Global) -> Self
         ensures { (id : ℕ) → end_of result id ≡ None }
     {
@@ -34,7 +34,7 @@ impl Sessions {
         }
     }
 
-    /// Begins a session. It is refused where there is one of that number, and for want of memory.
+    /// Begins a session. Fails if there is a session with the number `id`, or if memory is refused.
     pub fn begin(&mut self, id: u64, end: u64) -> Result<(), InsertError<u64, u64>>
         ensures begun { OnOk result ((end_of self.old id ≡ None) × Sets self.old id (Some end) self.new) }
         ensures refused { OnErr result (IsAsBefore self.old self.new) }
@@ -42,7 +42,7 @@ impl Sessions {
         self.ends.insert_sync(id, end)
     }
 
-    /// Lets a session end later, never sooner, and answers whether there is one.
+    /// Lets session `id` end at `end` unless it ends later, and returns whether there is such a session.
     pub fn renew(&mut self, id: u64, end: u64) -> bool
         ensures { Renews (end_of self.old id) self.old id end result self.new }
     {
@@ -55,7 +55,7 @@ impl Sessions {
             .is_some()
     }
 
-    /// Removes a session that has ended by `now`, and answers whether it did.
+    /// Removes session `id` if it has ended by `now`, and returns whether it did.
     pub fn expire(&mut self, id: u64, now: u64) -> bool
         ensures { Expires (end_of self.old id) self.old id now result self.new }
     {

@@ -8,21 +8,21 @@ use std::alloc::Global;
 use std::hash::Hash;
 use std::sync::Wait;
 
-/// The words that were seen. Workers share it by reference; a word that is there is only read.
+/// The words that were seen. Workers share the interner by reference. A stored word is only read.
 #[derive(Drop)]
 pub struct SharedInterner<K: Eq + Hash> {
     words: HashSet<K>,
 }
 
 impl<K: Eq + Hash + Drop> SharedInterner<K> {
-    /// No word.
+    /// Returns an interner without words. Fails if memory is refused.
     pub fn new(alloc: Global) -> Result<Self, MakeError> {
         let words = HashSet::new(alloc)?;
         Ok(SharedInterner { words })
     }
 
-    /// A clone of the word that was seen first among its equals; for an `Arc` that is one more owner. It is refused
-    /// where a clone can't be had, and for want of memory; then the word comes back.
+    /// Returns a clone of the word that was seen first among the words equal to `word`. A clone of an `Arc` is one
+    /// more owner. If memory or the clone is refused, `word` comes back.
     pub fn intern(&self, rt: &impl Wait, word: K) -> Result<K, KeyError<K>>
     where
         K: Clone,
@@ -48,7 +48,8 @@ impl<K: Eq + Hash + Drop> SharedInterner<K> {
         }
     }
 
-    /// A clone of the word that equals this one, where there is one; nothing in it where the clone can't be had.
+    /// Returns a clone of the stored word that equals `word`, or `None` if there is none. Returns `Some(None)` if the
+    /// clone is refused.
     fn seen(&self, rt: &impl Wait, word: &K) -> Option<Option<K>>
     where
         K: Clone,
@@ -58,7 +59,7 @@ impl<K: Eq + Hash + Drop> SharedInterner<K> {
     }
 }
 
-/// A clone, where one can be had.
+/// Returns a clone of `word`, or `None` if the clone is refused.
 fn copy_of<K: Clone>(word: &K) -> Option<K>
     ensures { IfSome result (K.is_clone word.now) }
 {

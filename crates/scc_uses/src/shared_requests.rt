@@ -1,4 +1,5 @@
-//! Answers of a service that threads share: whatever others put in and drive out meanwhile, a request gets its answer.
+//! Answers of a service that threads share. Whatever other threads insert and evict meanwhile, a request gets its
+//! answer.
 ghost use Rattle.std.specs.Prelude.{◌≡◌, ℕ, ◌<◌, IfOk, IfSome, length, slice_index, slice_index_or};
 
 use scc_common::MakeError;
@@ -8,17 +9,17 @@ use std::marker::PhantomData;
 use std::sync::Wait;
 use std::thread::{Threads, map_indices};
 
-/// A service that answers each request in one way.
+/// A service that gives each request one answer.
 pub trait Service {
     // The answer to a request.
     ghost answer_to: { ℕ → ℕ };
 
-    /// The answer to the request.
+    /// Returns the answer to `request`.
     fn ask(&self, request: u64) -> u64
         ensures { result ≡ answer_to request };
 }
 
-/// A request with the answer that the service gives to it.
+/// A request, with the answer of the service to it.
 #[derive(Drop)]
 pub struct Answer<S: Service> {
     request: u64,
@@ -35,7 +36,8 @@ pub struct SharedRequests<S: Service> {
 }
 
 impl<S: Service> SharedRequests<S> {
-    /// No answer is kept yet, and at most so many are: a power of two of them, from 64 on.
+    /// Returns a service without stored answers. At most `bound` answers are stored, raised to a power of two that is
+    /// at least 64. Fails if memory is refused.
     pub fn new(alloc: Global, service: S, bound: usize) -> Result<Self, MakeError>
     where
         S: Drop,
@@ -45,8 +47,8 @@ impl<S: Service> SharedRequests<S> {
         Ok(SharedRequests { service, answers })
     }
 
-    /// The answer to the request. The service is asked only where no answer is kept, and while it is asked no stripe is
-    /// held.
+    /// Returns the answer to `request`. Calls the service only if no answer is stored, and holds no stripe during this
+    /// call.
     pub fn answer(&self, rt: &impl Wait, request: u64) -> u64
         ensures { result ≡ S.answer_to request }
     {
@@ -65,7 +67,8 @@ impl<S: Service> SharedRequests<S> {
         }
     }
 
-    /// The answer that is kept, which then is the last of its bucket to be driven out.
+    /// Returns the stored answer to `request`, or `None` if there is none. A stored answer becomes the most recent of
+    /// its bucket.
     fn known(&self, rt: &impl Wait, request: u64) -> Option<u64>
         ensures { IfSome result (λ a. a ≡ S.answer_to request) }
     {
@@ -79,7 +82,8 @@ impl<S: Service> SharedRequests<S> {
     }
 }
 
-/// The answers to the requests, each by a thread, in their order.
+/// Returns the answers to `requests` in their order. Each answer is found in a thread of its own if one can be made.
+/// Fails if memory is refused.
 pub fn answer_all<S: Service + Send + Sync, R: Threads + Wait + Sync>(
     rt: &R,
     alloc: Global,

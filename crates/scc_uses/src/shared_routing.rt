@@ -1,4 +1,5 @@
-//! A routing table that threads share, over a shared index: a reader keeps a route while others offer better ones.
+//! A routing table that threads share, over a shared index. A reader keeps a route while other threads offer better
+//! routes.
 ghost use Rattle.std.specs.Prelude.{◌≡◌, ◌≤◌, IfOk, IfErr, IfSome, length};
 ghost use Rattle.std.specs.Arc.{arc_value};
 ghost use Rattle.scc_index.specs.Entries.{Memory};
@@ -11,14 +12,14 @@ use std::alloc::Global;
 use std::sync::{Arc, Wait};
 use std::thread::{Threads, join};
 
-/// The routes by destination. Threads offer, look up and withdraw by reference.
+/// The routes, by destination. Threads offer, look up and withdraw by reference.
 #[derive(Drop)]
 pub struct SharedRoutes {
     routes: HashIndex<u32, Route>,
 }
 
 impl SharedRoutes {
-    /// No route. It is refused for want of memory.
+    /// Returns a table without routes. Fails if memory is refused.
     pub fn new(alloc: Global) -> Result<Self, MakeError> {
         match HashIndex::new(alloc) {
             Ok(routes) => Ok(SharedRoutes { routes }),
@@ -26,8 +27,8 @@ impl SharedRoutes {
         }
     }
 
-    /// Takes a route where there is none to its destination, or where its metric is lower than that of the one that is
-    /// there, and answers whether it did. Refused for want of memory, destination and route come back.
+    /// Takes `route` if there is no route to `destination` or if the metric of `route` is lower than that of the
+    /// stored route. Returns whether it took `route`. If memory is refused, `destination` and `route` come back.
     pub fn offer(
         &self,
         rt: &impl Wait,
@@ -54,7 +55,8 @@ impl SharedRoutes {
         }
     }
 
-    /// Hands out the route to a destination. It stays what it is, whatever is offered and withdrawn meanwhile.
+    /// Returns the route to `destination`, or `None` if there is none. The returned route stays what it is, whatever
+    /// is offered and withdrawn meanwhile.
     pub fn look_up(
         &self,
         rt: &impl Wait,
@@ -65,13 +67,13 @@ impl SharedRoutes {
         self.routes.peek(rt, &destination)
     }
 
-    /// Withdraws all routes by a next hop. A route that was handed out stays.
+    /// Removes all routes by `next_hop`. Whoever keeps a removed route still has it.
     pub fn withdraw(&self, rt: &impl Wait, next_hop: u32) {
         self.routes
             .retain_sync(rt, |_, route| route.next_hop != next_hop);
     }
 
-    /// Offers the routes one after another, and answers how many were taken. A refusal ends it.
+    /// Offers the routes one after another, and returns how many were taken. Stops at the first offer that is refused.
     pub fn offer_all(
         &self,
         rt: &impl Wait,
@@ -91,7 +93,7 @@ impl SharedRoutes {
         Ok(taken)
     }
 
-    /// Two threads offer a list each. It answers how many routes of each were taken.
+    /// Offers two lists of routes by two threads. Returns how many routes of each list were taken.
     pub fn offer_both<R: Threads + Wait + Sync>(
         &self,
         rt: &R,

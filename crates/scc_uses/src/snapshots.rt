@@ -1,4 +1,4 @@
-//! Sums over snapshots of an index, whatever was changed since.
+//! Sums over snapshots of an index, whatever changed afterwards.
 ghost use Rattle.std.specs.Prelude.{◌≡◌, [], IfOk};
 ghost use Rattle.scc_contents.specs.Contents.{entries};
 ghost use Rattle.scc_uses.specs.Sums.{sum_from};
@@ -6,8 +6,8 @@ ghost use Rattle.scc_uses.specs.Sums.{sum_from};
 use scc_common::MakeError;
 use scc_index::{Iter, Owned};
 
-/// The sum of the values of a snapshot, modulo 2^64. It is that of the pairs when the snapshot was taken, since their
-/// versions never change.
+/// Returns the sum of the values of a snapshot, modulo 2^64. It is the sum when the snapshot was taken, since versions
+/// never change.
 pub fn sum(versions: Iter<u64, u64>) -> u64
     ensures { result ≡ sum_from 0 versions }
 {
@@ -18,7 +18,7 @@ pub fn sum(versions: Iter<u64, u64>) -> u64
     sum
 }
 
-/// Takes out all versions, and answers the sum of the values that were there, modulo 2^64.
+/// Removes all versions, and returns the sum of their values, modulo 2^64.
 pub fn clear_and_sum(index: &mut Owned<u64, u64>) -> Result<u64, MakeError>
     ensures sum { IfOk result (λ s. s ≡ sum_from 0 (entries index.old)) }
     ensures empty { IfOk result (λ s. entries index.new ≡ []) }

@@ -1,21 +1,21 @@
-//! What a worker does, and what may hold it back.
+//! What a worker does, and the gate that it passes.
 
-/// What one thread does: a number of turns, one after another.
+/// The work of one thread: a number of turns, one after another.
 pub trait Work {
-    /// How many turns it has. Asked once, before the first.
+    /// Returns the number of turns. Called once, before the first turn.
     fn turns(&self) -> usize;
 
-    /// Makes turn j, counted from 0. After a false no further turn is made.
+    /// Makes turn `j`, counted from 0. If it returns false, no further turn is made.
     fn turn(&mut self, j: usize) -> bool;
 }
 
-/// What each worker passes before a turn and after it. All threads call it by reference.
+/// The gate that each worker passes before and after a turn. All threads call it by reference.
 pub trait Gate {
-    /// Comes before turn j of the worker, both counted from 0, and may wait. Where it answers false the gate gives up:
-    /// that worker makes no further turn.
+    /// Comes before turn `j` of worker `worker`, both counted from 0, and may wait. If it returns false, the gate
+    /// gives up, and this worker makes no further turn.
     fn before(&self, worker: usize, j: usize) -> bool;
 
-    /// Comes after each turn that was made, one that answered false too.
+    /// Comes after each turn that was made, also after a turn that returned false.
     fn after(&self, worker: usize, j: usize);
 }
 

@@ -1,4 +1,4 @@
-//! Workers on threads of their own, who make turns and pass a gate before each.
+//! Workers on threads of their own. Each makes its turns and passes a gate before each turn.
 #![tactic(auto)]
 
 mod gate;

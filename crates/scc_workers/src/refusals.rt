@@ -1,19 +1,19 @@
-//! Why a run of workers ended early.
+//! The error of a run of workers.
 
 use std::fmt::Debug;
 use thiserror::Error;
 
-/// Why a run of workers ended early. Every thread that was started has ended by then. Of several causes it is the first
-/// in this order.
+/// Why a run of workers ended early. Every started thread has ended when the error is returned. If there are several
+/// causes, the error is the first of them in the order of the variants.
 #[derive(Clone, Copy, Debug, PartialEq, Error)]
 pub enum RunError {
-    /// A thread was not started, for want of memory or by the machine.
+    /// A thread was not started, because memory was refused or the machine started none.
     #[error("no thread")]
     Start,
     /// The gate gave up.
     #[error("gate gave up")]
     Gate,
-    /// A turn answered false.
+    /// A turn returned false.
     #[error("worker stopped")]
     Stopped,
 }

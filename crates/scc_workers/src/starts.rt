@@ -1,4 +1,4 @@
-// Workers in threads, each test within ten million looks.
+// Tests of workers on threads. A thread gives up waiting after ten million looks.
 use crate::workers::{Starter, run_by};
 use crate::{Gate, Open, RunError, Work, run};
 use std::hint::spin_loop;
@@ -7,19 +7,19 @@ use std::test::Fail;
 
 const LOOKS: u32 = 10_000_000;
 
-// Five turns, of which one may answer false.
+// Five turns. Turn `last` returns false.
 #[derive(Drop)]
 struct Turns {
     made: usize,
     last: usize,
 }
 
-// All turns answer true.
+// Returns work whose turns all return true.
 fn all() -> Turns {
     Turns { made: 0, last: 5 }
 }
 
-// Turn j answers false.
+// Returns work whose turn `j` returns false.
 fn up_to(j: usize) -> Turns {
     Turns { made: 0, last: j }
 }
@@ -35,7 +35,7 @@ impl Work for Turns {
     }
 }
 
-// Each of the first two workers waits at its first turn until the other has come there.
+// A gate at which the first two workers wait, at their first turn, until both have come.
 #[derive(Drop)]
 struct Both {
     first: AtomicU64,
@@ -78,7 +78,7 @@ fn gate_sees_both(rt: HostRuntime) -> Result<(), Fail> {
     Ok(())
 }
 
-// Gives up worker 1 at its turn 3.
+// A gate that gives up worker 1 at its turn 3.
 #[derive(Drop)]
 struct GivesUp;
 
@@ -121,14 +121,15 @@ fn workers_false_turn_alone(rt: HostRuntime) -> Result<(), Fail> {
     Ok(())
 }
 
-// Notes what comes to the gate: each turn of each worker has a digit of its own, which counts how often it came.
+// A gate that counts the calls on it. Each turn of each worker has a digit of its own, which counts how often the turn
+// came.
 #[derive(Drop)]
 struct Notes {
     before: AtomicU64,
     after: AtomicU64,
 }
 
-// The digit of a turn, to base 16.
+// Returns the number with a 1 in the digit of turn `j` of worker `worker`, in base 16.
 fn digit(worker: usize, j: usize) -> u64 {
     match u32::try_from(worker.wrapping_mul(5).wrapping_add(j)) {
         Ok(place) => 1u64.wrapping_shl(place.wrapping_mul(4)),
@@ -186,7 +187,7 @@ fn no_worker_is_no_thread(rt: HostRuntime) -> Result<(), Fail> {
     Ok(())
 }
 
-// The second thread asks for a stack that no machine has.
+// A starter whose second thread asks for a stack that no machine has.
 #[derive(Drop)]
 struct NoSecond;
 

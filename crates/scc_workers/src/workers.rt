@@ -1,4 +1,4 @@
-//! A thread for each worker.
+//! One thread for each worker.
 ghost use Rattle.std.specs.Prelude.{◌≡◌, ◌↔◌, ◌⊎◌, IsTrue, Ok, Err, true, false};
 
 use crate::{Gate, RunError, Work};
@@ -15,12 +15,13 @@ enum End {
     Stopped,
 }
 
-/// How a thread is started: with the C library's stack, or with one of so many bytes.
+/// How a thread is started: with the C library's stack if `stack_size` returns `None`, else with a stack of that many
+/// bytes.
 pub(crate) trait Starter {
     fn stack_size(&self, worker: usize) -> Option<usize>;
 }
 
-/// Each thread has the C library's stack.
+/// A starter that gives each thread the C library's stack.
 #[derive(Drop)]
 struct Plain;
 
@@ -30,7 +31,7 @@ impl Starter for Plain {
     }
 }
 
-// All turns of a worker, up to the one that the gate holds back or that answers false.
+// Makes the turns of a worker in their order, until the gate holds one back or a turn returns false.
 fn work_through<W: Work, G: Gate>(worker: usize, work: &mut W, gate: &G) -> End {
     for j in 0..work.turns() {
         if !gate.before(worker, j) {
@@ -45,7 +46,8 @@ fn work_through<W: Work, G: Gate>(worker: usize, work: &mut W, gate: &G) -> End 
     End::Done
 }
 
-// Starts a thread for each item, and keeps its handle. False where one was not started; then no further one is.
+// Starts a thread for each item and keeps its handle in `handles`. Returns false at the first thread that isn't
+// started, and starts no further thread.
 fn start_all<'s, E, S: Starter, W: Work + Send, G: Gate + Sync>(
     starter: &S,
     scope: &Scope<'s, E>,
@@ -70,8 +72,8 @@ fn start_all<'s, E, S: Starter, W: Work + Send, G: Gate + Sync>(
     true
 }
 
-// What is known of the workers once one more has ended: whether the gate gave up one of them, and whether a turn of one
-// answered false.
+// Adds the end of one more worker to what is known: whether the gate gave up a worker, and whether a turn returned
+// false.
 fn with_end(known: (bool, bool), end: End) -> (bool, bool)
     ensures gave_up { IsTrue result.0 ↔ (IsTrue known.0 ⊎ (end ≡ End.Gate)) }
     ensures stopped { IsTrue result.1 ↔ (IsTrue known.1 ⊎ (end ≡ End.Stopped)) }
@@ -84,7 +86,7 @@ fn with_end(known: (bool, bool), end: End) -> (bool, bool)
     }
 }
 
-// Waits for each of the threads: whether the gate gave up one of them, and whether a turn of one answered false.
+// Waits for all threads. Returns whether the gate gave up a worker, and whether a turn returned false.
 fn join_all<R: Threads + Wait>(rt: &R, handles: Vec<JoinHandle<End>>) -> (bool, bool) {
     let mut known = (false, false);
     for handle in handles {
@@ -93,7 +95,7 @@ fn join_all<R: Threads + Wait>(rt: &R, handles: Vec<JoinHandle<End>>) -> (bool, 
     known
 }
 
-// The first cause in their order.
+// Returns the first cause in the order of `RunError`, or `Ok` if there is none.
 fn outcome(started: bool, gave_up: bool, stopped: bool) -> Result<(), RunError>
     ensures start { started ≡ false → result ≡ Err RunError.Start }
     ensures gate { started ≡ true → gave_up ≡ true → result ≡ Err RunError.Gate }
@@ -111,7 +113,7 @@ fn outcome(started: bool, gave_up: bool, stopped: bool) -> Result<(), RunError>
     }
 }
 
-// The same as `run`, with threads that are started so.
+// As `run`, with threads started by `starter`.
 pub(crate) fn run_by<S: Starter, R: Threads + Wait + Sync, W: Work + Send, G: Gate + Sync>(
     starter: &S,
     rt: &R,
@@ -131,11 +133,11 @@ pub(crate) fn run_by<S: Starter, R: Threads + Wait + Sync, W: Work + Send, G: Ga
     })
 }
 
-/// Starts one thread for each item, and waits until all have ended. Worker i makes the turns of item i in their order,
-/// and passes the gate before each and after it.
+/// Starts one thread for each item, and waits until all threads have ended. Worker i makes the turns of item i in
+/// their order, and passes the gate before and after each turn.
 ///
-/// `Start` comes where a thread was not started, for want of memory or by the machine; those before it make their turns
-/// all the same. The list of threads takes one block of memory.
+/// Fails with `Start` if a thread was not started, because memory was refused or the machine started none; the threads
+/// started before it make their turns all the same. The list of threads takes one block of memory.
 pub fn run<R: Threads + Wait + Sync, W: Work + Send, G: Gate + Sync>(
     rt: &R,
     alloc: Global,
