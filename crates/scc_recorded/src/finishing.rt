@@ -1,6 +1,6 @@
 //! A finished run, and why a run can't be finished.
 ghost use Rattle.scc_calls.specs.Histories.{CallsRouted};
-ghost use Rattle.scc_contents.specs.Routing.{stripe_of};
+ghost use Rattle.scc_common.specs.Routing.{stripe_of};
 ghost use Rattle.scc_history.specs.Orders.{IsOnlyStampOrder, steps_at};
 ghost use Rattle.scc_history.specs.Receipts.{AreAll, calls_of};
 ghost use Rattle.scc_history.specs.Stamps.{calls_in};

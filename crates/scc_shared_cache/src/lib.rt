@@ -2,7 +2,7 @@
 #![tactic(auto)]
 
 ghost use Rattle.std.specs.Prelude.{◌≡◌, ℕ, max, IfOk};
-ghost use Rattle.scc_contents.specs.Sizes.{IsArraySize};
+ghost use Rattle.scc_common.specs.Sizes.{IsArraySize};
 ghost use Rattle.scc_shared_cache.specs.SharedSizes.{IsSlotsAsked};
 
 mod calls;

@@ -2,8 +2,8 @@
 //! and the book of reserved slots.
 #![tactic(auto)]
 
-ghost use Rattle.scc_contents.specs.Hashing.{hash_of};
-ghost use Rattle.scc_contents.specs.Routing.{stripe_number, stripe_of};
+ghost use Rattle.scc_common.specs.Hashing.{hash_of};
+ghost use Rattle.scc_common.specs.Routing.{stripe_number, stripe_of};
 ghost use Rattle.std.specs.Arc.{arc_value};
 ghost use Rattle.std.specs.Prelude.{◌≡◌, ◌≤◌, ◌<◌, ◌^◌, IfOk, IfSome, vec_len};
 

@@ -1,5 +1,5 @@
 //! `OpenStripes`: the containers that will be stripes, before they have locks.
-ghost use Rattle.scc_contents.specs.Routing.{stripe_of};
+ghost use Rattle.scc_common.specs.Routing.{stripe_of};
 ghost use Rattle.std.specs.Arc.{arc_value};
 ghost use Rattle.std.specs.Fn.{FnOnceReturnsAtMut};
 ghost use Rattle.std.specs.Prelude.{◌≡◌, ◌≤◌, ◌<◌, ◌^◌, IfOk, Some, slice_get, slice_set, vec_len};
