@@ -2,6 +2,7 @@
 //! contracts (`specs/`).
 #![tactic(auto)]
 
+mod conversions;
 pub mod entry;
 pub mod errors;
 pub mod guard;
