@@ -18,6 +18,7 @@ use crate::setups::Site;
 use scc_calls::{Calls, Step, every_merge_is_a_run};
 use scc_history::{records_by_pass, stamp_order};
 use std::fmt::Debug;
+use std::io;
 use std::sync::ledger::Ledger;
 use thiserror::Error;
 
@@ -264,4 +265,14 @@ pub enum FinishError {
     /// Memory for a list was refused.
     #[error("out of memory")]
     Memory,
+}
+
+impl From<FinishError> for io::Error {
+    /// Returns an error of the kind `OutOfMemory` for `Memory`, and of the kind `InvalidData` for the rest.
+    fn from(error: FinishError) -> io::Error {
+        match error {
+            FinishError::Memory => io::Error::from(io::ErrorKind::OutOfMemory),
+            _ => io::Error::from(io::ErrorKind::InvalidData),
+        }
+    }
 }
