@@ -1,5 +1,5 @@
 use Rattle.std.proofs.Common.{refl, sym, ◌∙◌, ◌≡◌, ◌<◌, ◌≤◌, ap, rules, arith, length}
-use Rattle.scc_contents.specs.Hashing.{hash_of}
+use Rattle.scc_common.specs.Hashing.{hash_of}
 use Rattle.scc_array.specs.Shelf.{shelf_entries, without_slot}
 use Rattle.scc_buckets.proofs.Inserts.{read-again}
 use Rattle.scc_buckets.proofs.Removes.{at-least-one}

@@ -1,6 +1,6 @@
 use Rattle.std.proofs.Common.{◌≡◌, ◌<◌, ◌≤◌, ap, rules, arith, length, refl, sym, ◌∙◌}
-use Rattle.scc_contents.specs.Contents.{entries}
-use Rattle.scc_contents.specs.Hashing.{hash_of}
+use Rattle.scc_common.specs.Contents.{entries}
+use Rattle.scc_common.specs.Hashing.{hash_of}
 use Rattle.scc_array.specs.Shelf.{shelf_entries}
 use Rattle.scc_buckets.proofs.Bounds.{gone, removed-list, removed-short}
 use Rattle.scc_buckets.proofs.Inserts.{read-again}

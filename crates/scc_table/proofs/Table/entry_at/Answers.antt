@@ -1,5 +1,5 @@
 use Rattle.std.proofs.Common.{◌≡◌, ◌-◌, Some, slice_get, subst, arith}
-use Rattle.scc_contents.specs.Contents.{entries, key_hash}
+use Rattle.scc_common.specs.Contents.{entries, key_hash}
 use Rattle.scc_table.specs.Places.{index_of}
 use Rattle.scc_table.proofs.OldSpots.{own-get, old-get}
 use Rattle.scc_table.proofs.OneBucket.{old-here, own-here}

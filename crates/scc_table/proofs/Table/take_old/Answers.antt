@@ -2,7 +2,7 @@ use Rattle.std.proofs.Common.{◌≡◌, ◌-◌, ◌≤◌, Some, List, map, se
 use Rattle.std.specs.List.{slice_get, IsDistinct}
 use Rattle.scc_array.specs.Shelves.{shelf_of}
 use Rattle.scc_array.specs.Shelf.{Shelf, shelf_entries, without_slot}
-use Rattle.scc_contents.specs.Contents.{Contents, bucket_count, entries, key_hash, waiting_of, owed_of}
+use Rattle.scc_common.specs.Contents.{Contents, bucket_count, entries, key_hash, waiting_of, owed_of}
 use Rattle.scc_buckets.specs.OneList.{IsTakenFrom}
 use Rattle.scc_table.specs.Places.{index_of, spot_of}
 use Rattle.scc_table.specs.Takes.{owed_taken}

@@ -1,8 +1,8 @@
 use Rattle.std.proofs.Common.{◌∙◌, ◌-◌, ◌<◌, length, sym, ap, subst, arith}
 use Rattle.scc_array.specs.Shelves.{shelf_of}
 use Rattle.scc_array.specs.Shelf.{shelf_entries}
-use Rattle.scc_contents.specs.Contents.{bucket_count, key_hash, settings_of}
-use Rattle.scc_contents.specs.Routing.{bucket_number}
+use Rattle.scc_common.specs.Contents.{bucket_count, key_hash, settings_of}
+use Rattle.scc_common.specs.Routing.{bucket_number}
 use Rattle.scc_table.specs.Places.{spot_of}
 use Rattle.scc_table.proofs.Nexts.{NextStart, old-next, own-next, slot-below, few-entries}
 use Rattle.scc_table.proofs.OldSpots.{old-within, old-spot, own-spot}
