@@ -15,8 +15,8 @@ parts_mut_at-requires-clause-bucket g c =
     let l : c.args.place.bucket < length bs = rw count at c.requires.bucket in
     search rules
 
-pub parts_mut_at-requires-clause-place : goal.parts_mut_at-requires-clause-place
-parts_mut_at-requires-clause-place g c =
+pub parts_mut_at-requires-clause-slot : goal.parts_mut_at-requires-clause-slot
+parts_mut_at-requires-clause-slot g c =
     let t = c.self.inside in
     let bs = t.buckets in
     let count = count-view bs _ c.args.self.now c.self.view_is in

@@ -30,8 +30,8 @@ remove_at-entry-requires-clause-bucket g c =
     let far : bucket_count cur ≤ p.bucket = omega (arith, count-seen (λ e. hk (key e)) cur ws olds c.args.self.now view inv.arrays.flags, c.requires.old) in
     rw count (old-is laws inv c.args.place within far).0
 
-pub remove_at-entry-requires-clause-place : goal.remove_at-entry-requires-clause-place
-remove_at-entry-requires-clause-place g c =
+pub remove_at-entry-requires-clause-slot : goal.remove_at-entry-requires-clause-slot
+remove_at-entry-requires-clause-slot g c =
     let t = c.self.inside in
     let cur = t.current in
     let ws = t.draining.waiting.items in

@@ -74,8 +74,8 @@ entry_at-entry-requires-clause-bucket g c =
     let at = old-here c.self.invariant c.args.place c.self.view_is c.requires c.bucket_count-count.result c.bucket_count-count.ensures.count c.if-place-count.false in
     at.1
 
-pub entry_at-entry-requires-clause-place : goal.entry_at-entry-requires-clause-place
-entry_at-entry-requires-clause-place g c =
+pub entry_at-entry-requires-clause-slot : goal.entry_at-entry-requires-clause-slot
+entry_at-entry-requires-clause-slot g c =
     let at = old-here c.self.invariant c.args.place c.self.view_is c.requires c.bucket_count-count.result c.bucket_count-count.ensures.count c.if-place-count.false in
     at.2
 
