@@ -11,8 +11,8 @@ use Rattle.std.specs.declared.hash.Hash as hash
 use Rattle.std.specs.declared.hash.Hasher as hasher
 use Rattle.std.specs.declared.hash.BuildHasher as builder
 use Rattle.std.proofs.Common.{sym, subst}
-use Rattle.scc_contents.specs.Contents.{bucket_count, key_hash, list_of, waiting_of}
-use Rattle.scc_contents.specs.Pairs.{with_pair_value}
+use Rattle.scc_common.specs.Contents.{bucket_count, key_hash, list_of, waiting_of}
+use Rattle.scc_common.specs.Pairs.{with_pair_value}
 use Rattle.scc_table.specs.Placed.{entry_of, IsPlace-with_write_at}
 use Rattle.scc_table.specs.Places.{IsPlace, spot_of}
 use Rattle.scc_common.specs.declared.errors.InsertError.{InsertError}

@@ -7,7 +7,7 @@ use Rattle.scc_array.specs.Sifts.{picked, unflagged, shelf_unflagged, shelf_with
 use Rattle.scc_array.specs.Shelf.{Shelf, shelf_entries}
 use Rattle.scc_buckets.proofs.Arrays.{put-is, put-own}
 use Rattle.scc_buckets.specs.Pour.{bound_for, IsPacked}
-use Rattle.scc_contents.specs.Routing.{bucket_number, tag_of}
+use Rattle.scc_common.specs.Routing.{bucket_number, tag_of}
 use Rattle.scc_buckets.specs.Tables.{IsOwn}
 use Rattle.scc_draining.specs.Moves.{others_for, Pulls}
 

@@ -11,11 +11,11 @@ use Rattle.std.specs.declared.cmp.PartialEq as eq
 use Rattle.std.specs.declared.hash.Hash as hash
 use Rattle.std.specs.declared.hash.Hasher as hasher
 use Rattle.std.specs.declared.hash.BuildHasher as builder
-use Rattle.scc_contents.specs.Contents.{Contents, entries, hash_in, key_hash, waiting_of}
-use Rattle.scc_contents.specs.Pairs.{find, without, FindsInstead, IsUnique}
+use Rattle.scc_common.specs.Contents.{Contents, entries, hash_in, key_hash, waiting_of}
+use Rattle.scc_common.specs.Pairs.{find, without, FindsInstead, IsUnique}
 use Rattle.scc_table.specs.Placed.{entry_of, front_of, back_of, IsWrittenAt, IsPutAt}
 use Rattle.scc_table.specs.Relocations.{Relocates, RelocatesTwo}
-use Rattle.scc_contents.specs.Steps.{FirstArrayWhenDue, GrowsForInsertion, GrowsWhenDue, IsUnchanged, RaisesWhenDue}
+use Rattle.scc_common.specs.Steps.{FirstArrayWhenDue, GrowsForInsertion, GrowsWhenDue, IsUnchanged, RaisesWhenDue}
 use Rattle.scc_common.specs.declared.errors.InsertError.{InsertError}
 use Rattle.scc_common.specs.declared.guard.Guard as guard
 use Rattle.scc_index.specs.Lends.{index_row}

@@ -2,9 +2,9 @@
 use Rattle.std.specs.Prelude.{◌≡◌, ◌⊎◌, ℕ, Bool, true, None, Some, Result, IsSome, IsOk, IfOk, IfErr}
 use Rattle.std.specs.Result.{OnOk, OnErr}
 use Rattle.scc_buckets.specs.declared.place.Place.{Place}
-use Rattle.scc_contents.specs.Contents.{Contents, entries, bucket_count, settings_of, refused_of, waiting_of}
-use Rattle.scc_contents.specs.Pairs.{find, FindsInstead, HasRoom, IsUnique}
-use Rattle.scc_contents.specs.Steps.{FirstArrayWhenDue, Grows, GrowsForInsertion, GrowsWhenDue, IsPreparedFor, IsUnchanged, Prepares, RaisesWhenDue}
+use Rattle.scc_common.specs.Contents.{Contents, entries, bucket_count, settings_of, refused_of, waiting_of}
+use Rattle.scc_common.specs.Pairs.{find, FindsInstead, HasRoom, IsUnique}
+use Rattle.scc_common.specs.Steps.{FirstArrayWhenDue, Grows, GrowsForInsertion, GrowsWhenDue, IsPreparedFor, IsUnchanged, Prepares, RaisesWhenDue}
 use Rattle.scc_table.specs.Marks.{MarksPreparation}
 use Rattle.scc_table.specs.Places.{IsInsertedAt}
 use Rattle.scc_table.specs.Relocations.{Relocates, RelocatesTwo}

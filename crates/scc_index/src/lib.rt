@@ -2,11 +2,11 @@
 //! keep.
 #![tactic(auto)]
 
-ghost use Rattle.scc_contents.specs.Closures.{Reads};
-ghost use Rattle.scc_contents.specs.Contents.{entries, bucket_count, lists_of, settings_of, refused_of, waiting_of, hash_in};
-ghost use Rattle.scc_contents.specs.Pairs.{find, HasRoom, IsUnique};
-ghost use Rattle.scc_contents.specs.Steps.{IsUnchanged};
-ghost use Rattle.scc_contents.specs.Walks.{CalledOn, CallableWhile, Walks};
+ghost use Rattle.scc_common.specs.Closures.{Reads};
+ghost use Rattle.scc_common.specs.Contents.{entries, bucket_count, lists_of, settings_of, refused_of, waiting_of, hash_in};
+ghost use Rattle.scc_common.specs.Pairs.{find, HasRoom, IsUnique};
+ghost use Rattle.scc_common.specs.Steps.{IsUnchanged};
+ghost use Rattle.scc_common.specs.Walks.{CalledOn, CallableWhile, Walks};
 ghost use Rattle.scc_index.specs.ClosureSteps.{RemovesIf};
 ghost use Rattle.scc_index.specs.IndexSteps.{Removes};
 ghost use Rattle.scc_index.specs.Insertions.{InsertsByRule, PreparesByRule};
@@ -29,8 +29,7 @@ mod walk;
 mod whole;
 
 pub use borrowed::{Entry, OccupiedEntry, VacantEntry};
-use scc_common::{InsertError, MakeError, SharedVersion, Version};
-use scc_contents::Hashes;
+use scc_common::{Hashes, InsertError, MakeError, SharedVersion, Version};
 pub use scc_snapshot::Iter;
 use scc_table::Table;
 use std::hash::{BuildHasher, BuildHasherDefault, FoldHasher, Hash};
@@ -49,7 +48,7 @@ pub struct Owned<K: Eq + Hash, V, H: BuildHasher = BuildHasherDefault<FoldHasher
 }
 
 impl<K: Eq + Hash, V, H: BuildHasher> Model for Owned<K, V, H> {
-    ghost use Rattle.scc_contents.specs.Contents.{Contents};
+    ghost use Rattle.scc_common.specs.Contents.{Contents};
 
     ghost Value = { Contents (K × V) H };
 

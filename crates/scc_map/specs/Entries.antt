@@ -12,12 +12,12 @@ use Rattle.std.specs.declared.hash.Hash as hash
 use Rattle.std.specs.declared.hash.Hasher as hasher
 use Rattle.std.specs.declared.hash.BuildHasher as builder
 use Rattle.std.proofs.Common.{sym, subst}
-use Rattle.scc_contents.specs.Contents.{Contents, entries, hash_in, key_hash, waiting_of}
-use Rattle.scc_contents.specs.PairSteps.{SwapsKey}
-use Rattle.scc_contents.specs.Pairs.{find, without, HasRoom, IsUnique, with_pair_value}
+use Rattle.scc_common.specs.Contents.{Contents, entries, hash_in, key_hash, waiting_of}
+use Rattle.scc_common.specs.PairSteps.{SwapsKey}
+use Rattle.scc_common.specs.Pairs.{find, without, HasRoom, IsUnique, with_pair_value}
 use Rattle.scc_table.specs.Placed.{entry_of, front_of, back_of, IsWrittenAt, IsPutAt}
 use Rattle.scc_table.specs.Places.{IsPlace}
-use Rattle.scc_contents.specs.Steps.{FirstArrayWhenDue, GrowsForInsertion, HoldsExactly, Rests}
+use Rattle.scc_common.specs.Steps.{FirstArrayWhenDue, GrowsForInsertion, HoldsExactly, Rests}
 use Rattle.scc_table.specs.Placed.{IsPlace-with_write_at}
 use Rattle.scc_table.specs.Places.{with_write_at}
 use Rattle.scc_table.specs.Relocations.{Relocates, RelocatesTwo}

@@ -1,9 +1,9 @@
 -- What an insertion does to a map and to its array, in one word a call.
 use Rattle.std.specs.Prelude.{◌≡◌, ◌⊎◌, ℕ, Bool, true, None, Option, Some, Result, IsSome, IsOk, IfOk, IfErr}
 use Rattle.std.specs.Result.{OnOk, OnErr}
-use Rattle.scc_contents.specs.Contents.{Contents, entries, bucket_count, settings_of, refused_of, waiting_of}
-use Rattle.scc_contents.specs.Pairs.{find, FindsInstead, HasRoom, IsUnique}
-use Rattle.scc_contents.specs.Steps.{FirstArrayWhenDue, Grows, GrowsForInsertion, GrowsWhenDue, IsPreparedFor, Prepares, Rests}
+use Rattle.scc_common.specs.Contents.{Contents, entries, bucket_count, settings_of, refused_of, waiting_of}
+use Rattle.scc_common.specs.Pairs.{find, FindsInstead, HasRoom, IsUnique}
+use Rattle.scc_common.specs.Steps.{FirstArrayWhenDue, Grows, GrowsForInsertion, GrowsWhenDue, IsPreparedFor, Prepares, Rests}
 use Rattle.scc_buckets.specs.declared.place.Place.{Place}
 use Rattle.scc_table.specs.Marks.{MarksPreparation}
 use Rattle.scc_table.specs.Places.{IsInsertedAt}

@@ -1,11 +1,11 @@
 //! A hash map for one owner, over the table of `scc_table`, and its entries, which also serve a locked map.
 #![tactic(auto)]
 
-ghost use Rattle.scc_contents.specs.Closures.{Reads};
-ghost use Rattle.scc_contents.specs.Contents.{entries, bucket_count, lists_of, settings_of, refused_of, waiting_of, hash_in};
-ghost use Rattle.scc_contents.specs.Pairs.{find, HasRoom, IsUnique};
-ghost use Rattle.scc_contents.specs.Steps.{IsUnchanged};
-ghost use Rattle.scc_contents.specs.Walks.{CalledOn, CallableWhile, Walks};
+ghost use Rattle.scc_common.specs.Closures.{Reads};
+ghost use Rattle.scc_common.specs.Contents.{entries, bucket_count, lists_of, settings_of, refused_of, waiting_of, hash_in};
+ghost use Rattle.scc_common.specs.Pairs.{find, HasRoom, IsUnique};
+ghost use Rattle.scc_common.specs.Steps.{IsUnchanged};
+ghost use Rattle.scc_common.specs.Walks.{CalledOn, CallableWhile, Walks};
 ghost use Rattle.scc_map.specs.ClosureSteps.{RemovesIf, UpdatesByRule};
 ghost use Rattle.scc_map.specs.Insertions.{InsertsByRule, PreparesByRule, UpsertsByRule};
 ghost use Rattle.scc_map.specs.MapSteps.{Removes};
@@ -26,8 +26,7 @@ mod walk;
 mod whole;
 
 pub use borrowed::{Entry, OccupiedEntry, ReplaceResult, VacantEntry};
-use scc_common::{InsertError, MakeError};
-use scc_contents::Hashes;
+use scc_common::{Hashes, InsertError, MakeError};
 use scc_table::Table;
 use std::hash::{BuildHasher, BuildHasherDefault, FoldHasher, Hash};
 use std::marker::Model;
@@ -44,7 +43,7 @@ pub struct Owned<K: Eq + Hash, V, H: BuildHasher = BuildHasherDefault<FoldHasher
 }
 
 impl<K: Eq + Hash, V, H: BuildHasher> Model for Owned<K, V, H> {
-    ghost use Rattle.scc_contents.specs.Contents.{Contents};
+    ghost use Rattle.scc_common.specs.Contents.{Contents};
 
     ghost Value = { Contents (K × V) H };
 

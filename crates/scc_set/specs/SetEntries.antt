@@ -6,11 +6,11 @@ use Rattle.std.specs.declared.cmp.PartialEq as eq
 use Rattle.std.specs.declared.hash.Hash as hash
 use Rattle.std.specs.declared.hash.Hasher as hasher
 use Rattle.std.specs.declared.hash.BuildHasher as builder
-use Rattle.scc_contents.specs.Contents.{Contents, entries, bucket_count, minimum_of, refused_of, waiting_of}
+use Rattle.scc_common.specs.Contents.{Contents, entries, bucket_count, minimum_of, refused_of, waiting_of}
 use Rattle.scc_table.specs.Placed.{entry_of, front_of, back_of, SplitsAt, IsNextAt, IsNextPastRemovedAt}
 use Rattle.scc_table.specs.Relocations.{RelocatesNone}
-use Rattle.scc_contents.specs.Sizes.{IsSmaller}
-use Rattle.scc_contents.specs.Steps.{Holds, HoldsExactly, ShrinksWhenDue}
+use Rattle.scc_common.specs.Sizes.{IsSmaller}
+use Rattle.scc_common.specs.Steps.{Holds, HoldsExactly, ShrinksWhenDue}
 use Rattle.scc_buckets.specs.declared.place.Place.{Place}
 use Rattle.scc_set.specs.Keys.{IsUnique}
 use Rattle.scc_set.specs.Lends.{set_row}

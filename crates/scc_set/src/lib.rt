@@ -1,10 +1,10 @@
 //! A hash set for one owner, over the map of `scc_map`.
 #![tactic(auto)]
 
-ghost use Rattle.scc_contents.specs.Contents.{entries, bucket_count, lists_of, settings_of, refused_of, waiting_of, hash_in};
-ghost use Rattle.scc_contents.specs.Pairs.{IsUnique as IsUniqueMap};
-ghost use Rattle.scc_contents.specs.Pairs.{find as find_pair};
-ghost use Rattle.scc_contents.specs.Steps.{HoldsExactly, IsUnchanged};
+ghost use Rattle.scc_common.specs.Contents.{entries, bucket_count, lists_of, settings_of, refused_of, waiting_of, hash_in};
+ghost use Rattle.scc_common.specs.Pairs.{IsUnique as IsUniqueMap};
+ghost use Rattle.scc_common.specs.Pairs.{find as find_pair};
+ghost use Rattle.scc_common.specs.Steps.{HoldsExactly, IsUnchanged};
 ghost use Rattle.scc_set.specs.Insertions.{InsertsByRule, PreparesByRule, ReplacesByRule};
 ghost use Rattle.scc_set.specs.Keys.{find, with_key, FindsInstead, HasRoom, IsUnique};
 ghost use Rattle.scc_set.specs.Removals.{RemovesByRule};
@@ -23,8 +23,7 @@ mod walk;
 mod whole;
 
 pub use entry::{OccupiedEntry, Removed};
-use scc_common::{InsertError, KeyError, MakeError};
-use scc_contents::Hashes;
+use scc_common::{Hashes, InsertError, KeyError, MakeError};
 use scc_map::borrowed::ReplaceResult;
 use std::hash::{BuildHasher, BuildHasherDefault, FoldHasher, Hash};
 use std::marker::Model;
@@ -40,7 +39,7 @@ pub struct Owned<K: Eq + Hash, H: BuildHasher = BuildHasherDefault<FoldHasher>> 
 }
 
 impl<K: Eq + Hash, H: BuildHasher> Model for Owned<K, H> {
-    ghost use Rattle.scc_contents.specs.Contents.{Contents};
+    ghost use Rattle.scc_common.specs.Contents.{Contents};
     ghost use Rattle.scc_set.specs.Keys.{of_map};
 
     ghost Value = { Contents K H };

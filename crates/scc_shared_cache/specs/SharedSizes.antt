@@ -1,6 +1,6 @@
 -- The number of slots that a cache has in all its stripes together when it is made.
 use Rattle.std.specs.Prelude.{◌≡◌, ℕ, ◌<◌}
-use Rattle.scc_contents.specs.Sizes.{IsArraySize}
+use Rattle.scc_common.specs.Sizes.{IsArraySize}
 
 -- n is the number of slots for a capacity that is asked for: 0 for 0, else the size of an array
 pub record IsSlotsAsked (capacity n : ℕ) : Type 0 where

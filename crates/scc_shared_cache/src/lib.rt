@@ -2,7 +2,7 @@
 #![tactic(auto)]
 
 ghost use Rattle.std.specs.Prelude.{◌≡◌, ℕ, max, IfOk};
-ghost use Rattle.scc_contents.specs.Sizes.{IsArraySize};
+ghost use Rattle.scc_common.specs.Sizes.{IsArraySize};
 ghost use Rattle.scc_shared_cache.specs.SharedSizes.{IsSlotsAsked};
 
 mod calls;
@@ -19,7 +19,6 @@ use scc_stripes::Striped;
 use scc_stripes::shares::bits_for;
 use std::alloc::Global;
 use std::hash::{BuildHasher, BuildHasherDefault, FoldHasher, Hash};
-use std::sync::Arc;
 
 /// A cache from keys to values that threads share by reference. Each of its stripes is an owned cache behind a lock,
 /// and a call takes the lock of the stripe of its key. Each stripe has its share of the maximum, and evicts its pairs
@@ -76,10 +75,7 @@ impl<K: Eq + Hash + Drop, V: Drop, H: BuildHasher + Drop> HashCache<K, V, H> {
         };
         let maximum = slots_for(maximum.max(slots));
         let bits = bits_for(if slots == 0 { maximum } else { slots });
-        let Ok(owner) = Arc::new(alloc, hasher) else {
-            return Err(MakeError);
-        };
-        let stripes = Striped::make(alloc, bits, slots, maximum, owner)?;
+        let stripes = Striped::make(alloc, bits, slots, maximum, hasher)?;
         Ok(HashCache { stripes, maximum })
     }
 }

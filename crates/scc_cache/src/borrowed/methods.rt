@@ -4,15 +4,14 @@ ghost use Rattle.scc_cache.specs.CacheSteps.{IsAbsent, Puts, TakesAt};
 ghost use Rattle.scc_cache.specs.Caches.{IsCacheState};
 ghost use Rattle.scc_cache.specs.Entries.{Memory, occupied_cache, occupied_pair, entry_guard, IsEntryOf, IsRefreshed, IsPut, rests_if_refused, rests_if_none, replaced_guard, Replaces};
 ghost use Rattle.scc_cache.specs.Relocations.{RelocatesNoneWithin, RelocatesTwoWithin};
-ghost use Rattle.scc_contents.specs.Contents.{bucket_count, hash_in};
+ghost use Rattle.scc_common.specs.Contents.{bucket_count, hash_in};
 ghost use Rattle.std.specs.Borrow.{sem};
 ghost use Rattle.std.specs.Prelude.{◌≡◌, IfOk, IfErr, OnOk, IfSome, IfNone};
 
 use crate::borrowed::{Entry, OccupiedEntry, ReplaceResult};
 use crate::held::{HeldEntry, HeldOccupied, HeldReplace, HeldVacant};
 use crate::{EvictedEntry, Owned};
-use scc_common::InsertError;
-use scc_contents::Hashes;
+use scc_common::{Hashes, InsertError};
 use std::hash::{BuildHasher, Hash};
 use std::marker::PhantomData;
 

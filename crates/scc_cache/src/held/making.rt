@@ -3,13 +3,12 @@
 ghost use Rattle.scc_cache.specs.CacheSteps.{IsAbsent};
 ghost use Rattle.scc_cache.specs.Caches.{IsCacheState};
 ghost use Rattle.scc_cache.specs.Entries.{entry_guard, occupied_cache, IsEntryOf, IsRefreshed, replaced_guard, Replaces};
-ghost use Rattle.scc_contents.specs.Contents.{hash_in};
+ghost use Rattle.scc_common.specs.Contents.{hash_in};
 ghost use Rattle.std.specs.Prelude.{◌≡◌, IfSome, IfNone};
 
 use crate::Owned;
 use crate::held::{HeldEntry, HeldOccupied, HeldReplace, HeldVacant};
-use scc_common::Guard;
-use scc_contents::Hashes;
+use scc_common::{Guard, Hashes};
 use std::hash::{BuildHasher, Hash};
 use std::marker::PhantomData;
 

@@ -1,6 +1,6 @@
 //! The calls of an entry of a locked stripe that release the lock, and those that put in a pair.
 ghost use Rattle.scc_cache.specs.Entries.{Memory, occupied_pair, IsPut};
-ghost use Rattle.scc_contents.specs.Contents.{bucket_count};
+ghost use Rattle.scc_common.specs.Contents.{bucket_count};
 ghost use Rattle.std.specs.Prelude.{◌≡◌, IfOk, IfErr};
 ghost use Rattle.std.specs.Sync.RwLock.{write_guard_value};
 

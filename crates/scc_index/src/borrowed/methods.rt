@@ -1,9 +1,9 @@
 //! The calls that make an entry of a borrowed index, and those that end the borrow. An entry holds the place that one
 //! search found.
-ghost use Rattle.scc_contents.specs.Contents.{entries, bucket_count, minimum_of};
-ghost use Rattle.scc_contents.specs.Pairs.{find, IsUnique};
-ghost use Rattle.scc_contents.specs.Sizes.{IsSmaller};
-ghost use Rattle.scc_contents.specs.Steps.{Holds, ShrinksWhenDue};
+ghost use Rattle.scc_common.specs.Contents.{entries, bucket_count, minimum_of};
+ghost use Rattle.scc_common.specs.Pairs.{find, IsUnique};
+ghost use Rattle.scc_common.specs.Sizes.{IsSmaller};
+ghost use Rattle.scc_common.specs.Steps.{Holds, ShrinksWhenDue};
 ghost use Rattle.scc_index.specs.Entries.{occupied_index, occupied_front, occupied_back, entry_guard, InsertsAtVacant, IsOccupiedAt, IsEntryOf, rests_if_refused, rests_if_none};
 ghost use Rattle.scc_table.specs.Relocations.{RelocatesNone};
 ghost use Rattle.std.specs.Borrow.{sem};
@@ -12,8 +12,7 @@ ghost use Rattle.std.specs.Prelude.{◌≡◌, ◌≢◌, ◌++◌, length, None
 use crate::Owned;
 use crate::borrowed::{Entry, OccupiedEntry};
 use crate::held::{HeldEntry, HeldOccupied, HeldVacant};
-use scc_common::InsertError;
-use scc_contents::Hashes;
+use scc_common::{Hashes, InsertError};
 use std::hash::{BuildHasher, Hash};
 use std::marker::PhantomData;
 

@@ -1,8 +1,8 @@
 //! Entries in the order of the index's list.
-ghost use Rattle.scc_contents.specs.Contents.{entries, waiting_of};
-ghost use Rattle.scc_contents.specs.PairWalks.{PassesAt, PassesNone};
-ghost use Rattle.scc_contents.specs.Pairs.{IsUnique};
-ghost use Rattle.scc_contents.specs.Walks.{CalledOn, CallableWhile};
+ghost use Rattle.scc_common.specs.Contents.{entries, waiting_of};
+ghost use Rattle.scc_common.specs.PairWalks.{PassesAt, PassesNone};
+ghost use Rattle.scc_common.specs.Pairs.{IsUnique};
+ghost use Rattle.scc_common.specs.Walks.{CalledOn, CallableWhile};
 ghost use Rattle.scc_index.specs.Entries.{occupied_index, occupied_pair, occupied_front, occupied_back, rests_if_none};
 ghost use Rattle.scc_index.specs.EntrySteps.{StandsIn, IsNext, IsNextPastRemoved, rests_removed};
 ghost use Rattle.std.specs.Borrow.{sem};

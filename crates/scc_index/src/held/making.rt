@@ -1,8 +1,8 @@
 //! How an entry is made from a guard of an index, alike for all guards.
-ghost use Rattle.scc_contents.specs.Contents.{entries};
-ghost use Rattle.scc_contents.specs.PairWalks.{Declines, PassesAt};
-ghost use Rattle.scc_contents.specs.Pairs.{find, IsUnique};
-ghost use Rattle.scc_contents.specs.Walks.{CalledOn, CallableWhile};
+ghost use Rattle.scc_common.specs.Contents.{entries};
+ghost use Rattle.scc_common.specs.PairWalks.{Declines, PassesAt};
+ghost use Rattle.scc_common.specs.Pairs.{find, IsUnique};
+ghost use Rattle.scc_common.specs.Walks.{CalledOn, CallableWhile};
 ghost use Rattle.scc_index.specs.Entries.{entry_guard, occupied_pair, occupied_front, IsOccupiedAt, IsEntryOf};
 ghost use Rattle.scc_index.specs.EntrySteps.{StandsIn};
 ghost use Rattle.scc_index.specs.Seats.{entry_rest, occupied_rest};

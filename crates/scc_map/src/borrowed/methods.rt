@@ -1,7 +1,7 @@
 //! The calls that make an entry of a borrowed map, and those that end the borrow. An entry holds the place that one
 //! search found.
-ghost use Rattle.scc_contents.specs.Contents.{entries, refused_of, waiting_of};
-ghost use Rattle.scc_contents.specs.Pairs.{find, IsUnique};
+ghost use Rattle.scc_common.specs.Contents.{entries, refused_of, waiting_of};
+ghost use Rattle.scc_common.specs.Pairs.{find, IsUnique};
 ghost use Rattle.scc_map.specs.Entries.{entry_guard, InsertsAtVacant, IsOccupiedAt, IsEntryOf, rests_if_refused, rests_if_none, replaced_guard, Replaces};
 ghost use Rattle.scc_map.specs.EntrySteps.{RemovesEntryByRule, RemovesValueByRule};
 ghost use Rattle.std.specs.Borrow.{sem};
@@ -10,8 +10,7 @@ ghost use Rattle.std.specs.Prelude.{◌≡◌, None, IfSome, IfNone};
 use crate::Owned;
 use crate::borrowed::{Entry, OccupiedEntry, ReplaceResult};
 use crate::held::{HeldEntry, HeldOccupied, HeldReplace, HeldVacant};
-use scc_common::InsertError;
-use scc_contents::Hashes;
+use scc_common::{Hashes, InsertError};
 use std::hash::{BuildHasher, Hash};
 use std::marker::PhantomData;
 

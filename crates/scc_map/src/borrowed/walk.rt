@@ -1,7 +1,7 @@
 //! Entries in the order of the map's list.
-ghost use Rattle.scc_contents.specs.Contents.{entries};
-ghost use Rattle.scc_contents.specs.PairWalks.{PassesAt, PassesNone};
-ghost use Rattle.scc_contents.specs.Walks.{CalledOn, CallableWhile};
+ghost use Rattle.scc_common.specs.Contents.{entries};
+ghost use Rattle.scc_common.specs.PairWalks.{PassesAt, PassesNone};
+ghost use Rattle.scc_common.specs.Walks.{CalledOn, CallableWhile};
 ghost use Rattle.scc_map.specs.Entries.{occupied_pair, occupied_front, occupied_back, rests_if_none};
 ghost use Rattle.scc_map.specs.EntrySteps.{StandsIn, IsNext, RemovesWithNext, rests_removed};
 ghost use Rattle.std.specs.Borrow.{sem};

@@ -1,8 +1,8 @@
 //! How an entry is made from a guard of a map, alike for all guards.
-ghost use Rattle.scc_contents.specs.Contents.{entries, refused_of, waiting_of};
-ghost use Rattle.scc_contents.specs.PairWalks.{Declines, PassesAt};
-ghost use Rattle.scc_contents.specs.Pairs.{find, IsUnique};
-ghost use Rattle.scc_contents.specs.Walks.{CalledOn, CallableWhile};
+ghost use Rattle.scc_common.specs.Contents.{entries, refused_of, waiting_of};
+ghost use Rattle.scc_common.specs.PairWalks.{Declines, PassesAt};
+ghost use Rattle.scc_common.specs.Pairs.{find, IsUnique};
+ghost use Rattle.scc_common.specs.Walks.{CalledOn, CallableWhile};
 ghost use Rattle.scc_map.specs.Entries.{entry_guard, occupied_pair, occupied_front, IsOccupiedAt, IsEntryOf, replaced_guard, Replaces};
 ghost use Rattle.scc_map.specs.EntrySteps.{StandsIn};
 ghost use Rattle.scc_map.specs.Seats.{entry_rest, occupied_rest, replaced_rest};

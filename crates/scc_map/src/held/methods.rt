@@ -1,6 +1,6 @@
 //! The calls of an entry that keep its guard, alike for all guards.
-ghost use Rattle.scc_contents.specs.Contents.{waiting_of};
-ghost use Rattle.scc_contents.specs.Pairs.{IsUnique};
+ghost use Rattle.scc_common.specs.Contents.{waiting_of};
+ghost use Rattle.scc_common.specs.Pairs.{IsUnique};
 ghost use Rattle.scc_map.specs.Entries.{occupied_map, occupied_pair, occupied_lends, entry_guard, entry_key, IsWritten, with_value, TakesEntry, Modifies};
 ghost use Rattle.std.specs.Borrow.{sem};
 ghost use Rattle.std.specs.Prelude.{◌≡◌};

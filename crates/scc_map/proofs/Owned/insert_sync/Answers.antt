@@ -1,5 +1,5 @@
 use Rattle.std.proofs.Common.{refl, rules, subst}
-use Rattle.scc_contents.specs.Contents.{entries}
+use Rattle.scc_common.specs.Contents.{entries}
 use Rattle.scc_buckets.proofs.Lookups.{find-position, find-position_none, finds-added}
 use Rattle.scc_map.proofs.CallerLemmas.{finds-rearranged}
 use Rattle.scc_table.specs.Relocations.{RelocatesTwo}

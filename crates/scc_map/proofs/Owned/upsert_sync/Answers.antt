@@ -1,6 +1,6 @@
 use Rattle.std.proofs.Common.{◌≡◌, Some, sym, ap, ◌∙◌, rules, subst}
-use Rattle.scc_contents.specs.Contents.{entries}
-use Rattle.scc_contents.specs.Pairs.{find, with_pair_value}
+use Rattle.scc_common.specs.Contents.{entries}
+use Rattle.scc_common.specs.Pairs.{find, with_pair_value}
 use Rattle.scc_map.proofs.CallerLemmas.{finds-rearranged, finds-set_value}
 use Rattle.scc_buckets.proofs.Lookups.{find-position_none, finds-added}
 use Rattle.scc_buckets.proofs.KeyWrites.{grows-same}

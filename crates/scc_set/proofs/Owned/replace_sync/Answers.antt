@@ -1,5 +1,5 @@
 use Rattle.std.proofs.Common.{◌≡◌, ℕ, Bool, Err, IsOk, None, ap, rules, subst, ◌∙◌}
-use Rattle.scc_contents.specs.Contents.{Contents, bucket_count, entries, key_hash}
+use Rattle.scc_common.specs.Contents.{Contents, bucket_count, entries, key_hash}
 use Rattle.scc_set.specs.Keys.{find}
 use Rattle.scc_set.specs.SetSteps.{Inserts, Replaces}
 use Rattle.scc_common.specs.declared.errors.KeyError.{KeyError}
