@@ -3,7 +3,7 @@ ghost use Rattle.scc_common.specs.Contents.{entries};
 ghost use Rattle.scc_common.specs.PairWalks.{Declines, PassesAt};
 ghost use Rattle.scc_common.specs.Pairs.{find, IsUnique};
 ghost use Rattle.scc_common.specs.Walks.{CalledOn, CallableWhile};
-ghost use Rattle.scc_index.specs.Entries.{entry_guard, occupied_pair, occupied_front, IsOccupiedAt, IsEntryOf};
+ghost use Rattle.scc_index.specs.Entries.{entry_guard, occupied_pair, occupied_front, IsOccupiedAt, IsEntryOf, occupied_guard};
 ghost use Rattle.scc_index.specs.EntrySteps.{StandsIn};
 ghost use Rattle.scc_index.specs.Seats.{entry_rest, occupied_rest};
 ghost use Rattle.std.specs.Prelude.{◌≡◌, [], None, false, IfOk, IfErr, IfSome, IfNone};
@@ -63,7 +63,7 @@ impl<G: Guard<Inner = Owned<K, V, H>>, N, K: Eq + Hash, V, H: BuildHasher> HeldO
     where
         G: Drop,
         N: Drop,
-        ensures guard { IfSome result (λ o. o.guard ≡ guard) }
+        ensures guard { IfSome result (λ o. occupied_guard o ≡ guard) }
         ensures rest { IfSome result (λ o. occupied_rest o ≡ rest) }
         ensures entry { IfSome result (IsOccupiedAt K.eq (G.inner guard) k.now) }
         ensures missing { IfNone result (find K.eq (entries (G.inner guard)) k.now ≡ None) }
@@ -85,7 +85,7 @@ impl<G: Guard<Inner = Owned<K, V, H>>, N, K: Eq + Hash, V, H: BuildHasher> HeldO
     pub fn first(guard: G, rest: N) -> Result<Self, N>
     where
         G: Drop,
-        ensures guard { IfOk result (λ o. o.guard ≡ guard) }
+        ensures guard { IfOk result (λ o. occupied_guard o ≡ guard) }
         ensures rest { IfOk result (λ o. occupied_rest o ≡ rest) }
         ensures first { IfOk result (λ o. StandsIn (G.inner guard) o × (occupied_front o ≡ [])) }
         ensures empty { IfErr result (λ n. (n ≡ rest) × (entries (G.inner guard) ≡ [])) }
