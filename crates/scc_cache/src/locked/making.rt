@@ -1,5 +1,5 @@
-//! How an entry is made from a guard of a cache, alike for all guards. The pair of the key first becomes the most
-//! recent of its bucket.
+//! How an entry is made from the guard of a cache. The pair of the key first becomes the most recent of its bucket. The
+//! guard may be of any kind, but the owned form, whose contracts say more of a guard that goes, makes its entries itself.
 ghost use Rattle.scc_cache.specs.CacheSteps.{IsAbsent};
 ghost use Rattle.scc_cache.specs.Caches.{IsCacheState};
 ghost use Rattle.scc_cache.specs.Entries.{entry_guard, occupied_cache, IsEntryOf, IsRefreshed, replaced_guard, Replaces, occupied_guard};
