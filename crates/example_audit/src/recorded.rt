@@ -6,15 +6,14 @@ ghost use Rattle.scc.specs.Routing.{stripe_of};
 
 use crate::input::Line;
 use scc::hash_index::Owned;
-use scc::recorded::{
-    Calls, FinishError, Finished, IndexCall, Pass, Recorded, Reply, Setup, Shared, Site, Step,
-};
-use std::alloc::Global;
+use scc::recorded::{Calls, Finished, IndexCall, Pass, Recorded, Reply, Setup, Shared, Site, Step};
+use std::alloc::{AllocError, Global};
 use std::hash::{BuildHasherDefault, FoldHasher};
 use std::io;
 use std::marker::Brand;
 use std::sync::ledger::{Blank, Ledger};
 use std::sync::{Arc, Wait};
+use std::thread::{Threads, map_vec};
 
 type Fold = Shared<BuildHasherDefault<FoldHasher>>;
 
@@ -46,31 +45,29 @@ where
 {
     match recorded.finish(passes) {
         Ok(finished) => Ok(finished),
-        Err(unfinished) => match unfinished.cause {
-            FinishError::Memory => Err(out_of_memory()),
-            _ => Err(io::Error::from(io::ErrorKind::InvalidData)),
-        },
+        Err(unfinished) => Err(io::Error::from(unfinished.cause)),
     }
 }
 
 // Publishes a route by the pass: the first route to a destination is inserted, a later one is updated. Returns false
 // if a call is refused.
-fn publish<L: Ledger, M: Site<Fold>, R: Wait>(
+fn publish_route<L: Ledger, M: Site<Fold>, R: Wait>(
     rt: &R,
     recorded: &Recorded<Routes, L, M>,
     pass: &mut Pass<Routes, L>,
-    line: Line,
+    destination: u64,
+    hop: u64,
 ) -> bool {
-    match recorded.call(rt, pass, IndexCall::Insert(line.0, line.1)) {
+    match recorded.call(rt, pass, IndexCall::Insert(destination, hop)) {
         Ok(Reply::Exists(_, _)) => recorded
-            .call(rt, pass, IndexCall::Update(line.0, line.1))
+            .call(rt, pass, IndexCall::Update(destination, hop))
             .is_ok(),
         Ok(_) => true,
         Err(_) => false,
     }
 }
 
-// Publishes every other line, from line `number` on. Returns false if a call is refused.
+// Publishes the routes of every other line, from line `number` on. Returns false if a call is refused.
 fn publish_part<L: Ledger, M: Site<Fold>, R: Wait>(
     rt: &R,
     recorded: &Recorded<Routes, L, M>,
@@ -79,11 +76,43 @@ fn publish_part<L: Ledger, M: Site<Fold>, R: Wait>(
     number: usize,
 ) -> bool {
     for line in lines.iter().skip(number).step_by(PASSES) {
-        if !publish(rt, recorded, pass, *line) {
-            return false;
+        for offset in 0..line.count {
+            let destination = line.first.wrapping_add(offset);
+            if !publish_route(rt, recorded, pass, destination, line.hop) {
+                return false;
+            }
         }
     }
     true
+}
+
+// Publishes the routes of all lines, each pass on a thread of its own, and returns the passes. Returns `None` if a call
+// is refused.
+fn publish_all<L: Ledger + Send + Sync, M: Site<Fold> + Send + Sync, R: Threads + Sync + Wait>(
+    rt: &R,
+    alloc: Global,
+    recorded: &Recorded<Routes, L, M>,
+    passes: Vec<Pass<Routes, L>>,
+    lines: &[Line],
+) -> Result<Option<Vec<Pass<Routes, L>>>, AllocError> {
+    let published = map_vec(
+        rt,
+        passes,
+        &|pass: Pass<Routes, L>| {
+            let mut pass = pass;
+            let number = pass.log.number;
+            let made = publish_part(rt, recorded, &mut pass, lines, number);
+            (pass, made)
+        },
+    )?;
+    let mut passes = Vec::new(alloc);
+    for (pass, made) in published {
+        if !made {
+            return Ok(None);
+        }
+        passes.push(pass).map_err(AllocError::from)?;
+    }
+    Ok(Some(passes))
 }
 
 // Returns the number of call records.
@@ -99,8 +128,8 @@ fn calls_of(finished: &Finished<Routes>) -> u64 {
     calls
 }
 
-// Makes the calls on four stripes by two passes, audits the run, and returns the number of call records.
-fn record_in<L: Ledger, M: Site<Fold>, R: Wait>(
+// Makes the calls on four stripes by two passes on two threads, audits the run, and returns the number of call records.
+fn record_in<L: Ledger + Send + Sync, M: Site<Fold> + Send + Sync, R: Threads + Sync + Wait>(
     rt: &R,
     alloc: Global,
     hasher: Fold,
@@ -118,19 +147,15 @@ fn record_in<L: Ledger, M: Site<Fold>, R: Wait>(
         hasher,
     };
     let opened = Recorded::<Routes, L, M>::open(alloc, setup, STRIPES, PASSES, receipts, records);
-    let Ok((recorded, mut passes)) = opened else {
+    let (recorded, passes) = opened?;
+    let Some(passes) = publish_all(rt, alloc, &recorded, passes, lines)? else {
         return Err(out_of_memory());
     };
-    for (number, pass) in passes.as_mut_slice().iter_mut().enumerate() {
-        if !publish_part(rt, &recorded, pass, lines, number) {
-            return Err(out_of_memory());
-        }
-    }
     Ok(calls_of(&audit(recorded, passes)?))
 }
 
 /// Publishes the routes in a recorded index, and returns the number of recorded calls once the audit has succeeded.
-pub fn record<R: Wait>(rt: &R, alloc: Global, lines: &[Line]) -> io::Result<u64> {
+pub fn record<R: Threads + Sync + Wait>(rt: &R, alloc: Global, lines: &[Line]) -> io::Result<u64> {
     let Ok(owner) = Arc::new(alloc, BuildHasherDefault::new()) else {
         return Err(out_of_memory());
     };

@@ -6,7 +6,7 @@ use Rattle.std.specs.List.{position}
 use Rattle.scc_array.specs.Shelves.{shelf_of}
 use Rattle.scc_array.specs.Shelf.{Shelf, shelf_entries}
 use Rattle.scc_array.specs.ShelfWrites.{shelf_write_at}
-use Rattle.scc_contents.specs.Updates.{WritesInto}
+use Rattle.scc_common.specs.Updates.{WritesInto}
 
 module _ {F E K V R : Type 0} (g : Once F (Bor K × (MutBor V × Unit {0})) (R × (MutBor V × Unit {0}))) (f : F) (key_of : E → K) (value_of : E → V) (put : E → V → E) (p : E → Bool) (bs : List (Shelf E)) (b : ℕ) (ds : List (Shelf E)) where
   -- f is called at the first entry of bucket b that passes p, whose value is what f left; if no entry passes, nothing

@@ -11,9 +11,9 @@ use Rattle.std.proofs.lemmas.Map.Keys.{IsDistinct-head, IsDistinct-IsPermutation
 use native.Mathlib.Decide.{dec_lt}
 use Rattle.scc_array.proofs.ListsLemmas.{get-below, get-is}
 use Rattle.scc_buckets.specs.Bounded.{IsBounded, IsListed, IsResized, IsUnlisted, HasList, HasListsOf}
-use Rattle.scc_contents.specs.Routing.{bucket_number}
-use Rattle.scc_contents.specs.Sizes.{IsBucketCount}
-use Rattle.scc_contents.specs.Contents.{Contents, Settings, entries, bucket_count, settings_of, refused_of, list_of, lists_of, overflow_of, IsRouted}
+use Rattle.scc_common.specs.Routing.{bucket_number}
+use Rattle.scc_common.specs.Sizes.{IsBucketCount}
+use Rattle.scc_common.specs.Contents.{Contents, Settings, entries, bucket_count, settings_of, refused_of, list_of, lists_of, overflow_of, IsRouted}
 use Rattle.scc_buckets.specs.Tables.{AllEmpty, IsBuckets, overflow_in}
 use Rattle.scc_array.specs.Shelf.{Shelf, shelf_entries, empty_shelf, with_slot, with_entry, next_slot, without_slot}
 use Rattle.scc_buckets.proofs.FindingLemmas.{position_hit, position_cons}

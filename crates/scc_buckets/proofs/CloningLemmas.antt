@@ -3,9 +3,9 @@ use Rattle.std.proofs.Common.{◌≡◌, ℕ, suc, ◌*◌, ◌<◌, List, [], �
 use Rattle.std.specs.List.{AllZip}
 use Rattle.std.specs.List.Sorted.{IsPermutation}
 use Rattle.std.proofs.lemmas.List.Sorted.{IsPermutation-append_comm, IsPermutation-append_left, IsPermutation-append_right, IsPermutation-trans, IsPermutation-refl}
-use Rattle.scc_contents.specs.Clones.{AddsClones, HasClones}
-use Rattle.scc_contents.specs.Contents.{Contents, entries, bucket_count, settings_of}
-use Rattle.scc_contents.specs.Sizes.{IsLawful, IsBucketCount}
+use Rattle.scc_common.specs.Clones.{AddsClones, HasClones}
+use Rattle.scc_common.specs.Contents.{Contents, entries, bucket_count, settings_of}
+use Rattle.scc_common.specs.Sizes.{IsLawful, IsBucketCount}
 
 zip-append : {E : Type 0} (C : E → E → Type 0) (xs cs ys ds : List E) → AllZip C xs cs → AllZip C ys ds → AllZip C (xs ++ ys) (cs ++ ds)
 zip-append C [] [] ys ds h k = k

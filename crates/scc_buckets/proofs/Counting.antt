@@ -4,7 +4,7 @@ use Rattle.std.specs.List.{filter, flat_map, count_by}
 use Rattle.std.proofs.lemmas.List.{append-nil}
 use Rattle.std.proofs.lemmas.List.Elements.{filter-append}
 use Rattle.std.proofs.lemmas.List.Sums.{length-filter}
-use Rattle.scc_contents.specs.Routing.{bucket_number}
+use Rattle.scc_common.specs.Routing.{bucket_number}
 use Rattle.scc_array.specs.Shelf.{Shelf, shelf_entries}
 use Rattle.scc_buckets.specs.Tables.{IsBuckets}
 

@@ -6,9 +6,9 @@ use Rattle.std.proofs.lemmas.List.{length-map, get_or_default, get_or-map, get_o
 use native.Mathlib.Decide.{dec_lt}
 use Rattle.scc_array.specs.Shelf.{Shelf, shelf_entries, empty_shelf, HasTag}
 use Rattle.scc_array.proofs.Search.{position_is, found, none_by}
-use Rattle.scc_contents.specs.Routing.{bucket_number, tag_of}
+use Rattle.scc_common.specs.Routing.{bucket_number, tag_of}
 use Rattle.scc_buckets.specs.Tables.{IsOwn, IsBuckets}
-use Rattle.scc_contents.specs.Contents.{Contents, Settings, entries}
+use Rattle.scc_common.specs.Contents.{Contents, Settings, entries}
 use Rattle.scc_buckets.specs.Places.{IsFoundAtSpot, index_of_spot}
 use Rattle.scc_buckets.proofs.Views.{view_of, count-view, list-view, entries-view}
 

@@ -6,8 +6,8 @@ use Rattle.scc_array.proofs.Finds.{find-flat, find-none}
 use Rattle.scc_array.specs.Shelves.{shelf_of}
 use Rattle.scc_array.specs.Shelf.{Shelf, empty_shelf, shelf_entries}
 use Rattle.scc_array.proofs.ListsLemmas.{get-below, get-is}
-use Rattle.scc_contents.specs.Contents.{Contents, entries, bucket_count, list_of, settings_of, IsRouted}
-use Rattle.scc_contents.specs.Routing.{bucket_number}
+use Rattle.scc_common.specs.Contents.{Contents, entries, bucket_count, list_of, settings_of, IsRouted}
+use Rattle.scc_common.specs.Routing.{bucket_number}
 use Rattle.scc_buckets.specs.Tables.{IsOwn}
 use Rattle.scc_buckets.proofs.FindingLemmas.{HashOf}
 

@@ -28,4 +28,4 @@ module _ {E K : Type 0} (eq : K → K → Bool) (key : E → K) where
 
   -- an entry that has the key
   pub find-passing : (laws : IsEquivalence eq) (k : K) (es : List E) (x : E) → IsDistinct eq (map key es) → IsPassing (λ e. eq k (key e)) es x → find (λ e. eq k (key e)) es ≡ Some x
-  find-passing laws k es x d r = find-at laws k es r.place.0 x d r.place.1 r.passes
+  find-passing laws k es x d r = find-at laws k es r.slot.0 x d r.slot.1 r.passes

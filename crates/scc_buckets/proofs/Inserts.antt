@@ -11,12 +11,12 @@ use Rattle.std.proofs.lemmas.Map.Keys.{IsDistinct-cons, IsDistinct-IsPermutation
 use Rattle.std.specs.Cmp.{IsEquivalence}
 use Rattle.std.specs.Option.{option_map}
 use native.Mathlib.Decide.{dec_lt}
-use Rattle.scc_contents.specs.Contents.{Contents, Settings, entries, bucket_count, settings_of, list_of}
+use Rattle.scc_common.specs.Contents.{Contents, Settings, entries, bucket_count, settings_of, list_of}
 use Rattle.scc_buckets.specs.Places.{IsInsertedAtSpot, index_of_spot}
-use Rattle.scc_contents.specs.Routing.{bucket_number, tag_of}
+use Rattle.scc_common.specs.Routing.{bucket_number, tag_of}
 use Rattle.scc_array.specs.Shelf.{Shelf, shelf_entries, with_entry, next_slot}
-use Rattle.scc_contents.specs.Steps.{Holds, IsUnchanged}
-use Rattle.scc_contents.specs.Sizes.{IsLawful}
+use Rattle.scc_common.specs.Steps.{Holds, IsUnchanged}
+use Rattle.scc_common.specs.Sizes.{IsLawful}
 use Rattle.scc_buckets.specs.Tables.{IsOwn, IsBuckets}
 use Rattle.scc_buckets.proofs.FindingLemmas.{position_hit, position_cons}
 use Rattle.scc_array.proofs.ListsLemmas.{get-index}

@@ -3,10 +3,10 @@ use Rattle.std.proofs.Common.{◌≡◌, ℕ, zero, suc, ◌+◌, Bool, true, Li
 use Rattle.std.specs.Cmp.{IsEquivalence}
 use Rattle.std.specs.List.{IsDistinct, flat_map, slice_get, slice_set, remove}
 use Rattle.std.specs.Map.{keys_of, set_value, set_key}
-use Rattle.scc_contents.specs.Contents.{Contents, entries, bucket_count, refused_of, list_of}
-use Rattle.scc_contents.specs.Pairs.{without, with_pair_value, with_pair_key}
+use Rattle.scc_common.specs.Contents.{Contents, entries, bucket_count, refused_of, list_of}
+use Rattle.scc_common.specs.Pairs.{without, with_pair_value, with_pair_key}
 use Rattle.scc_buckets.specs.Places.{IsSpot, IsFoundAtSpot, index_of_spot}
-use Rattle.scc_contents.specs.Steps.{Grows, Holds, HoldsExactly}
+use Rattle.scc_common.specs.Steps.{Grows, Holds, HoldsExactly}
 use Rattle.scc_array.specs.ShelfWrites.{write_at}
 use Rattle.scc_buckets.specs.Writes.{with_write_at_spot}
 use Rattle.scc_buckets.specs.declared.place.Place.{Place}

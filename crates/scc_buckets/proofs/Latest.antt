@@ -2,7 +2,7 @@
 use Rattle.std.proofs.Common.{◌≡◌, ℕ, zero, suc, ◌<◌, List, [], ◌∷◌, ◌++◌, length, get_or, set, refl, sym, ap, arith, Some}
 use Rattle.std.specs.List.{remove, slice_get}
 use Rattle.scc_buckets.specs.Bounded.{IsBounded, HasList}
-use Rattle.scc_contents.specs.Contents.{Contents, bucket_count, list_of, lists_of}
+use Rattle.scc_common.specs.Contents.{Contents, bucket_count, list_of, lists_of}
 
 -- the last element, taken out and put at the end again
 put-last : {X : Type 0} (xs : List X) (i : ℕ) → suc i ≡ length xs → (x : X) × (slice_get xs i ≡ Some x) × (remove xs i ++ x ∷ [] ≡ xs)

@@ -7,7 +7,7 @@ use Rattle.std.specs.Map.{keys_of, lookup_entry, remove_entry}
 use Rattle.std.specs.Option.{option_map}
 use Rattle.std.proofs.lemmas.List.Sorted.{IsPermutation-map, IsPermutation-sym, Contains-permutation}
 use Rattle.std.proofs.lemmas.Map.Keys.{IsDistinct-IsPermutation, IsDistinct-head, IsDistinct-tail}
-use Rattle.scc_contents.specs.Pairs.{FindsInstead}
+use Rattle.scc_common.specs.Pairs.{FindsInstead}
 use Rattle.scc_buckets.proofs.FindingLemmas.{position_cons, position_hit}
 use Rattle.scc_buckets.proofs.PairWrites.{IsPlaceOf}
 use Rattle.scc_buckets.proofs.PairSplits.{by_answer, cond-true, cond-false, get-index, found-place, place-below, without-at, distinct-without}

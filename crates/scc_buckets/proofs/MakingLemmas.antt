@@ -1,13 +1,13 @@
 -- Tables that hold nothing.
 use Rattle.std.proofs.Common.{◌≡◌, ℕ, suc, ◌^◌, ◌≤◌, Bool, List, [], ◌∷◌, ◌++◌, length, map, refl, sym, ap, ◌∙◌, inl, inr, arith, length-append}
-use Rattle.scc_contents.specs.Contents.{Settings, entries}
+use Rattle.scc_common.specs.Contents.{Settings, entries}
 use Rattle.scc_buckets.proofs.Views.{view_of, entries-view}
 use Rattle.std.specs.List.{IsDistinct, flat_map, sum_by}
 use Rattle.std.proofs.lemmas.List.{nil_from_length}
 use Rattle.std.proofs.lemmas.List.Sums.{sum_by-cons}
-use Rattle.scc_contents.specs.Routing.{tag_of}
+use Rattle.scc_common.specs.Routing.{tag_of}
 use Rattle.scc_array.specs.Shelf.{Shelf, shelf_entries}
-use Rattle.scc_contents.specs.Sizes.{IsBucketCount, IsLawful}
+use Rattle.scc_common.specs.Sizes.{IsBucketCount, IsLawful}
 use Rattle.scc_buckets.specs.Tables.{IsBuckets, AreBuckets, AllEmpty}
 
 pub flat-empty : {E : Type 0} (bs : List (Shelf E)) → AllEmpty bs → flat_map shelf_entries bs ≡ []

@@ -4,12 +4,12 @@ use Rattle.std.specs.Prelude.{count_by}
 use Rattle.std.specs.List.{flat_map, fold, slice_index_or}
 use Rattle.std.proofs.lemmas.List.{length-map, map-append}
 use Rattle.std.proofs.lemmas.List.Sorted.{IsPermutation-map}
-use Rattle.scc_contents.specs.Contents.{Contents, Settings, entries, bucket_count, settings_of, refused_of, pending_of, list_of, HasRoomBy, bucket_of}
-use Rattle.scc_contents.specs.Mapped.{mapped}
+use Rattle.scc_common.specs.Contents.{Contents, Settings, entries, bucket_count, settings_of, refused_of, pending_of, list_of, HasRoomBy, bucket_of}
+use Rattle.scc_common.specs.Mapped.{mapped}
 use Rattle.scc_buckets.specs.Places.{IsSpot, index_of_spot}
 use Rattle.scc_buckets.specs.Standing.{StandsAtSpot}
 use Rattle.scc_buckets.specs.declared.place.Place.{Place}
-use Rattle.scc_contents.specs.Steps.{Holds, HoldsExactly, HoldsWith, IsUnchanged, KeepsSize, Rests, Grows, Reserves, Releases, FirstArrayWhenDue, GrowsWhenDue, ShrinksWhenDue, ReachesMinimumWhenDue}
+use Rattle.scc_common.specs.Steps.{Holds, HoldsExactly, HoldsWith, IsUnchanged, KeepsSize, Rests, Grows, Reserves, Releases, FirstArrayWhenDue, GrowsWhenDue, ShrinksWhenDue, ReachesMinimumWhenDue}
 
 joined-map : {E F : Type 0} (f : E → F) (ls : List (List E)) → flat_map (λ l. l) (map (λ l. map f l) ls) ≡ map f (flat_map (λ l. l) ls)
 joined-map f [] = refl

@@ -8,7 +8,7 @@ use Rattle.std.proofs.lemmas.List.Sums.{sum_by-set}
 use native.Mathlib.Decide.{dec_lt}
 use Rattle.scc_array.specs.Shelf.{Shelf, shelf_entries, with_entry, next_slot, without_slot, swapped_out}
 use Rattle.scc_array.proofs.Swaps.{entries-swapped, overflow-swapped}
-use Rattle.scc_contents.specs.Contents.{Contents, Settings, list_of, lists_of, settings_of, refused_of, overflow_of}
+use Rattle.scc_common.specs.Contents.{Contents, Settings, list_of, lists_of, settings_of, refused_of, overflow_of}
 use Rattle.scc_buckets.specs.OneList.{HasSameLists, IsPutIn, IsSwappedOutOf, IsTakenFrom}
 use Rattle.scc_buckets.specs.Tables.{overflow_in}
 use Rattle.scc_buckets.proofs.Inserts.{entries_insert, overflow_push, place_le}

@@ -2,11 +2,11 @@
 use Rattle.std.proofs.Common.{◌≡◌, ℕ, zero, suc, List, [], ◌∷◌, ◌++◌, length, take, drop, None, Some, refl, sym, ap, ◌∙◌, arith}
 use native.Mathlib.Bridge.{le_prop}
 use Rattle.std.specs.List.{slice_get, remove}
-use Rattle.scc_contents.specs.Contents.{Contents, entries, list_of, refused_of}
+use Rattle.scc_common.specs.Contents.{Contents, entries, list_of, refused_of}
 use Rattle.scc_buckets.specs.Places.{IsSpot, IsInsertedAtSpot, index_of_spot}
 use Rattle.scc_buckets.specs.Placed.{at, at-get, entry_of_spot, front_of_spot, back_of_spot, SplitsAtSpot, IsWrittenAtSpot, IsPutAtSpot, IsNextSpot, IsNextSpotPastRemoved}
 use Rattle.scc_array.specs.ShelfWrites.{write_at}
-use Rattle.scc_contents.specs.Steps.{HoldsExactly}
+use Rattle.scc_common.specs.Steps.{HoldsExactly}
 use Rattle.scc_buckets.specs.Writes.{with_write_at_spot}
 use Rattle.scc_buckets.specs.declared.place.Place.{Place}
 use Rattle.scc_buckets.proofs.KeyWrites.{write-parts, index-write, get-write_at, noted-write}

@@ -6,7 +6,7 @@ use Rattle.std.proofs.lemmas.List.{map-append, append-nil}
 use Rattle.std.proofs.lemmas.List.Elements.{filter-append}
 use native.Mathlib.Decide.{dec_lt}
 use Rattle.scc_array.specs.Shelf.{Shelf, shelf_entries, with_entry, ShelfHasRoom}
-use Rattle.scc_contents.specs.Routing.{bucket_number, tag_of}
+use Rattle.scc_common.specs.Routing.{bucket_number, tag_of}
 use Rattle.scc_buckets.specs.Pour.{IsPacked, Extends, bound_for}
 
 pub bound_append : {E : Type 0} (hash : E → ℕ) (t k i : ℕ) (xs ys : List E) → bound_for hash t k i (xs ++ ys) ≡ bound_for hash t k i xs ++ bound_for hash t k i ys

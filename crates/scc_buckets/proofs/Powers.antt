@@ -1,7 +1,7 @@
 -- Powers of two.
 use Rattle.std.proofs.Common.{◌≡◌, ℕ, ◌+◌, ◌-◌, ◌*◌, ◌/◌, ◌^◌, ◌<◌, ◌≤◌, inl, inr, max, sym, ap, ◌∙◌, subst, refl, arith}
 use Rattle.std.specs.Int.{IsPowerOfTwo}
-use Rattle.scc_contents.specs.Sizes.{IsBucketCount, IsArraySize, IsLawful, IsSmaller}
+use Rattle.scc_common.specs.Sizes.{IsBucketCount, IsArraySize, IsLawful, IsSmaller}
 use native.Mathlib.Decide.{dec_lt}
 use lib.Pow.{pow_mono, pow-add}
 

@@ -5,11 +5,11 @@ use Rattle.std.specs.List.Sorted.{IsPermutation}
 use Rattle.std.proofs.lemmas.List.Elements.{All-cons}
 use Rattle.std.proofs.lemmas.List.Sorted.{length_permutation, All-permutation, IsPermutation-cons, IsPermutation-refl, IsPermutation-trans}
 use native.Mathlib.Decide.{dec_lt}
-use Rattle.scc_contents.specs.Contents.{Contents, entries, bucket_count, settings_of, minimum_of, refused_of}
+use Rattle.scc_common.specs.Contents.{Contents, entries, bucket_count, settings_of, minimum_of, refused_of}
 use Rattle.scc_buckets.specs.Places.{IsInsertedAtSpot}
 use Rattle.scc_buckets.specs.Pour.{IsRegrouped}
-use Rattle.scc_contents.specs.Sizes.{IsBucketCount, IsArraySize, IsSmaller}
-use Rattle.scc_contents.specs.Steps.{Holds, KeepsSize, IsShrunk, IsUnchanged, Resizes, ReachesMinimumWhenDue, Rests, Shrinks, ShrinksWhenDue}
+use Rattle.scc_common.specs.Sizes.{IsBucketCount, IsArraySize, IsSmaller}
+use Rattle.scc_common.specs.Steps.{Holds, KeepsSize, IsShrunk, IsUnchanged, Resizes, ReachesMinimumWhenDue, Rests, Shrinks, ShrinksWhenDue}
 use Rattle.scc_buckets.specs.declared.place.Place.{Place}
 use Rattle.scc_buckets.proofs.FindingLemmas.{position_hit, position_cons, position_none}
 use Rattle.scc_buckets.proofs.Inserts.{by_answer, none_left}

@@ -3,7 +3,7 @@ use Rattle.std.proofs.Common.{◌≡◌, ℕ, zero, suc, ◌+◌, ◌-◌, ◌<�
 use Rattle.std.specs.List.{flat_map, slice_get, remove}
 use Rattle.std.proofs.lemmas.List.Edits.{remove-append_left, remove-append_right}
 use Rattle.scc_array.proofs.ListsLemmas.{get-left, get-right}
-use Rattle.scc_contents.specs.Contents.{Contents, entries, bucket_count, list_of}
+use Rattle.scc_common.specs.Contents.{Contents, entries, bucket_count, list_of}
 use Rattle.scc_buckets.specs.Places.{IsSpot, index_of_spot}
 use Rattle.scc_buckets.specs.declared.place.Place.{Place}
 

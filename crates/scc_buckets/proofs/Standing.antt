@@ -3,7 +3,7 @@ use Rattle.std.proofs.Common.{◌≡◌, ℕ, zero, suc, ◌+◌, ◌<◌, ◌�
 use Rattle.std.specs.List.{flat_map, remove, slice_get}
 use Rattle.std.proofs.lemmas.List.{map-set}
 use Rattle.std.proofs.lemmas.List.Edits.{length-remove}
-use Rattle.scc_contents.specs.Contents.{Contents, Settings, entries, bucket_count, list_of}
+use Rattle.scc_common.specs.Contents.{Contents, Settings, entries, bucket_count, list_of}
 use Rattle.scc_buckets.specs.Places.{IsSpot, index_of_spot}
 use Rattle.scc_array.specs.Shelf.{Shelf, shelf_entries, without_slot}
 use Rattle.scc_buckets.specs.declared.place.Place.{Place}

@@ -6,9 +6,9 @@ use Rattle.std.specs.Cmp.{IsEquivalence}
 use Rattle.std.proofs.lemmas.List.{map-set, length-map, set-set}
 use Rattle.std.proofs.lemmas.List.Sorted.{All-permutation, length_permutation, IsPermutation-append_left, IsPermutation-append_right, IsPermutation-map}
 use Rattle.std.proofs.lemmas.Map.Keys.{IsDistinct-IsPermutation}
-use Rattle.scc_contents.specs.Contents.{Contents, Settings, entries, bucket_count, settings_of, IsUniqueBy}
+use Rattle.scc_common.specs.Contents.{Contents, Settings, entries, bucket_count, settings_of, IsUniqueBy}
 use Rattle.scc_buckets.specs.Places.{index_of_spot}
-use Rattle.scc_contents.specs.Routing.{bucket_number, tag_of}
+use Rattle.scc_common.specs.Routing.{bucket_number, tag_of}
 use Rattle.scc_array.specs.Shelf.{Shelf, shelf_entries, without_slot, swapped_out}
 use Rattle.scc_buckets.specs.Tables.{IsOwn, IsBuckets}
 use Rattle.scc_buckets.specs.declared.place.Place.{Place}

@@ -6,8 +6,8 @@ use Rattle.scc_array.proofs.Joined.{position-joined, or_later}
 use Rattle.scc_array.specs.Shelves.{shelf_of}
 use Rattle.scc_array.specs.Takes.{IsTakenOut}
 use Rattle.scc_array.specs.Shelf.{Shelf, shelf_entries, without_slot, swapped_out}
-use Rattle.scc_contents.specs.Contents.{Contents, Settings, entries}
-use Rattle.scc_contents.specs.Routing.{bucket_number}
+use Rattle.scc_common.specs.Contents.{Contents, Settings, entries}
+use Rattle.scc_common.specs.Routing.{bucket_number}
 use Rattle.scc_buckets.specs.OneList.{IsSwappedOutOf}
 use Rattle.scc_buckets.specs.Places.{IsFoundAtSpot, index_of_spot}
 use Rattle.scc_buckets.specs.Tables.{IsBuckets}

@@ -7,8 +7,8 @@ use Rattle.std.specs.List.{flat_map, IsDistinct}
 use Rattle.scc_array.specs.Shelves.{shelf_of}
 use Rattle.scc_array.specs.Updates.{UpdatesShelf}
 use Rattle.scc_array.specs.Shelf.{Shelf, shelf_entries}
-use Rattle.scc_contents.specs.Contents.{Contents, Settings}
-use Rattle.scc_contents.specs.Routing.{bucket_number}
+use Rattle.scc_common.specs.Contents.{Contents, Settings}
+use Rattle.scc_common.specs.Routing.{bucket_number}
 use Rattle.scc_buckets.specs.Tables.{IsBuckets}
 use Rattle.scc_buckets.specs.Updates.{UpdatesFirstSpot}
 use Rattle.scc_buckets.proofs.Arrays.{shelf-at}

@@ -2,7 +2,7 @@
 use Rattle.std.proofs.Common.{◌≡◌, ℕ, ◌<◌, Bool, List, [], ◌∷◌, ◌++◌, length, map, get_or, refl, sym, ap, ◌∙◌}
 use Rattle.std.specs.List.{flat_map}
 use Rattle.std.proofs.lemmas.List.{get_or-map, length-map}
-use Rattle.scc_contents.specs.Contents.{Contents, Settings, entries, bucket_count, settings_of, refused_of, list_of, lists_of, overflow_of, waiting_of, owed_of}
+use Rattle.scc_common.specs.Contents.{Contents, Settings, entries, bucket_count, settings_of, refused_of, list_of, lists_of, overflow_of, waiting_of, owed_of}
 use Rattle.scc_buckets.specs.Tables.{overflow_in}
 use Rattle.scc_array.specs.Shelf.{Shelf, shelf_entries}
 

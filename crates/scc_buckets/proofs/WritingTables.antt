@@ -5,11 +5,11 @@ use Rattle.std.specs.List.{flat_map, slice_get, IsDistinct, AllByRecursion}
 use Rattle.std.proofs.lemmas.List.{get_or-map, map-set}
 use Rattle.std.proofs.lemmas.Map.Keys.{IsDistinct-head, IsDistinct-tail, IsDistinct-cons}
 use native.Mathlib.Decide.{dec_lt}
-use Rattle.scc_contents.specs.Contents.{Contents, Settings, entries, bucket_count, settings_of, list_of}
+use Rattle.scc_common.specs.Contents.{Contents, Settings, entries, bucket_count, settings_of, list_of}
 use Rattle.scc_buckets.specs.Places.{IsSpot, index_of_spot}
-use Rattle.scc_contents.specs.Routing.{bucket_number, tag_of}
+use Rattle.scc_common.specs.Routing.{bucket_number, tag_of}
 use Rattle.scc_array.specs.Shelf.{Shelf, shelf_entries}
-use Rattle.scc_contents.specs.Steps.{HoldsExactly}
+use Rattle.scc_common.specs.Steps.{HoldsExactly}
 use Rattle.std.proofs.lemmas.List.Sums.{sum_by-set}
 use Rattle.scc_buckets.specs.Tables.{IsOwn, IsBuckets, overflow_in}
 use Rattle.scc_array.specs.ShelfWrites.{write_at, shelf_write_at, length-write_at}

@@ -1,11 +1,11 @@
 -- Tables whose buckets hold at most 32 entries each, in the order of their lists, with empty overflow lists.
 use Rattle.std.specs.Prelude.{◌≡◌, ℕ, Bool, false, true, ◌*◌, ◌<◌, ◌≤◌, List, [], ◌∷◌, ◌++◌, length, Option, None, Some}
 use Rattle.std.specs.List.{slice_get, slice_set, position}
-use Rattle.scc_contents.specs.Contents.{Contents, entries, bucket_count, settings_of, minimum_of, refused_of, list_of, lists_of, overflow_of}
+use Rattle.scc_common.specs.Contents.{Contents, entries, bucket_count, settings_of, minimum_of, refused_of, list_of, lists_of, overflow_of}
 use Rattle.scc_buckets.specs.Places.{IsSpot}
 use Rattle.scc_buckets.specs.Pour.{IsRegrouped, bound_for}
-use Rattle.scc_contents.specs.Routing.{bucket_number}
-use Rattle.scc_contents.specs.Sizes.{IsBucketCount, IsLawful, IsSmaller}
+use Rattle.scc_common.specs.Routing.{bucket_number}
+use Rattle.scc_common.specs.Sizes.{IsBucketCount, IsLawful, IsSmaller}
 use Rattle.scc_buckets.specs.declared.place.Place.{Place}
 
 module _ {E S : Type 0} where

@@ -1,8 +1,8 @@
 -- What an insertion of a new key does to buckets, one word a call. A refusal hands back the argument.
 use Rattle.std.specs.Prelude.{◌≡◌, ℕ, Bool, Result, IfOk, IfErr}
 use Rattle.std.specs.Result.{OnOk, OnErr}
-use Rattle.scc_contents.specs.Contents.{Contents, bucket_count, refused_of, HasRoomBy, IsUniqueBy}
-use Rattle.scc_contents.specs.Steps.{FirstArrayWhenDue, Grows, IsUnchanged}
+use Rattle.scc_common.specs.Contents.{Contents, bucket_count, refused_of, HasRoomBy, IsUniqueBy}
+use Rattle.scc_common.specs.Steps.{FirstArrayWhenDue, Grows, IsUnchanged}
 use Rattle.scc_buckets.specs.OneList.{HasSameLists, IsPutIn}
 use Rattle.scc_buckets.specs.Places.{IsInsertedAtSpot}
 use Rattle.scc_buckets.specs.declared.place.Place.{Place}

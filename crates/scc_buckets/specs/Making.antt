@@ -2,9 +2,9 @@
 use Rattle.std.specs.Prelude.{◌≡◌, ◌<◌, ◌*◌, ℕ, [], List, false, map, Result, IsOk, IfOk}
 use Rattle.std.specs.Result.{OnOk, OnErr}
 use Rattle.scc_array.specs.Shelf.{Shelf, shelf_entries}
-use Rattle.scc_contents.specs.Contents.{Contents, entries, bucket_count, lists_of, minimum_of, owed_of, refused_of, settings_of, overflow_of, waiting_of}
-use Rattle.scc_contents.specs.Sizes.{IsBucketCount, IsArraySize}
-use Rattle.scc_contents.specs.Steps.{IsUnchanged}
+use Rattle.scc_common.specs.Contents.{Contents, entries, bucket_count, lists_of, minimum_of, owed_of, refused_of, settings_of, overflow_of, waiting_of}
+use Rattle.scc_common.specs.Sizes.{IsBucketCount, IsArraySize}
+use Rattle.scc_common.specs.Steps.{IsUnchanged}
 use Rattle.scc_buckets.specs.Bounded.{IsListed, IsResized}
 use Rattle.scc_buckets.specs.Tables.{IsBuckets}
 

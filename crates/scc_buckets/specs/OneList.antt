@@ -2,7 +2,7 @@
 use Rattle.std.specs.Prelude.{◌≡◌, ℕ, ◌+◌, ◌<◌, ◌≤◌, List, length, slice_set, remove}
 use Rattle.std.specs.List.{insert}
 use Rattle.std.specs.List.Sorted.{IsPermutation}
-use Rattle.scc_contents.specs.Contents.{Contents, list_of, lists_of, settings_of, refused_of, overflow_of}
+use Rattle.scc_common.specs.Contents.{Contents, list_of, lists_of, settings_of, refused_of, overflow_of}
 use Rattle.scc_buckets.specs.declared.place.Place.{Place}
 
 module _ {E S : Type 0} where

@@ -1,9 +1,9 @@
 -- The entry at a place, the entries before and after it, and what a change at the place leaves.
 use Rattle.std.specs.Prelude.{◌≡◌, ℕ, zero, suc, ◌<◌, List, [], ◌∷◌, ◌++◌, length, take, drop, Some, slice_get, refl}
 use Rattle.std.proofs.Common.{arith}
-use Rattle.scc_contents.specs.Contents.{Contents, entries, list_of, refused_of}
+use Rattle.scc_common.specs.Contents.{Contents, entries, list_of, refused_of}
 use Rattle.scc_buckets.specs.Places.{IsSpot, index_of_spot}
-use Rattle.scc_contents.specs.Steps.{Holds, HoldsExactly}
+use Rattle.scc_common.specs.Steps.{Holds, HoldsExactly}
 use Rattle.scc_buckets.specs.declared.place.Place.{Place}
 
 -- the element at index i

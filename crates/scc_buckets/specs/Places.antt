@@ -1,8 +1,8 @@
 -- The place of an entry.
 use Rattle.std.specs.Prelude.{◌≡◌, ℕ, ◌+◌, ◌<◌, Bool, ◌∷◌, length, take, Some, slice_get}
 use Rattle.std.specs.List.{flat_map, position}
-use Rattle.scc_contents.specs.Contents.{Contents, entries, bucket_count, list_of}
-use Rattle.scc_contents.specs.Steps.{Holds}
+use Rattle.scc_common.specs.Contents.{Contents, entries, bucket_count, list_of}
+use Rattle.scc_common.specs.Steps.{Holds}
 use Rattle.scc_buckets.specs.declared.place.Place.{Place}
 
 module _ {E S : Type 0} where

@@ -1,8 +1,8 @@
 -- Entries that move to the buckets of their hashes.
 use Rattle.std.specs.Prelude.{◌≡◌, ◌==◌, ℕ, ◌<◌, ◌≤◌, ◌⊎◌, List, [], ◌++◌, length, map}
 use Rattle.std.specs.List.{filter}
-use Rattle.scc_contents.specs.Contents.{Contents, entries, bucket_count, settings_of, list_of}
-use Rattle.scc_contents.specs.Routing.{bucket_number, tag_of}
+use Rattle.scc_common.specs.Contents.{Contents, entries, bucket_count, settings_of, list_of}
+use Rattle.scc_common.specs.Routing.{bucket_number, tag_of}
 use Rattle.scc_array.specs.Shelf.{Shelf, shelf_entries}
 
 -- the entries es that belong to bucket i of n, in their order

@@ -1,6 +1,6 @@
 -- Which entry stands at a place.
 use Rattle.std.specs.Prelude.{◌≡◌, ℕ}
-use Rattle.scc_contents.specs.Contents.{Contents}
+use Rattle.scc_common.specs.Contents.{Contents}
 use Rattle.scc_buckets.specs.Places.{IsSpot, index_of_spot}
 use Rattle.scc_buckets.specs.declared.place.Place.{Place}
 

@@ -1,9 +1,9 @@
 -- What holds of the fields of buckets.
 use Rattle.std.specs.Prelude.{◌≡◌, ℕ, ◌^◌, ◌<◌, ◌≤◌, Bool, List, [], length, map, slice_index_or}
 use Rattle.std.specs.List.{flat_map, sum_by, IsDistinct}
-use Rattle.scc_contents.specs.Routing.{bucket_number, tag_of}
+use Rattle.scc_common.specs.Routing.{bucket_number, tag_of}
 use Rattle.scc_array.specs.Shelf.{Shelf, shelf_entries}
-use Rattle.scc_contents.specs.Sizes.{IsLawful}
+use Rattle.scc_common.specs.Sizes.{IsLawful}
 
 -- how many entries of the buckets stand in overflow lists
 abbrev pub overflow_in : {E : Type 0} → List (Shelf E) → ℕ

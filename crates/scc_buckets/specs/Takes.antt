@@ -1,7 +1,7 @@
 -- What a removal of the entry of a key returns and leaves.
 use Rattle.std.specs.Prelude.{◌≡◌, Bool, Option, None, Some, slice_get}
 use Rattle.std.specs.List.{position}
-use Rattle.scc_contents.specs.Contents.{Contents, entries}
+use Rattle.scc_common.specs.Contents.{Contents, entries}
 use Rattle.scc_buckets.specs.OneList.{IsSwappedOutOf}
 use Rattle.scc_buckets.specs.Places.{IsFoundAtSpot, index_of_spot}
 use Rattle.scc_buckets.specs.declared.place.Place.{Place}

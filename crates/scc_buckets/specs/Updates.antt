@@ -3,8 +3,8 @@ use Rattle.std.specs.Prelude.{◌≡◌, Bool, Option, None, Some, slice_get}
 use Rattle.std.specs.Borrow.{Bor, MutBor}
 use Rattle.std.specs.Fn.{Once}
 use Rattle.std.specs.List.{position}
-use Rattle.scc_contents.specs.Updates.{WritesInto}
-use Rattle.scc_contents.specs.Contents.{Contents, entries}
+use Rattle.scc_common.specs.Updates.{WritesInto}
+use Rattle.scc_common.specs.Contents.{Contents, entries}
 use Rattle.scc_buckets.specs.Places.{IsFoundAtSpot, index_of_spot}
 use Rattle.scc_buckets.specs.Writes.{with_write_at_spot}
 use Rattle.scc_buckets.specs.declared.place.Place.{Place}

@@ -3,7 +3,7 @@ use Rattle.std.specs.Prelude.{◌<◌, List, [], length}
 use Rattle.std.specs.List.{slice_set, slice_index_or}
 use Rattle.std.proofs.Common.{sym, subst, length-set, get_or-set_same}
 use Rattle.scc_array.specs.ShelfWrites.{write_at, length-write_at}
-use Rattle.scc_contents.specs.Contents.{Contents, bucket_count, list_of}
+use Rattle.scc_common.specs.Contents.{Contents, bucket_count, list_of}
 use Rattle.scc_buckets.specs.Places.{IsSpot}
 use Rattle.scc_buckets.specs.declared.place.Place.{Place}
 

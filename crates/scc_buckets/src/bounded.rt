@@ -1,7 +1,7 @@
 //! Changes of buckets that hold at most 32 entries each, each in the order of its list.
 ghost use Rattle.scc_buckets.specs.Bounded.{HasList, IsBounded, IsListed, PutsLast};
-ghost use Rattle.scc_contents.specs.Contents.{entries, bucket_count, list_of, settings_of, key_hash, IsUniqueBy};
-ghost use Rattle.scc_contents.specs.Routing.{bucket_number};
+ghost use Rattle.scc_common.specs.Contents.{entries, bucket_count, list_of, settings_of, key_hash, IsUniqueBy};
+ghost use Rattle.scc_common.specs.Routing.{bucket_number};
 ghost use Rattle.std.specs.List.{position};
 ghost use Rattle.std.specs.Prelude.{◌≡◌, ◌<◌, ◌++◌, [], ◌∷◌, length, None, Some, slice_get, remove};
 

@@ -1,8 +1,8 @@
 //! Copies of buckets, which hold clones of the entries.
 ghost use Rattle.scc_array.specs.Shelf.{shelf_entries};
 ghost use Rattle.scc_array.specs.Shelves.{shelf_of};
-ghost use Rattle.scc_contents.specs.Clones.{AddsClones, HasClones};
-ghost use Rattle.scc_contents.specs.Contents.{entries, bucket_count, refused_of, settings_of, waiting_of};
+ghost use Rattle.scc_common.specs.Clones.{AddsClones, HasClones};
+ghost use Rattle.scc_common.specs.Contents.{entries, bucket_count, refused_of, settings_of, waiting_of};
 ghost use Rattle.std.specs.Prelude.{◌≡◌, ◌*◌, ◌^◌, ◌<◌, [], ◌∷◌, false, length, IfOk, OnOk};
 
 use crate::Buckets;

@@ -1,7 +1,7 @@
 //! Insertions into buckets: of an entry, and of an entry that the insertion makes of its parts.
 ghost use Rattle.scc_buckets.specs.Insertions.{InsertsInBucket, InsertsMadeInBucket, InsertsMadeInFirstArray};
-ghost use Rattle.scc_contents.specs.Contents.{entries, bucket_count, settings_of, key_hash};
-ghost use Rattle.scc_contents.specs.Routing.{bucket_number};
+ghost use Rattle.scc_common.specs.Contents.{entries, bucket_count, settings_of, key_hash};
+ghost use Rattle.scc_common.specs.Routing.{bucket_number};
 ghost use Rattle.std.specs.List.{position};
 ghost use Rattle.std.specs.Prelude.{◌≡◌, ◌≤◌, ◌<◌, ◌+◌, ◌-◌, ◌^◌, None, IsTrue};
 

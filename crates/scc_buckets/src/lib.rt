@@ -5,8 +5,8 @@
 ghost use Rattle.scc_array.specs.Shelf.{shelf_entries};
 ghost use Rattle.scc_array.specs.Shelves.{shelf_of};
 ghost use Rattle.scc_buckets.specs.Places.{IsFoundAtSpot};
-ghost use Rattle.scc_contents.specs.Contents.{entries, bucket_count, refused_of, overflow_of, key_hash, bucket_of, IsUniqueBy};
-ghost use Rattle.scc_contents.specs.Sizes.{IsLawful};
+ghost use Rattle.scc_common.specs.Contents.{entries, bucket_count, refused_of, overflow_of, key_hash, bucket_of, IsUniqueBy};
+ghost use Rattle.scc_common.specs.Sizes.{IsLawful};
 ghost use Rattle.std.specs.List.{flat_map, position};
 ghost use Rattle.std.specs.Prelude.{◌≡◌, ◌≤◌, ◌<◌, ◌+◌, ◌*◌, ◌^◌, ℕ, [], length, Some, None, MatchOption};
 
@@ -29,7 +29,7 @@ use std::hash::{BuildHasher, Hash};
 use std::marker::Model;
 
 /// Entries with distinct keys, in buckets. A contract sees the list of each bucket, the number of buckets and the
-/// settings, by the words of `scc_contents`.
+/// settings, by the words of `scc_common`.
 #[derive(Drop)]
 pub struct Buckets<E: Keyed, H: BuildHasher>
 where
@@ -51,13 +51,13 @@ where
     E::Key: Eq + Hash,
 {
     ghost use Rattle.std.specs.Prelude.{map, ◌+◌, []};
-    ghost use Rattle.scc_contents.specs.Contents.{Contents, contents_code};
+    ghost use Rattle.scc_common.specs.Contents.{Contents, contents_code};
 
     ghost Value = { Contents E H };
 
     ghost coded = { contents_code E.code H.code };
 
-    ghost use Rattle.scc_contents.specs.Hashing.{hash_of};
+    ghost use Rattle.scc_common.specs.Hashing.{hash_of};
     ghost use Rattle.scc_array.specs.Shelf.{shelf_entries};
     ghost use Rattle.scc_buckets.specs.Tables.{AreBuckets, overflow_in};
 

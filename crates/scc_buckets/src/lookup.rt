@@ -1,8 +1,8 @@
 //! Searches that return the entry or its slot, and reads.
 ghost use Rattle.scc_buckets.specs.Bounded.{IsBounded, IsListed, IsListedAtSpot, IsUnlisted};
 ghost use Rattle.scc_buckets.specs.Places.{IsSpot};
-ghost use Rattle.scc_contents.specs.Contents.{entries, key_hash, bucket_count, list_of, settings_of, IsUniqueBy, IsRouted};
-ghost use Rattle.scc_contents.specs.Routing.{bucket_number};
+ghost use Rattle.scc_common.specs.Contents.{entries, key_hash, bucket_count, list_of, settings_of, IsUniqueBy, IsRouted};
+ghost use Rattle.scc_common.specs.Routing.{bucket_number};
 ghost use Rattle.std.specs.List.{find, position};
 ghost use Rattle.std.specs.Option.{option_copied};
 ghost use Rattle.std.specs.Prelude.{◌≡◌, MatchOption, Some, None, ◌<◌, length, slice_get};

@@ -2,7 +2,7 @@
 ghost use Rattle.scc_array.specs.Shelf.{shelf_entries};
 ghost use Rattle.scc_buckets.specs.Making.{AreNewBuckets, MakesBuckets, InstallsFirstArray, InstallsBuckets};
 ghost use Rattle.scc_buckets.specs.Tables.{AllEmpty, IsBuckets};
-ghost use Rattle.scc_contents.specs.Contents.{entries, bucket_count, settings_of, key_hash, refused_of};
+ghost use Rattle.scc_common.specs.Contents.{entries, bucket_count, settings_of, key_hash, refused_of};
 ghost use Rattle.std.specs.List.{flat_map, IsDistinct};
 ghost use Rattle.std.specs.Prelude.{◌≡◌, ◌<◌, ◌≤◌, ◌+◌, ◌*◌, ◌^◌, [], false, length, IfOk, map};
 

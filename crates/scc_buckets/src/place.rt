@@ -1,5 +1,5 @@
 //! `Place`, and the bucket and the tag of a hash.
-ghost use Rattle.scc_contents.specs.Routing.{bucket_number, tag_of};
+ghost use Rattle.scc_common.specs.Routing.{bucket_number, tag_of};
 ghost use Rattle.std.specs.Prelude.{◌≡◌, ◌<◌};
 
 /// The number of a bucket, and the slot of an entry in the bucket. A place is valid until the container that returned

@@ -2,7 +2,7 @@
 ghost use Rattle.scc_buckets.specs.Places.{IsSpot};
 ghost use Rattle.scc_buckets.specs.Removals.{TakesAtSpot, SwapsOutAtSpot};
 ghost use Rattle.scc_buckets.specs.Takes.{TakesFirstSpot};
-ghost use Rattle.scc_contents.specs.Contents.{key_hash};
+ghost use Rattle.scc_common.specs.Contents.{key_hash};
 ghost use Rattle.std.specs.Prelude.{◌≡◌, ◌<◌, ◌+◌, ◌-◌, None};
 
 use crate::Buckets;

@@ -1,8 +1,8 @@
 //! The sizes of an array, the minimum, and the note and the mark of a resize whose memory was refused.
 ghost use Rattle.scc_buckets.specs.Making.{SetsReservedSlots};
-ghost use Rattle.scc_contents.specs.Contents.{settings_of, refused_of, minimum_of, lists_of, overflow_of, IsUniqueBy};
-ghost use Rattle.scc_contents.specs.Sizes.{IsBucketCount, IsArraySize};
-ghost use Rattle.scc_contents.specs.Steps.{IsUnchanged};
+ghost use Rattle.scc_common.specs.Contents.{settings_of, refused_of, minimum_of, lists_of, overflow_of, IsUniqueBy};
+ghost use Rattle.scc_common.specs.Sizes.{IsBucketCount, IsArraySize};
+ghost use Rattle.scc_common.specs.Steps.{IsUnchanged};
 ghost use Rattle.std.specs.Prelude.{◌≡◌, ◌*◌, ◌≤◌, ◌<◌, ◌+◌, ◌-◌, ◌^◌, false};
 
 use crate::Buckets;

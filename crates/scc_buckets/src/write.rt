@@ -4,7 +4,7 @@ ghost use Rattle.scc_buckets.specs.LendsBuckets.{lends_value};
 ghost use Rattle.scc_buckets.specs.Places.{IsSpot, index_of_spot};
 ghost use Rattle.scc_buckets.specs.Updates.{UpdatesFirstSpot};
 ghost use Rattle.scc_buckets.specs.Writes.{with_write_at_spot};
-ghost use Rattle.scc_contents.specs.Contents.{entries, key_hash};
+ghost use Rattle.scc_common.specs.Contents.{entries, key_hash};
 ghost use Rattle.std.specs.Borrow.{Bor, MutBor, sem};
 ghost use Rattle.std.specs.List.{find};
 ghost use Rattle.std.specs.Prelude.{◌≡◌, ◌<◌, Some, None, true, slice_get};

@@ -6,8 +6,8 @@ use Rattle.std.specs.Option.{option_map}
 use native.Mathlib.Decide.{dec_lt}
 use lib.Pow.{pow_mono, pow-add}
 use Rattle.scc_buckets.specs.Bounded.{HasList, IsUnlisted, PutsLast, IsListed, ShrinksBounded, stays_wide, denied_narrow, narrows}
-use Rattle.scc_contents.specs.Contents.{Contents, entries, bucket_count, settings_of, refused_of, minimum_of, list_of, lists_of, waiting_of, owed_of}
-use Rattle.scc_contents.specs.Pairs.{IsUnique}
+use Rattle.scc_common.specs.Contents.{Contents, entries, bucket_count, settings_of, refused_of, minimum_of, list_of, lists_of, waiting_of, owed_of}
+use Rattle.scc_common.specs.Pairs.{IsUnique}
 use Rattle.scc_buckets.proofs.Bounds.{absent-rest, has-list-of, keeps-count}
 use Rattle.scc_buckets.proofs.FindingLemmas.{position_hit, position_cons}
 use Rattle.scc_buckets.proofs.Inserts.{by_answer}

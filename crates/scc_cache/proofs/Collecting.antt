@@ -1,6 +1,6 @@
 -- What puts, one after another, leave as it was.
 use Rattle.std.proofs.Common.{◌≡◌, ◌∙◌, ℕ, Bool, List, [], ◌∷◌, Option, Result, Ok, Err, sym, ap}
-use Rattle.scc_contents.specs.Contents.{Contents, settings_of}
+use Rattle.scc_common.specs.Contents.{Contents, settings_of}
 use Rattle.scc_common.specs.declared.errors.InsertError.{InsertError}
 use Rattle.scc_common.specs.declared.errors.InsertError.TheVariants.{Exists, Memory}
 use Rattle.scc_cache.specs.Caches.{Cached}

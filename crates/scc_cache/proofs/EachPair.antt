@@ -2,7 +2,7 @@
 use Rattle.std.proofs.Common.{◌≡◌, ℕ, zero, suc, ◌<◌, Bool, true, List, [], ◌∷◌, ◌++◌, length, Option, None, Some, sym, subst, arith}
 use Rattle.std.specs.List.{AllByRecursion, filter, flat_map, remove, slice_get, slice_set, slice_index_or}
 use Rattle.scc_buckets.specs.Bounded.{IsResized, ShrinksBounded, stays_wide, denied_narrow, narrows}
-use Rattle.scc_contents.specs.Contents.{Contents, entries, bucket_count, list_of, lists_of}
+use Rattle.scc_common.specs.Contents.{Contents, entries, bucket_count, list_of, lists_of}
 use Rattle.scc_buckets.proofs.PairSplits.{by_answer, cond-true, cond-false}
 use Rattle.scc_table.specs.Bounded.{GrowsBelow, makes, has_room, is_full, DoublesBelow, stays, denied, doubles}
 use Rattle.scc_cache.specs.CacheSteps.{PutsNew, TakesThen, list_number}

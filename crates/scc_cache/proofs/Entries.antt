@@ -6,8 +6,8 @@ use Rattle.std.specs.declared.cmp.PartialEq as eq
 use Rattle.std.specs.declared.hash.Hash as hash
 use Rattle.std.specs.declared.hash.Hasher as hasher
 use Rattle.std.specs.declared.hash.BuildHasher as builder
-use Rattle.scc_contents.specs.Contents.{Contents, bucket_count, settings_of, refused_of, list_of, lists_of, waiting_of, key_hash}
-use Rattle.scc_contents.specs.Pairs.{with_pair_key, with_pair_value}
+use Rattle.scc_common.specs.Contents.{Contents, bucket_count, settings_of, refused_of, list_of, lists_of, waiting_of, key_hash}
+use Rattle.scc_common.specs.Pairs.{with_pair_key, with_pair_value}
 use Rattle.scc_buckets.specs.Placed as spots
 use Rattle.scc_buckets.specs.Placed.{at-get}
 use Rattle.scc_buckets.specs.Writes as writes

@@ -3,9 +3,9 @@ use Rattle.std.proofs.Common.{◌≡◌, ◌≢◌, ◌==◌, ℕ, ◌+◌, ◌<
 use Rattle.std.specs.Prelude.{OnSome, MatchOption}
 use Rattle.std.specs.List.{count_by, filter, position}
 use Rattle.scc_buckets.specs.Bounded.{MayShrinkWithin, ShrinksBounded, stays_wide, denied_narrow, narrows}
-use Rattle.scc_contents.specs.Contents.{Contents, Settings, entries, bucket_count, lists_of, pending_of, refused_of, settings_of, waiting_of}
-use Rattle.scc_contents.specs.Routing.{bucket_number}
-use Rattle.scc_contents.specs.Sizes.{IsLawful}
+use Rattle.scc_common.specs.Contents.{Contents, Settings, entries, bucket_count, lists_of, pending_of, refused_of, settings_of, waiting_of}
+use Rattle.scc_common.specs.Routing.{bucket_number}
+use Rattle.scc_common.specs.Sizes.{IsLawful}
 use Rattle.scc_buckets.specs.Writes as writes
 use Rattle.scc_buckets.specs.declared.place.Place.{Place}
 use Rattle.scc_buckets.proofs.Bounds.{keeps-count, keeps-entries}

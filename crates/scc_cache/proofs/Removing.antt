@@ -1,8 +1,8 @@
 -- Removals of a pair that a closure wrote.
 use Rattle.std.proofs.Common.{◌≡◌, ℕ, zero, suc, Bool, List, [], ◌∷◌, Some, refl, sym, ap, subst, ◌∙◌}
 use Rattle.std.specs.List.{remove, slice_get, slice_set, slice_index_or}
-use Rattle.scc_contents.specs.Contents.{Settings, bucket_count, list_of, lists_of, settings_of, refused_of}
-use Rattle.scc_contents.specs.Pairs.{with_pair_value}
+use Rattle.scc_common.specs.Contents.{Settings, bucket_count, list_of, lists_of, settings_of, refused_of}
+use Rattle.scc_common.specs.Pairs.{with_pair_value}
 use Rattle.scc_array.specs.ShelfWrites.{write_at}
 use Rattle.scc_buckets.specs.Writes.{with_write_at_spot}
 use Rattle.scc_table.specs.Placed.{spot-with_write_at}

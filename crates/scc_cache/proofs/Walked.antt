@@ -5,10 +5,10 @@ use Rattle.std.proofs.lemmas.List.{append-nil}
 use Rattle.std.proofs.lemmas.List.Elements.{filter-append}
 use Rattle.std.proofs.lemmas.List.Sorted.{IsPermutation-refl}
 use Rattle.scc_buckets.specs.Bounded.{IsListed}
-use Rattle.scc_contents.specs.Contents.{Contents, Settings, entries, bucket_count, list_of, refused_of, settings_of, waiting_of}
+use Rattle.scc_common.specs.Contents.{Contents, Settings, entries, bucket_count, list_of, refused_of, settings_of, waiting_of}
 use Rattle.scc_buckets.specs.Pour.{bound_for}
-use Rattle.scc_contents.specs.Routing.{bucket_number}
-use Rattle.scc_contents.specs.Steps.{HoldsExactly}
+use Rattle.scc_common.specs.Routing.{bucket_number}
+use Rattle.scc_common.specs.Steps.{HoldsExactly}
 use Rattle.scc_cache.specs.CacheWalks.{GoesOver, LeavesPairs, ShrinksIfTaken}
 use Rattle.scc_cache.specs.CacheSteps.{ShrinksTo}
 use Rattle.scc_cache.specs.Caches.{Cached}

@@ -5,9 +5,9 @@ use Rattle.std.specs.List.Sorted.{IsPermutation}
 use Rattle.std.proofs.lemmas.List.Edits.{length-remove}
 use Rattle.std.proofs.lemmas.List.Sorted.{length_permutation}
 use Rattle.std.proofs.lemmas.List.{nil_from_length}
-use Rattle.scc_contents.specs.Contents.{Contents, entries, bucket_count, lists_of}
+use Rattle.scc_common.specs.Contents.{Contents, entries, bucket_count, lists_of}
 use Rattle.scc_table.specs.Places.{IsPlace, index_of, spot_of}
-use Rattle.scc_contents.specs.Steps.{HoldsExactly}
+use Rattle.scc_common.specs.Steps.{HoldsExactly}
 use Rattle.scc_buckets.proofs.Standing.{index-below}
 use Rattle.scc_buckets.specs.declared.place.Place.{Place}
 

@@ -4,8 +4,8 @@ use Rattle.std.specs.List.{IsDistinct, flat_map, slice_get}
 use Rattle.std.proofs.lemmas.List.{map-append}
 use native.Mathlib.Decide.{dec_lt}
 use Rattle.scc_buckets.specs.Bounded.{IsListed}
-use Rattle.scc_contents.specs.Contents.{Contents, Settings, entries, bucket_count, settings_of, overflow_of, list_of}
-use Rattle.scc_contents.specs.Pairs.{IsUnique, with_pair_key, with_pair_value}
+use Rattle.scc_common.specs.Contents.{Contents, Settings, entries, bucket_count, settings_of, overflow_of, list_of}
+use Rattle.scc_common.specs.Pairs.{IsUnique, with_pair_key, with_pair_value}
 use Rattle.scc_buckets.specs.Places.{IsSpot, index_of_spot}
 use Rattle.scc_array.specs.ShelfWrites.{write_at, length-write_at}
 use Rattle.scc_buckets.specs.Writes.{with_write_at_spot}

@@ -4,8 +4,8 @@ use Rattle.std.specs.List.{position, slice_index_or, slice_set}
 use Rattle.std.specs.Borrow.{Bor}
 use Rattle.std.specs.Fn.{Once}
 use Rattle.scc_buckets.specs.Bounded.{IsListed, ShrinksBounded}
-use Rattle.scc_contents.specs.Contents.{Contents, entries, bucket_count, list_of, lists_of, pending_of, refused_of, settings_of, waiting_of}
-use Rattle.scc_contents.specs.Routing.{bucket_number}
+use Rattle.scc_common.specs.Contents.{Contents, entries, bucket_count, list_of, lists_of, pending_of, refused_of, settings_of, waiting_of}
+use Rattle.scc_common.specs.Routing.{bucket_number}
 use Rattle.scc_buckets.specs.declared.place.Place.{Place}
 use Rattle.scc_table.specs.Bounded.{GrowsBelow, IsPreparedBelow}
 use Rattle.scc_table.specs.Places.{IsPlace, spot_of}

@@ -3,7 +3,7 @@ use Rattle.std.specs.Prelude.{◌≡◌, ℕ, ◌<◌, Bool, true, false, List, 
 use Rattle.std.specs.Borrow.{MutBor}
 use Rattle.std.specs.Fn.{Once, FnOnceReturnsAtMut}
 use Rattle.std.specs.List.Sorted.{IsPermutation}
-use Rattle.scc_contents.specs.Contents.{Contents, entries, bucket_count, list_of, refused_of, settings_of}
+use Rattle.scc_common.specs.Contents.{Contents, entries, bucket_count, list_of, refused_of, settings_of}
 use Rattle.scc_buckets.specs.Pour.{bound_for}
 use Rattle.scc_cache.specs.CacheSteps.{ChangesLists, IsAbsent, ShrinksTo, TakesThen, list_number}
 use Rattle.scc_cache.specs.Caches.{Cached}

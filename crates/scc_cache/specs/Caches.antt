@@ -3,8 +3,8 @@ use Rattle.std.specs.Prelude.{ℕ, Bool, ◌*◌, ◌^◌, ◌≤◌, refl}
 use Rattle.std.specs.Coded.{Coded, code_by, coded×, coded_ℕ}
 use Rattle.std.specs.Int.{IsPowerOfTwo}
 use Rattle.scc_buckets.specs.Bounded.{IsListed}
-use Rattle.scc_contents.specs.Contents.{Contents, contents_code, bucket_count, minimum_of}
-use Rattle.scc_contents.specs.Pairs.{IsUnique}
+use Rattle.scc_common.specs.Contents.{Contents, contents_code, bucket_count, minimum_of}
+use Rattle.scc_common.specs.Pairs.{IsUnique}
 
 -- the contents, which are the lists of the buckets with the settings, and the maximum of slots
 pub record Cached (E S : Type 0) : Type 0 where

@@ -1,8 +1,8 @@
 -- A cache that is made from items.
 use Rattle.std.specs.Prelude.{◌≡◌, ℕ, ◌*◌, ◌<◌, Bool, List, [], length, max, Option, Result}
 use Rattle.std.specs.List.{FoldsTo}
-use Rattle.scc_contents.specs.Contents.{Contents, entries, bucket_count, settings_of}
-use Rattle.scc_contents.specs.Sizes.{IsArraySize}
+use Rattle.scc_common.specs.Contents.{Contents, entries, bucket_count, settings_of}
+use Rattle.scc_common.specs.Sizes.{IsArraySize}
 use Rattle.scc_common.specs.declared.errors.InsertError.{InsertError}
 use Rattle.scc_cache.specs.Caches.{Cached}
 use Rattle.scc_cache.specs.CacheSteps.{Puts}

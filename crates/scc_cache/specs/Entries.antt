@@ -11,8 +11,8 @@ use Rattle.std.specs.declared.hash.Hash as hash
 use Rattle.std.specs.declared.hash.Hasher as hasher
 use Rattle.std.specs.declared.hash.BuildHasher as builder
 use Rattle.std.proofs.Common.{sym, subst}
-use Rattle.scc_contents.specs.Contents.{bucket_count, key_hash, list_of, waiting_of}
-use Rattle.scc_contents.specs.Pairs.{with_pair_value}
+use Rattle.scc_common.specs.Contents.{bucket_count, key_hash, list_of, waiting_of}
+use Rattle.scc_common.specs.Pairs.{with_pair_value}
 use Rattle.scc_table.specs.Placed.{entry_of, IsPlace-with_write_at}
 use Rattle.scc_table.specs.Places.{IsPlace, spot_of}
 use Rattle.scc_common.specs.declared.errors.InsertError.{InsertError}
@@ -37,6 +37,18 @@ module _ {G N K V S T : Type 0} {d : guard.Ghosts G (Cached (K × V) S)} {g : eq
   -- the pair of the entry
   abbrev pub occupied_pair : HeldOccupied G N K V S T d g h b w → K × V
   occupied_pair o = entry_of (d.inner o.guard).contents o.place o.within
+
+  -- the guard of an occupied entry
+  abbrev pub occupied_guard : HeldOccupied G N K V S T d g h b w → G
+  occupied_guard o = o.guard
+
+  -- the guard of a vacant entry
+  abbrev pub vacant_guard : HeldVacant G N K V S T d g h b w → G
+  vacant_guard e = e.guard
+
+  -- the key of a vacant entry
+  abbrev pub vacant_key : HeldVacant G N K V S T d g h b w → K
+  vacant_key e = e.key
 
   -- the guard of the entry's cache
   abbrev pub entry_guard : HeldEntry G N K V S T d g h b w → G

@@ -2,7 +2,7 @@
 -- of the list of k among n lists.
 use Rattle.std.specs.Prelude.{◌≡◌, ℕ, ◌<◌, ◌≤◌, Bool, List, [], ◌∷◌, ◌++◌, length, Option, None, Some, slice_get, remove}
 use Rattle.std.specs.List.{position, slice_index_or, slice_set}
-use Rattle.scc_contents.specs.Pairs.{find}
+use Rattle.scc_common.specs.Pairs.{find}
 
 module _ {K V : Type 0} (number : ℕ → K → ℕ) where
   -- the list of k, or the empty list if there is no list

@@ -1,7 +1,7 @@
 -- What a newly made cache holds.
 use Rattle.std.specs.Prelude.{◌≡◌, ℕ, ◌*◌, ◌<◌, false, [], max, Result, IsOk, IfOk}
-use Rattle.scc_contents.specs.Contents.{entries, bucket_count, settings_of, refused_of, waiting_of}
-use Rattle.scc_contents.specs.Sizes.{IsArraySize}
+use Rattle.scc_common.specs.Contents.{entries, bucket_count, settings_of, refused_of, waiting_of}
+use Rattle.scc_common.specs.Sizes.{IsArraySize}
 use Rattle.scc_cache.specs.Caches.{Cached}
 
 module _ {E S : Type 0} where

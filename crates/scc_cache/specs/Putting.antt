@@ -2,7 +2,7 @@
 use Rattle.std.specs.Prelude.{◌≡◌, ℕ, ◌<◌, Bool, false, Option, Some, Result, IsOk, IfOk, IfErr, slice_get}
 use Rattle.std.specs.Result.{OnOk, OnErr}
 use Rattle.scc_buckets.specs.declared.place.Place.{Place}
-use Rattle.scc_contents.specs.Contents.{bucket_count, list_of, lists_of, refused_of, settings_of, waiting_of}
+use Rattle.scc_common.specs.Contents.{bucket_count, list_of, lists_of, refused_of, settings_of, waiting_of}
 use Rattle.scc_table.specs.Places.{IsPlace, spot_of}
 use Rattle.scc_common.specs.declared.errors.InsertError.{InsertError}
 use Rattle.scc_cache.specs.CacheSteps.{IsAbsent, IsPresent, IsPreparedForPut, PreparesPut, Puts, PutsNew}

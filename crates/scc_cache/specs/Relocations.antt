@@ -2,8 +2,8 @@
 use Rattle.std.specs.Prelude.{◌≡◌, ◌≢◌, ◌==◌, ℕ, ◌+◌, ◌<◌, ◌≤◌, false, not}
 use Rattle.std.specs.List.{filter}
 use Rattle.scc_buckets.specs.Bounded.{MayShrinkWithin}
-use Rattle.scc_contents.specs.Contents.{Contents, bucket_count, pending_of, settings_of, waiting_of}
-use Rattle.scc_contents.specs.Routing.{bucket_number}
+use Rattle.scc_common.specs.Contents.{Contents, bucket_count, pending_of, settings_of, waiting_of}
+use Rattle.scc_common.specs.Routing.{bucket_number}
 use Rattle.scc_table.specs.Relocates.{left_after}
 use Rattle.scc_table.specs.TwoArrays.{pending_targets, waits_at}
 

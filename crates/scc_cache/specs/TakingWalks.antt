@@ -5,9 +5,9 @@ use Rattle.std.specs.Result.{OnErr}
 use Rattle.std.specs.Vec.{vec_len, vec_capacity}
 use Rattle.std.specs.declared.vec.Vec.{Vec}
 use Rattle.scc_buckets.specs.declared.place.Place.{Place}
-use Rattle.scc_contents.specs.Contents.{entries, refused_of, settings_of, waiting_of}
-use Rattle.scc_contents.specs.Pairs.{IsUnique}
-use Rattle.scc_contents.specs.Steps.{HoldsExactly}
+use Rattle.scc_common.specs.Contents.{entries, refused_of, settings_of, waiting_of}
+use Rattle.scc_common.specs.Pairs.{IsUnique}
+use Rattle.scc_common.specs.Steps.{HoldsExactly}
 use Rattle.scc_table.specs.Places.{StandsAt, index_of}
 use Rattle.scc_cache.specs.Caches.{Cached, IsCacheState}
 use Rattle.scc_cache.specs.Relocations.{RelocatesNoneWithin}

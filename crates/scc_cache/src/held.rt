@@ -1,11 +1,10 @@
 //! An entry of a cache: what a caller holds of a key after one search. It holds its cache by a guard, which is a
 //! `&mut` in the owned form, and is generic in the guard.
 ghost use Rattle.scc_cache.specs.CacheSteps.{IsLacking};
-ghost use Rattle.scc_contents.specs.Contents.{key_hash};
+ghost use Rattle.scc_common.specs.Contents.{key_hash};
 ghost use Rattle.scc_table.specs.Places.{IsPlace};
 ghost use Rattle.std.specs.Prelude.{◌≡◌};
 
-mod making;
 mod methods;
 
 use crate::Owned;

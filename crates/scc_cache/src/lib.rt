@@ -6,7 +6,7 @@ ghost use Rattle.scc_cache.specs.CacheWalks.{RemovesIf};
 ghost use Rattle.scc_cache.specs.Caches.{IsCacheState};
 ghost use Rattle.scc_cache.specs.Putting.{PutsByRule};
 ghost use Rattle.scc_cache.specs.Relocations.{RelocatesNoneWithin};
-ghost use Rattle.scc_contents.specs.Contents.{entries, bucket_count, minimum_of, pending_of, waiting_of, key_hash, hash_in};
+ghost use Rattle.scc_common.specs.Contents.{entries, bucket_count, minimum_of, pending_of, waiting_of, key_hash, hash_in};
 ghost use Rattle.std.specs.Borrow.{Bor};
 ghost use Rattle.std.specs.Fn.{FnOnceTakesAtMut};
 ghost use Rattle.std.specs.Prelude.{◌≡◌, ◌≤◌, ◌<◌, ◌*◌, ◌↔◌, [], false, length, None, Some, IsTrue, MatchOption};
@@ -22,8 +22,7 @@ mod walk;
 mod whole;
 
 pub use borrowed::{Entry, OccupiedEntry, ReplaceResult, VacantEntry};
-use scc_common::InsertError;
-use scc_contents::Hashes;
+use scc_common::{Hashes, InsertError};
 use scc_table::Table;
 use std::hash::{BuildHasher, BuildHasherDefault, FoldHasher, Hash};
 use std::marker::Model;
@@ -48,7 +47,7 @@ pub struct Owned<K: Eq + Hash, V, H: BuildHasher = BuildHasherDefault<FoldHasher
 
 impl<K: Eq + Hash, V, H: BuildHasher> Model for Owned<K, V, H> {
     ghost use Rattle.std.specs.Coded.{coded×};
-    ghost use Rattle.scc_contents.specs.Contents.{key_hash};
+    ghost use Rattle.scc_common.specs.Contents.{key_hash};
     ghost use Rattle.scc_cache.specs.Caches.{Cached, cached_code, IsCacheState};
 
     ghost Value = { Cached (K × V) H };

@@ -2,15 +2,14 @@
 ghost use Rattle.scc_cache.specs.Caches.{IsCacheState};
 ghost use Rattle.scc_cache.specs.Collections.{IsCollected, PutsAll};
 ghost use Rattle.scc_cache.specs.Making.{IsNewCache, MakesEmptyCache};
-ghost use Rattle.scc_contents.specs.Contents.{settings_of, hash_in};
+ghost use Rattle.scc_common.specs.Contents.{settings_of, hash_in};
 ghost use Rattle.std.specs.Arc.{arc_value};
 ghost use Rattle.std.specs.Iterator.{Drains, IsFinite};
 ghost use Rattle.std.specs.Prelude.{◌≤◌, List, IfOk, OnOk};
 
 use crate::{DEFAULT_MAXIMUM_CAPACITY, Owned};
 use scc_buckets::sizes::slots_for;
-use scc_common::{InsertError, MakeError, Shared};
-use scc_contents::Hashes;
+use scc_common::{Hashes, InsertError, MakeError, Shared};
 use scc_table::Table;
 use std::alloc::Global;
 use std::hash::{BuildHasher, BuildHasherDefault, Hash};

@@ -4,8 +4,8 @@ ghost use Rattle.scc_cache.specs.Caches.{IsCacheState};
 ghost use Rattle.scc_cache.specs.Lends.{lends_value, with_key_at, with_value_at};
 ghost use Rattle.scc_cache.specs.Putting.{PutsNewByRule};
 ghost use Rattle.scc_cache.specs.Relocations.{RelocatesNoneWithin, RelocatesOne};
-ghost use Rattle.scc_contents.specs.Contents.{entries, bucket_count, list_of, hash_in, settings_of, waiting_of};
-ghost use Rattle.scc_contents.specs.Routing.{bucket_number};
+ghost use Rattle.scc_common.specs.Contents.{entries, bucket_count, list_of, hash_in, settings_of, waiting_of};
+ghost use Rattle.scc_common.specs.Routing.{bucket_number};
 ghost use Rattle.scc_table.specs.Places.{IsPlace, index_of, spot_of};
 ghost use Rattle.scc_table.specs.TwoArrays.{IsWaiting};
 ghost use Rattle.std.specs.Borrow.{sem};
@@ -13,7 +13,7 @@ ghost use Rattle.std.specs.Prelude.{◌≡◌, ◌<◌, true, Some, OnSome, Matc
 
 use crate::{EvictedEntry, Owned};
 use scc_buckets::Place;
-use scc_contents::Hashes;
+use scc_common::Hashes;
 use std::hash::{BuildHasher, Hash};
 
 impl<K: Eq + Hash, V, H: BuildHasher> Owned<K, V, H> {

@@ -1,13 +1,12 @@
 //! What a put would have to make first, made before it, and what the put would evict.
 ghost use Rattle.scc_cache.specs.CacheSteps.{DrivesNoneOut, DrivesOut};
 ghost use Rattle.scc_cache.specs.Putting.{DropsMark, PreparesByRule};
-ghost use Rattle.scc_contents.specs.Contents.{bucket_count, hash_in, list_of, settings_of};
-ghost use Rattle.scc_contents.specs.Routing.{bucket_number};
+ghost use Rattle.scc_common.specs.Contents.{bucket_count, hash_in, list_of, settings_of};
+ghost use Rattle.scc_common.specs.Routing.{bucket_number};
 ghost use Rattle.std.specs.Prelude.{◌≡◌, ◌<◌, ◌≤◌, length, Some, IfSome, IfNone, slice_get};
 
 use crate::Owned;
-use scc_common::MakeError;
-use scc_contents::Hashes;
+use scc_common::{Hashes, MakeError};
 use std::hash::{BuildHasher, Hash};
 
 impl<K: Eq + Hash, V, H: BuildHasher> Owned<K, V, H> {

@@ -1,15 +1,15 @@
 //! The calls on a whole cache: comparisons and clones.
 ghost use Rattle.scc_cache.specs.CacheSteps.{pair_of};
-ghost use Rattle.scc_contents.specs.Contents.{hash_in, entries};
-ghost use Rattle.scc_contents.specs.Copies.{IsCopied};
-ghost use Rattle.scc_contents.specs.Pairs.{find};
+ghost use Rattle.scc_common.specs.Contents.{hash_in, entries};
+ghost use Rattle.scc_common.specs.Copies.{IsCopied};
+ghost use Rattle.scc_common.specs.Pairs.{find};
 ghost use Rattle.std.specs.HashMap.{entries_eq};
 ghost use Rattle.std.specs.List.{list_all};
 ghost use Rattle.std.specs.Option.{option_eq};
 ghost use Rattle.std.specs.Prelude.{◌≡◌, Some, IfOk, OnErr};
 
 use crate::Owned;
-use scc_contents::Hashes;
+use scc_common::Hashes;
 use std::alloc::AllocError;
 use std::hash::{BuildHasher, Hash};
 
@@ -70,7 +70,7 @@ impl<K: Eq + Hash, V, H: BuildHasher> Owned<K, V, H> {
 }
 
 impl<K: Eq + Hash, V: PartialEq, H: BuildHasher> PartialEq for Owned<K, V, H> {
-    ghost use Rattle.scc_contents.specs.Equality.{entries_eq-symm, entries_eq-trans};
+    ghost use Rattle.scc_common.specs.Equality.{entries_eq-symm, entries_eq-trans};
 
     ghost eq = { λ m n. entries_eq K.eq (λ p q. V.eq p.1 q.1) (entries m.contents) (entries n.contents) };
 
@@ -92,7 +92,7 @@ impl<K: Eq + Hash, V: PartialEq, H: BuildHasher> PartialEq for Owned<K, V, H> {
 impl<K: Eq + Hash, V: Eq, H: BuildHasher> Eq for Owned<K, V, H> {
     ghost use Rattle.std.specs.Cmp;
     ghost use Rattle.std.specs.Cmp.{partial_equiv_from_equiv};
-    ghost use Rattle.scc_contents.specs.Equality.{entries_eq-symm, entries_eq-trans, entries_eq-refl};
+    ghost use Rattle.scc_common.specs.Equality.{entries_eq-symm, entries_eq-trans, entries_eq-refl};
 
     ghost laws = { let v = V.Eq.laws in Cmp.equiv (record {
       symm = λ m n. entries_eq-symm K.eq (λ p q. V.eq p.1 q.1)

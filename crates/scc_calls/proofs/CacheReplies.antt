@@ -5,7 +5,7 @@ use Rattle.std.specs.Prelude.{IsTrue, is_some, slice_get}
 use Rattle.std.specs.List.{flat_map, position}
 use Rattle.std.specs.Option.{option_map}
 use Rattle.std.proofs.lemmas.List.{length-map}
-use Rattle.scc_contents.specs.Contents.{Contents, bucket_count, entries, list_of, lists_of}
+use Rattle.scc_common.specs.Contents.{Contents, bucket_count, entries, list_of, lists_of}
 use Rattle.scc_buckets.proofs.Lookups.{find-position}
 use Rattle.scc_cache.specs.CacheSteps as steps
 use Rattle.scc_cache.specs.CacheSteps.{Clears, DrivesNoneOut, DrivesOut, IsAbsent, IsPresent, IsPreparedForPut, Puts, Removes, list_number, pair_of}

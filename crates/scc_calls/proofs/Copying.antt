@@ -1,7 +1,7 @@
 -- Copies of what was found equal it.
 use Rattle.std.proofs.Common.{◌≡◌, Bool, true, Option, None, Some}
 use Rattle.std.specs.Option.{option_map}
-use Rattle.scc_contents.specs.Copies.{IsCopied}
+use Rattle.scc_common.specs.Copies.{IsCopied}
 use Rattle.scc_calls.specs.Copies.{ClonesEqual}
 
 module _ {X Y Z : Type 0} {clone : Z → Z → Type 0} {same : Z → Z → Bool} (clones : ClonesEqual clone same) (wrap : Option Y → Z) (copy : X → Y → Type 0) (get : X → Y)

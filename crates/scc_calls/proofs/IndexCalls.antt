@@ -8,9 +8,9 @@ use Rattle.std.specs.declared.hash.Hash as hash
 use Rattle.std.specs.declared.hash.Hasher as hasher
 use Rattle.std.specs.declared.hash.BuildHasher as builder
 use Rattle.scc_common.specs.declared.guard.Guard as guard
-use Rattle.scc_contents.specs.Contents.{Contents, entries, bucket_count}
-use Rattle.scc_contents.specs.Pairs.{find, without}
-use Rattle.scc_contents.specs.Steps.{Holds}
+use Rattle.scc_common.specs.Contents.{Contents, entries, bucket_count}
+use Rattle.scc_common.specs.Pairs.{find, without}
+use Rattle.scc_common.specs.Steps.{Holds}
 use Rattle.scc_buckets.proofs.PairSplits.{cond-true}
 use Rattle.scc_index.specs.Entries.{occupied_pair, IsOccupiedAt, IsUpdated}
 use Rattle.scc_index.specs.IndexSteps.{Inserts, Removes}

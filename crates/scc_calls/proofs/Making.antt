@@ -1,8 +1,8 @@
 -- What a new table's settings say of a part.
 use Rattle.std.proofs.Common.{◌≡◌, ℕ, ◌+◌, ◌*◌, ◌<◌, Ok, Err, refl, sym, ap, subst, arith}
 use Rattle.std.specs.Prelude.{Result, IfOk}
-use Rattle.scc_contents.specs.Contents.{Contents, bucket_count, settings_of}
-use Rattle.scc_contents.specs.Sizes.{IsArraySize}
+use Rattle.scc_common.specs.Contents.{Contents, bucket_count, settings_of}
+use Rattle.scc_common.specs.Sizes.{IsArraySize}
 use Rattle.scc_calls.specs.Made.{IsMadeFor}
 use Rattle.scc_calls.specs.States.{setting_of}
 

@@ -4,9 +4,9 @@ use Rattle.std.specs.List.Sorted.{IsPermutation}
 use Rattle.std.proofs.lemmas.List.Sorted.{length_permutation}
 use Rattle.std.specs.Map.{set_value}
 use Rattle.std.proofs.lemmas.Bool.{cases_order}
-use Rattle.scc_contents.specs.Contents.{Contents, bucket_count, entries, settings_of}
-use Rattle.scc_contents.specs.Pairs.{find, without}
-use Rattle.scc_contents.specs.Steps.{Holds, Prepares}
+use Rattle.scc_common.specs.Contents.{Contents, bucket_count, entries, settings_of}
+use Rattle.scc_common.specs.Pairs.{find, without}
+use Rattle.scc_common.specs.Steps.{Holds, Prepares}
 use Rattle.scc_table.proofs.Same.{entries-same}
 use Rattle.scc_map.specs.MapSteps.{Inserts, Upserts, Removes}
 use Rattle.scc_calls.specs.Resized.{MovesResized}

@@ -8,7 +8,7 @@ use Rattle.std.specs.Option.{IsSome, is_some, option_map}
 use Rattle.std.proofs.lemmas.List.Sorted.{IsPermutation-refl, IsPermutation-sym, IsPermutation-cons, IsPermutation-trans, IsPermutation-middle, length_permutation}
 use Rattle.std.proofs.lemmas.Map.{NonePasses}
 use Rattle.std.proofs.lemmas.Map.Keys.{IsDistinct-head, IsDistinct-tail, IsDistinct-cons}
-use Rattle.scc_contents.specs.Pairs.{find, without}
+use Rattle.scc_common.specs.Pairs.{find, without}
 use Rattle.scc_map.proofs.CallerLemmas.{same-finds}
 use Rattle.scc_buckets.proofs.Lookups.{along, find-IsPermutation, find-without, distinct-IsPermutation}
 use Rattle.scc_buckets.proofs.PairSplits.{by_answer, cond-true, cond-false, without-split, set_value-split, set_key-split, distinct-added}

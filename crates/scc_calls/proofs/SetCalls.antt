@@ -2,8 +2,8 @@
 use Rattle.std.proofs.Common.{◌≡◌, ℕ, suc, arith, length, List, [], Bool, ◌∷◌, Option, None, Some, Ok, refl}
 use Rattle.std.specs.List.Sorted.{IsPermutation}
 use Rattle.std.proofs.lemmas.List.Sorted.{length_permutation}
-use Rattle.scc_contents.specs.Contents.{Contents, entries, settings_of}
-use Rattle.scc_contents.specs.Steps.{Holds}
+use Rattle.scc_common.specs.Contents.{Contents, entries, settings_of}
+use Rattle.scc_common.specs.Steps.{Holds}
 use Rattle.scc_set.specs.Keys.{with_key, without}
 use Rattle.scc_set.specs.SetSteps.{Inserts, Removes, Replaces}
 use Rattle.scc_calls.specs.Resized.{MovesResized}

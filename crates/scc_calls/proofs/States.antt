@@ -3,9 +3,9 @@ use Rattle.std.proofs.Common.{◌≡◌, ℕ, List, inl, inr, refl, sym, subst, 
 use Rattle.std.specs.List.Sorted.{IsPermutation}
 use Rattle.std.proofs.lemmas.List.Sorted.{IsPermutation-refl}
 use Rattle.std.proofs.lemmas.Bool.{cases_order}
-use Rattle.scc_contents.specs.Contents.{Contents, entries, bucket_count}
-use Rattle.scc_contents.specs.Sizes.{IsBucketCount}
-use Rattle.scc_contents.specs.Steps.{Holds, HoldsExactly, IsUnchanged, KeepsSize}
+use Rattle.scc_common.specs.Contents.{Contents, entries, bucket_count}
+use Rattle.scc_common.specs.Sizes.{IsBucketCount}
+use Rattle.scc_common.specs.Steps.{Holds, HoldsExactly, IsUnchanged, KeepsSize}
 use Rattle.scc_calls.specs.Resized.{MovesResized}
 use Rattle.scc_calls.specs.States.{State, ResizesTo, state_of, setting_of}
 

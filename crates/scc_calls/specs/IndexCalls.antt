@@ -1,9 +1,9 @@
 -- What the calls of an index do to its state, by the reply, said by the calls of a map.
 use Rattle.std.specs.Prelude.{◌≡◌, ℕ, ◌⊎◌, Bool, true, false, cond, List, length, Option, None, Some, is_some, IsSome}
 use Rattle.std.specs.Option.{option_map}
-use Rattle.scc_contents.specs.Contents.{Contents, entries}
-use Rattle.scc_contents.specs.Pairs.{find}
-use Rattle.scc_contents.specs.Steps.{IsPreparedFor}
+use Rattle.scc_common.specs.Contents.{Contents, entries}
+use Rattle.scc_common.specs.Pairs.{find}
+use Rattle.scc_common.specs.Steps.{IsPreparedFor}
 use Rattle.scc_calls.specs.MapCalls.{MapMoves}
 use Rattle.scc_calls.specs.States.{State}
 use Rattle.scc_calls.specs.declared.calls_as_values.IndexCall.{IndexCall}

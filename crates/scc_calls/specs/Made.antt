@@ -1,6 +1,6 @@
 -- Parts that are made for one request have one setting.
 use Rattle.std.proofs.Common.{◌≡◌, ◌∙◌, ℕ, zero, suc, ◌<◌, refl, sym, ap, subst, arith}
-use Rattle.scc_contents.specs.Sizes.{IsArraySize}
+use Rattle.scc_common.specs.Sizes.{IsArraySize}
 use Rattle.scc_calls.specs.declared.fixed.Request.{Request}
 use Rattle.scc_calls.specs.declared.fixed.Setting.{Setting}
 

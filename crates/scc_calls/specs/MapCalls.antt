@@ -2,11 +2,11 @@
 use Rattle.std.specs.Prelude.{◌≡◌, ℕ, ◌<◌, ◌==◌, ◌⊎◌, Bool, true, cond, List, [], length, count_by, Option, None, Some, is_some, IsSome}
 use Rattle.std.specs.Option.{option_map}
 use Rattle.std.specs.List.Sorted.{IsPermutation}
-use Rattle.scc_contents.specs.PairSteps.{AddsPair, HandsBack, SetsValue, SwapsKey, LacksKey, TakesPair}
-use Rattle.scc_contents.specs.Contents.{Contents, entries}
-use Rattle.scc_contents.specs.Pairs.{find}
-use Rattle.scc_contents.specs.Steps.{IsPreparedFor}
-use Rattle.scc_contents.specs.Routing.{bucket_number}
+use Rattle.scc_common.specs.PairSteps.{AddsPair, HandsBack, SetsValue, SwapsKey, LacksKey, TakesPair}
+use Rattle.scc_common.specs.Contents.{Contents, entries}
+use Rattle.scc_common.specs.Pairs.{find}
+use Rattle.scc_common.specs.Steps.{IsPreparedFor}
+use Rattle.scc_common.specs.Routing.{bucket_number}
 use Rattle.scc_calls.specs.States.{State}
 use Rattle.scc_calls.specs.declared.fixed.Setting.{Setting}
 use Rattle.scc_calls.specs.declared.calls_as_values.MapCall.{MapCall}

@@ -10,7 +10,7 @@ use Rattle.std.proofs.lemmas.List.Sums.{sum_by-append, sum_by-cons}
 use Rattle.std.proofs.lemmas.List.Sorted.{IsPermutation-sym, IsPermutation-trans, IsPermutation-append_left, IsPermutation-append_right, IsPermutation-middle, IsPermutation-map, All-permutation}
 use Rattle.std.proofs.lemmas.Map.{NonePasses}
 use Rattle.std.proofs.lemmas.Bool.Decides.{nat_tests}
-use Rattle.scc_contents.specs.Pairs.{find, without}
+use Rattle.scc_common.specs.Pairs.{find, without}
 use Rattle.scc_calls.specs.MapCalls.{MapMoves, map_key}
 use Rattle.scc_calls.specs.MapWhole.{joined, MapWholeMoves}
 use Rattle.scc_calls.specs.Parts.{Routed, KeyRouted, RoutedFrom}

@@ -1,8 +1,8 @@
 -- What the preparation of a call does to a container, in one word for each kind.
 use Rattle.std.specs.Prelude.{◌≡◌, ◌≢◌, ℕ, ◌≤◌, Bool, true, List, length, None, Result}
 use Rattle.std.specs.Result.{OnOk, OnErr}
-use Rattle.scc_contents.specs.Contents.{Contents, lists_of, refused_of, settings_of}
-use Rattle.scc_contents.specs.Pairs.{find}
+use Rattle.scc_common.specs.Contents.{Contents, lists_of, refused_of, settings_of}
+use Rattle.scc_common.specs.Pairs.{find}
 use Rattle.scc_cache.specs.Caches.{Cached}
 use Rattle.scc_calls.specs.CacheCalls.{cache_adds, cache_setting, number_by, CacheIsMade, CacheMayRefuse, CacheResizes}
 use Rattle.scc_calls.specs.Resized.{Stays}

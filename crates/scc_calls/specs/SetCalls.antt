@@ -1,9 +1,9 @@
 -- What the calls of a set do to its state, by the reply.
 use Rattle.std.specs.Prelude.{◌≡◌, ℕ, ◌<◌, ◌==◌, ◌⊎◌, Bool, true, cond, List, [], ◌∷◌, length, count_by, Option, None, Some, IsSome, is_some}
 use Rattle.std.specs.List.Sorted.{IsPermutation}
-use Rattle.scc_contents.specs.Contents.{Contents, entries}
-use Rattle.scc_contents.specs.Routing.{bucket_number}
-use Rattle.scc_contents.specs.Steps.{IsPreparedFor}
+use Rattle.scc_common.specs.Contents.{Contents, entries}
+use Rattle.scc_common.specs.Routing.{bucket_number}
+use Rattle.scc_common.specs.Steps.{IsPreparedFor}
 use Rattle.scc_set.specs.Keys.{find, without, with_key}
 use Rattle.scc_calls.specs.States.{State}
 use Rattle.scc_calls.specs.declared.fixed.Setting.{Setting}

@@ -1,8 +1,8 @@
 -- The state of a map, a set or an index: its entries, and the number of its buckets.
 use Rattle.std.specs.Prelude.{◌≡◌, ℕ, ◌+◌, ◌*◌, ◌<◌, ◌≤◌, List}
 use Rattle.std.specs.List.Sorted.{IsPermutation}
-use Rattle.scc_contents.specs.Contents.{Contents, Settings, entries, bucket_count, settings_of}
-use Rattle.scc_contents.specs.Sizes.{IsBucketCount}
+use Rattle.scc_common.specs.Contents.{Contents, Settings, entries, bucket_count, settings_of}
+use Rattle.scc_common.specs.Sizes.{IsBucketCount}
 use Rattle.scc_calls.specs.declared.fixed.Setting.{Setting}
 
 -- the entries in the container's order, and the number of buckets

@@ -1,8 +1,8 @@
 //! The calls of the owned cache as values.
 ghost use Rattle.std.specs.Prelude.{◌≡◌, ◌⊎◌, true, None, Some, IfOk, IsSome, OnErr};
 ghost use Rattle.std.specs.Cmp.{IsPartialEquivalence};
-ghost use Rattle.scc_contents.specs.Contents.{bucket_count, list_of, lists_of, key_hash};
-ghost use Rattle.scc_contents.specs.Hashing.{hash_of};
+ghost use Rattle.scc_common.specs.Contents.{bucket_count, list_of, lists_of, key_hash};
+ghost use Rattle.scc_common.specs.Hashing.{hash_of};
 ghost use Rattle.scc_cache.specs.CacheSteps.{list_number, IsAbsent};
 ghost use Rattle.scc_calls.specs.CacheCalls.{cache_answer, cache_key, first_of_full};
 ghost use Rattle.scc_calls.specs.Copies.{ClonesEqual, MayNotClone};
@@ -27,10 +27,10 @@ impl<K: Eq + Hash + Clone, V: Clone + PartialEq, H: BuildHasher> Calls for Owned
     type Reply = Reply<K, V>;
 
     ghost use Rattle.std.specs.Prelude.{List, [], length, max, replicate};
-    ghost use Rattle.scc_contents.specs.Contents.{lists_of};
-    ghost use Rattle.scc_contents.specs.Hashing.{hash_of};
-    ghost use Rattle.scc_contents.specs.Sizes.{IsArraySize};
-    ghost use Rattle.scc_contents.specs.Contents.{key_hash, refused_of};
+    ghost use Rattle.scc_common.specs.Contents.{lists_of};
+    ghost use Rattle.scc_common.specs.Hashing.{hash_of};
+    ghost use Rattle.scc_common.specs.Sizes.{IsArraySize};
+    ghost use Rattle.scc_common.specs.Contents.{key_hash, refused_of};
     ghost use Rattle.scc_calls.specs.CacheCalls.{cache_adds, cache_answer, cache_key, cache_setting, keys_in, number_by, CacheIsPrepared, CacheMoves, CacheMayRefuse, CacheResizes};
     ghost use Rattle.scc_calls.specs.Copies.{Answers, Means};
     ghost use Rattle.scc_calls.specs.Means.{means_alike, means_answer, means_keeps, means_whole};
@@ -39,7 +39,7 @@ impl<K: Eq + Hash + Clone, V: Clone + PartialEq, H: BuildHasher> Calls for Owned
     ghost use Rattle.scc_calls.specs.CacheLaws.{one_size, cache_call_keeps, cache_resize_keeps, empty_keys};
     ghost use Rattle.scc_calls.specs.MapLaws.{routes_alike};
     ghost use Rattle.scc_calls.specs.Parted.{PartMoves, PartResizes, parted_call, parted_resize};
-    ghost use Rattle.scc_contents.specs.Routing.{stripe_number};
+    ghost use Rattle.scc_common.specs.Routing.{stripe_number};
 
     ghost State = { List (List (K × V)) };
 

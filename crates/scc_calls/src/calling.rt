@@ -5,7 +5,7 @@ ghost use Rattle.scc_calls.specs.Calling.{CallsByRule, PreparesCallByRule};
 ghost use Rattle.scc_calls.specs.Copies.{Alike, ClonesEqual};
 ghost use Rattle.scc_calls.specs.Made.{IsMadeFor};
 ghost use Rattle.scc_calls.specs.Parts.{Routed, KeyRouted, RoutedFrom};
-ghost use Rattle.scc_contents.specs.Routing.{stripe_of};
+ghost use Rattle.scc_common.specs.Routing.{stripe_of};
 ghost use Rattle.scc_calls.specs.declared.fixed.Setting.{Setting};
 
 use crate::Refused;

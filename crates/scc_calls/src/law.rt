@@ -5,7 +5,7 @@ ghost use Rattle.scc_calls.specs.Histories.{Replays, CallsRouted, Merge, Run};
 ghost use Rattle.scc_calls.specs.Parted.{PartMoves, PartResizes};
 ghost use Rattle.scc_calls.specs.Parts.{KeyRouted};
 ghost use Rattle.scc_calls.specs.Run.{IsRun};
-ghost use Rattle.scc_contents.specs.Routing.{stripe_of};
+ghost use Rattle.scc_common.specs.Routing.{stripe_of};
 ghost use Rattle.scc_calls.specs.declared.fixed.Setting.{Setting};
 ghost use Rattle.scc_calls.specs.declared.steps.Step.{Step};
 

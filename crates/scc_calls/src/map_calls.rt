@@ -1,7 +1,7 @@
 //! The calls of the owned map as values.
 ghost use Rattle.std.specs.Prelude.{◌≡◌, ◌⊎◌, true, None, Some, IfOk, IsSome, OnErr};
-ghost use Rattle.scc_contents.specs.Contents.{entries};
-ghost use Rattle.scc_contents.specs.Hashing.{hash_of};
+ghost use Rattle.scc_common.specs.Contents.{entries};
+ghost use Rattle.scc_common.specs.Hashing.{hash_of};
 ghost use Rattle.scc_calls.specs.Copies.{ClonesEqual, MayNotClone};
 ghost use Rattle.scc_calls.specs.MapCalls.{map_answer, map_key};
 ghost use Rattle.scc_calls.specs.Preparations.{MapPreparesCall, MapPreparesKey};
@@ -26,16 +26,16 @@ impl<K: Eq + Hash + Clone, V: Clone + PartialEq, H: BuildHasher> Calls for Owned
     ghost use Rattle.std.specs.Prelude.{◌≡◌, ◌==◌, [], ◌∷◌, ◌++◌, List, length};
     ghost use Rattle.std.specs.List.Sorted.{IsPermutation};
     ghost use Rattle.std.specs.Map.{keys_of};
-    ghost use Rattle.scc_contents.specs.Hashing.{hash_of};
+    ghost use Rattle.scc_common.specs.Hashing.{hash_of};
     ghost use Rattle.scc_calls.specs.MapLaws.{routes_alike, both_same, map_call_is_whole, map_call_keeps, map_resize_keeps, resize_joined};
     ghost use Rattle.scc_calls.specs.MapWhole.{joined, MapWholeMoves};
-    ghost use Rattle.scc_contents.specs.Routing.{stripe_number};
+    ghost use Rattle.scc_common.specs.Routing.{stripe_number};
     ghost use Rattle.scc_calls.specs.MapCalls.{map_adds, map_answer, map_key, MapIsPrepared, MapMoves, MapMayRefuse};
     ghost use Rattle.scc_calls.specs.Copies.{Answers, Means};
     ghost use Rattle.scc_calls.specs.Means.{means_alike, means_answer, means_keeps, means_whole};
     ghost use Rattle.scc_calls.specs.Stems.{map_stems_alike, MapStems};
     ghost use Rattle.std.proofs.Common.{refl, rules};
-    ghost use Rattle.scc_contents.specs.Contents.{key_hash, refused_of};
+    ghost use Rattle.scc_common.specs.Contents.{key_hash, refused_of};
     ghost use Rattle.scc_calls.specs.States.{State, state_of, setting_of, ResizesTo};
 
     ghost State = { State (K × V) };

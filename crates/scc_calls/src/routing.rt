@@ -1,6 +1,6 @@
 //! The part to which a key is routed.
 ghost use Rattle.std.specs.Prelude.{◌≡◌, ◌<◌};
-ghost use Rattle.scc_contents.specs.Routing.{stripe_of};
+ghost use Rattle.scc_common.specs.Routing.{stripe_of};
 
 use crate::Calls;
 use scc_buckets::place::bucket_index;

@@ -1,7 +1,7 @@
 //! The calls of the owned set as values.
 ghost use Rattle.std.specs.Prelude.{◌≡◌, ◌⊎◌, true, None, Some, IfOk, IsSome, OnErr};
-ghost use Rattle.scc_contents.specs.Contents.{entries};
-ghost use Rattle.scc_contents.specs.Hashing.{hash_of};
+ghost use Rattle.scc_common.specs.Contents.{entries};
+ghost use Rattle.scc_common.specs.Hashing.{hash_of};
 ghost use Rattle.scc_set.specs.Keys.{find};
 ghost use Rattle.scc_calls.specs.Copies.{ClonesEqual, MayNotClone};
 ghost use Rattle.scc_calls.specs.SetCalls.{key_of_set, set_answer};
@@ -26,16 +26,16 @@ impl<K: Eq + Hash + Clone, H: BuildHasher> Calls for Owned<K, H> {
 
     ghost use Rattle.std.specs.Prelude.{◌≡◌, ◌==◌, [], ◌∷◌, ◌++◌, List, length};
     ghost use Rattle.std.specs.List.Sorted.{IsPermutation};
-    ghost use Rattle.scc_contents.specs.Hashing.{hash_of};
+    ghost use Rattle.scc_common.specs.Hashing.{hash_of};
     ghost use Rattle.scc_calls.specs.MapLaws.{routes_alike, both_same, resize_joined};
     ghost use Rattle.scc_calls.specs.MapWhole.{joined};
-    ghost use Rattle.scc_contents.specs.Routing.{stripe_number};
+    ghost use Rattle.scc_common.specs.Routing.{stripe_number};
     ghost use Rattle.scc_calls.specs.SetCalls.{key_of_set, set_adds, set_answer, SetIsPrepared, SetMoves, SetMayRefuse};
     ghost use Rattle.scc_calls.specs.Copies.{Answers, Means};
     ghost use Rattle.scc_calls.specs.Means.{means_alike, means_answer, means_keeps, means_whole};
     ghost use Rattle.scc_calls.specs.Stems.{set_stems_alike, SetStems};
     ghost use Rattle.std.proofs.Common.{refl, rules};
-    ghost use Rattle.scc_contents.specs.Contents.{key_hash, refused_of};
+    ghost use Rattle.scc_common.specs.Contents.{key_hash, refused_of};
     ghost use Rattle.scc_calls.specs.SetLaws.{set_call_is_whole, set_call_keeps, set_resize_keeps};
     ghost use Rattle.scc_calls.specs.SetWhole.{SetWholeMoves};
     ghost use Rattle.scc_calls.specs.States.{State, state_of, setting_of, ResizesTo};

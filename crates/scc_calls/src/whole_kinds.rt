@@ -95,7 +95,7 @@ impl<K: Eq + Hash + Clone, V: Clone + PartialEq, H: BuildHasher> WholeCalls
     ghost use Rattle.std.proofs.Common.{refl, rules, ◌∙◌};
     ghost use Rattle.scc_calls.specs.Means.{means_of, told_alike};
     ghost use Rattle.scc_calls.specs.CacheCalls.{number_by, CacheMoves};
-    ghost use Rattle.scc_contents.specs.Hashing.{hash_of};
+    ghost use Rattle.scc_common.specs.Hashing.{hash_of};
     ghost use Rattle.scc_calls.specs.WholeKinds.{cache_clears, cache_counts};
     ghost use Rattle.scc_calls.specs.WholeLaws.{counted_by};
     ghost use Rattle.scc_calls.specs.declared.calls_as_values.CacheCall.TheVariants.{Clear, Len};

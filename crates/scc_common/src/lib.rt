@@ -1,9 +1,12 @@
-//! What all containers share: errors, verdicts, entries, guards, and hashers with several owners.
+//! What all containers share: errors, verdicts, entries, guards, hashers with several owners, and the words of their
+//! contracts (`specs/`).
 #![tactic(auto)]
 
+mod conversions;
 pub mod entry;
 pub mod errors;
 pub mod guard;
+pub mod hashes;
 pub mod shared;
 pub mod verdict;
 pub mod version;
@@ -11,6 +14,7 @@ pub mod version;
 pub use entry::{Keyed, Made, Valued};
 pub use errors::{InsertError, KeyError, MakeError, WalkError};
 pub use guard::Guard;
+pub use hashes::Hashes;
 pub use shared::{CloneOwner, Shared};
 pub use verdict::Verdict;
 pub use version::{SharedVersion, Version};

@@ -6,9 +6,9 @@ use Rattle.std.proofs.lemmas.List.{map-set, length-map, get_or-map, set-get_or}
 use Rattle.std.proofs.lemmas.List.Elements.{filter_passes, All-get_or}
 use Rattle.scc_array.specs.Shelf.{Shelf, shelf_entries, empty_shelf}
 use Rattle.scc_buckets.proofs.Bare.{nil-left}
-use Rattle.scc_contents.specs.Contents.{Contents, Settings, entries, bucket_count, list_of, lists_of, settings_of, refused_of, overflow_of, waiting_of, owed_of, IsUniqueBy}
+use Rattle.scc_common.specs.Contents.{Contents, Settings, entries, bucket_count, list_of, lists_of, settings_of, refused_of, overflow_of, waiting_of, owed_of, IsUniqueBy}
 use Rattle.scc_buckets.specs.Pour.{bound_for, Extends}
-use Rattle.scc_contents.specs.Routing.{bucket_number, tag_of}
+use Rattle.scc_common.specs.Routing.{bucket_number, tag_of}
 use Rattle.scc_buckets.specs.Tables.{IsOwn, IsBuckets}
 use Rattle.scc_buckets.proofs.Inserts.{table_set}
 use Rattle.scc_buckets.proofs.Views.{flat_lists}

@@ -8,7 +8,7 @@ use Rattle.scc_array.specs.Shelf.{Shelf, shelf_entries, empty_shelf}
 use Rattle.scc_array.proofs.ListsLemmas.{get-is}
 use Rattle.scc_array.specs.Shelves.{shelf_of}
 use Rattle.scc_buckets.specs.Pour.{bound_for}
-use Rattle.scc_contents.specs.Routing.{bucket_number}
+use Rattle.scc_common.specs.Routing.{bucket_number}
 use Rattle.scc_buckets.proofs.Pours.{bound_append, bound_here, bound_other}
 use Rattle.scc_draining.specs.Moves.{IsWithinSources}
 use Rattle.scc_draining.proofs.Draining.{before-none, flat-more, flat-parts, take-all_bound}

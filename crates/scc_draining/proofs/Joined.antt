@@ -8,7 +8,7 @@ use Rattle.scc_array.specs.Shelves.{shelf_of}
 use Rattle.scc_array.proofs.ListsLemmas.{get-is, get-left}
 use Rattle.scc_array.specs.Shelf.{Shelf, shelf_entries}
 use Rattle.scc_buckets.specs.Pour.{bound_for}
-use Rattle.scc_contents.specs.Routing.{bucket_number}
+use Rattle.scc_common.specs.Routing.{bucket_number}
 use Rattle.scc_buckets.proofs.PairSplits.{by_answer}
 use Rattle.scc_buckets.proofs.Pours.{bound_append}
 use Rattle.scc_draining.specs.Moves.{AreJoined, AreOwn, AreSiblings, IsWithinSources}

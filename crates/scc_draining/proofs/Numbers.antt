@@ -1,7 +1,7 @@
 -- The buckets of a hash in two arrays, of which one has a multiple of the other's buckets.
 use Rattle.std.proofs.Common.{◌≡◌, ℕ, zero, suc, ◌+◌, ◌*◌, ◌/◌, ◌%◌, ◌^◌, ◌<◌, ◌≤◌, sym, ap, ◌∙◌, subst, arith, div-lt_iff_lt-mul, mul_comm}
 use Rattle.std.proofs.Math.Nat.{div-div-eq-div-mul, div-eq_of_eq-mul_left, div-eq_of_lt-le, div-mul-le_self, lt-div-mul-add, mul-div-mul_left}
-use Rattle.scc_contents.specs.Routing.{bucket_number}
+use Rattle.scc_common.specs.Routing.{bucket_number}
 use Rattle.scc_draining.specs.Moves.{AreMultiples, grown, shrunk}
 
 scaled : (x m r d : ℕ) → 0 < r → x * (r * m) / d / r ≡ x * m / d

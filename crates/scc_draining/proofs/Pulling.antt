@@ -10,7 +10,7 @@ use Rattle.scc_array.specs.Shelf.{Shelf, shelf_entries, empty_shelf, with_entry,
 use native.Mathlib.Decide.{dec_lt}
 use Rattle.scc_array.proofs.ListsLemmas.{get-right}
 use Rattle.scc_buckets.specs.Pour.{bound_for, Extends, IsPacked}
-use Rattle.scc_contents.specs.Routing.{bucket_number, tag_of}
+use Rattle.scc_common.specs.Routing.{bucket_number, tag_of}
 use Rattle.scc_buckets.specs.Tables.{IsOwn}
 use Rattle.scc_buckets.proofs.Pours.{bound_append, bound_here, bound_other, extends_push, room_by}
 use Rattle.scc_buckets.proofs.Removes.{entries_without, overflow_without, own_without}

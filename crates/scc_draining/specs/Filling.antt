@@ -3,7 +3,7 @@ use Rattle.std.specs.Prelude.{◌≡◌, ℕ, ◌+◌, ◌<◌, ◌≤◌, ◌^�
 use Rattle.std.specs.Result.{OnOk, OnErr}
 use Rattle.scc_array.specs.Shelves.{shelf_of}
 use Rattle.scc_array.specs.Shelf.{Shelf, empty_shelf}
-use Rattle.scc_contents.specs.Contents.{Contents, overflow_of}
+use Rattle.scc_common.specs.Contents.{Contents, overflow_of}
 use Rattle.scc_draining.specs.Moves.{Drains, TakesOver}
 
 module _ {E X : Type 0} (hash : E → ℕ) where

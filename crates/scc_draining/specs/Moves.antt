@@ -3,9 +3,9 @@ use Rattle.std.specs.Prelude.{◌≡◌, ◌==◌, ℕ, ◌+◌, ◌*◌, ◌<�
 use Rattle.std.specs.List.{filter, flat_map}
 use Rattle.scc_array.specs.Shelves.{shelf_of}
 use Rattle.scc_array.specs.Shelf.{Shelf, shelf_entries}
-use Rattle.scc_contents.specs.Contents.{Contents, bucket_count, lists_of, refused_of, settings_of}
+use Rattle.scc_common.specs.Contents.{Contents, bucket_count, lists_of, refused_of, settings_of}
 use Rattle.scc_buckets.specs.Pour.{bound_for, Extends}
-use Rattle.scc_contents.specs.Routing.{bucket_number}
+use Rattle.scc_common.specs.Routing.{bucket_number}
 use Rattle.scc_buckets.specs.Tables.{IsOwn}
 
 -- the entries es that don't belong to bucket i of n, in their order

@@ -4,7 +4,7 @@ use Rattle.std.specs.List.{flat_map}
 use Rattle.scc_array.specs.Shelves.{shelf_of}
 use Rattle.scc_array.specs.Shelf.{Shelf, shelf_entries}
 use Rattle.scc_buckets.specs.Pour.{bound_for}
-use Rattle.scc_contents.specs.Routing.{bucket_number}
+use Rattle.scc_common.specs.Routing.{bucket_number}
 
 -- the entries of the old array before slot s of bucket j, in the order of the buckets
 abbrev pub entries_before : {E : Type 0} → List (Shelf E) → ℕ → ℕ → List E

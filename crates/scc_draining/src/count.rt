@@ -1,6 +1,6 @@
 //! Counts of the entries of a bucket that belong to a bucket of another array, and the limit of overflow lists.
 ghost use Rattle.scc_buckets.specs.Pour.{bound_for};
-ghost use Rattle.scc_contents.specs.Contents.{bucket_count, key_hash, list_of};
+ghost use Rattle.scc_common.specs.Contents.{bucket_count, key_hash, list_of};
 ghost use Rattle.std.specs.Prelude.{◌≡◌, ◌<◌, ◌≤◌, length, take, ◌+◌, ◌-◌, ◌^◌, ◌⊎◌, IsTrue};
 
 use scc_buckets::place::bucket_index;

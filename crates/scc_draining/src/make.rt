@@ -1,7 +1,7 @@
 //! A new array whose buckets wait, and clones of the entries of an old one.
 ghost use Rattle.scc_array.specs.Shelf.{empty_shelf, shelf_entries};
 ghost use Rattle.scc_array.specs.Shelves.{shelf_of};
-ghost use Rattle.scc_contents.specs.Clones.{AddsClones};
+ghost use Rattle.scc_common.specs.Clones.{AddsClones};
 ghost use Rattle.std.specs.List.{flat_map};
 ghost use Rattle.std.specs.Prelude.{◌≡◌, ◌≤◌, ◌^◌, true, replicate, IfOk, ◌<◌, ℕ, length, OnOk};
 

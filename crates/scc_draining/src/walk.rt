@@ -2,7 +2,7 @@
 ghost use Rattle.scc_array.specs.Shelf.{shelf_entries};
 ghost use Rattle.scc_array.specs.Shelves.{shelf_of};
 ghost use Rattle.scc_buckets.specs.Pour.{bound_for};
-ghost use Rattle.scc_contents.specs.Contents.{key_hash};
+ghost use Rattle.scc_common.specs.Contents.{key_hash};
 ghost use Rattle.scc_draining.specs.Stepping.{entries_before, StandsNext};
 ghost use Rattle.std.specs.List.{flat_map};
 ghost use Rattle.std.specs.Prelude.{◌≡◌, ◌<◌, ◌≤◌, ◌⊎◌, ◌+◌, ◌^◌, ℕ, length, take, MatchOption};

@@ -20,6 +20,7 @@ use scc_calls::{Calls, Refused, Step};
 use scc_common::MakeError;
 use std::alloc::Global;
 use std::fmt::Debug;
+use std::io;
 use thiserror::Error;
 
 /// A part of a container, with the history of its steps since it was opened.
@@ -153,4 +154,11 @@ pub enum CallError {
     /// in the history.
     #[error("out of memory")]
     Container,
+}
+
+impl From<CallError> for io::Error {
+    /// Returns an error of the kind `OutOfMemory`.
+    fn from(_error: CallError) -> io::Error {
+        io::Error::from(io::ErrorKind::OutOfMemory)
+    }
 }

@@ -4,9 +4,9 @@ use Rattle.std.specs.Cmp.{IsEquivalence}
 use Rattle.std.specs.List.{IsDistinct, remove}
 use Rattle.std.specs.List.Sorted.{IsPermutation}
 use Rattle.std.specs.Map.{keys_of, lookup_entry, set_value}
-use Rattle.scc_contents.specs.Contents.{Contents, entries}
-use Rattle.scc_contents.specs.Pairs.{find, without, FindsInstead, IsUnique}
-use Rattle.scc_contents.specs.Steps.{Holds, HoldsExactly, Rests}
+use Rattle.scc_common.specs.Contents.{Contents, entries}
+use Rattle.scc_common.specs.Pairs.{find, without, FindsInstead, IsUnique}
+use Rattle.scc_common.specs.Steps.{Holds, HoldsExactly, Rests}
 use Rattle.scc_buckets.proofs.Lookups.{along, apart-none, get-read, place-of_find, find-IsPermutation, find-without, distinct-IsPermutation, finds-added}
 pub use Rattle.scc_buckets.proofs.PairSplits.{by_answer, cond-true, cond-false}
 use Rattle.scc_buckets.proofs.PairSplits.{found-place, without-at, distinct-without, place-below}

@@ -6,9 +6,9 @@ use Rattle.std.specs.Option.{MatchOption, IsSomeAnd}
 use Rattle.std.proofs.lemmas.Bool.{false≢true}
 use Rattle.std.proofs.lemmas.List.Elements.{length_all_zip}
 use Rattle.std.proofs.lemmas.List.Sorted.{IsPermutation-sym, length_permutation}
-use Rattle.scc_contents.specs.Clones.{HasClones}
-use Rattle.scc_contents.specs.Contents.{Contents, entries}
-use Rattle.scc_contents.specs.Pairs.{find, IsUnique}
+use Rattle.scc_common.specs.Clones.{HasClones}
+use Rattle.scc_common.specs.Contents.{Contents, entries}
+use Rattle.scc_common.specs.Pairs.{find, IsUnique}
 use Rattle.scc_index.specs.Collections.{FindsClones}
 use Rattle.scc_buckets.proofs.Lookups.{find-IsPermutation, distinct-IsPermutation}
 

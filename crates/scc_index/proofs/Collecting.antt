@@ -4,8 +4,8 @@ use Rattle.std.specs.Cmp.{IsEquivalence}
 use Rattle.std.specs.List.{IsDistinct}
 use Rattle.std.specs.Map.{keys_of}
 use Rattle.std.specs.Option.{option_or, IsSome}
-use Rattle.scc_contents.specs.Contents.{Contents, entries, settings_of}
-use Rattle.scc_contents.specs.Pairs.{find, IsUnique}
+use Rattle.scc_common.specs.Contents.{Contents, entries, settings_of}
+use Rattle.scc_common.specs.Pairs.{find, IsUnique}
 use Rattle.scc_common.specs.declared.errors.InsertError.{InsertError}
 use Rattle.scc_common.specs.declared.errors.InsertError.TheVariants.{Exists, Memory}
 use Rattle.scc_index.specs.Collections.{FindsFirst, InsertsAll, IsAnswerOf}

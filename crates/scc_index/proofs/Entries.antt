@@ -9,7 +9,7 @@ use Rattle.std.specs.declared.cmp.PartialEq as eq
 use Rattle.std.specs.declared.hash.Hash as hash
 use Rattle.std.specs.declared.hash.Hasher as hasher
 use Rattle.std.specs.declared.hash.BuildHasher as builder
-use Rattle.scc_contents.specs.Contents.{Contents, entries, key_hash, waiting_of}
+use Rattle.scc_common.specs.Contents.{Contents, entries, key_hash, waiting_of}
 use Rattle.scc_array.specs.ShelfWrites.{put_whole}
 use Rattle.scc_buckets.specs.Placed as spots
 use Rattle.scc_table.specs.Placed.{front_of, back_of, IsPlace-with_write_at}
@@ -18,7 +18,7 @@ use Rattle.scc_common.specs.declared.guard.Guard as guard
 use Rattle.scc_buckets.proofs.PairSplits.{set_value-at, set_key-split, apart-at, without-at}
 use Rattle.scc_table.proofs.AtPlaces.{place-found, place-prop, entry_of-is, splits-there, written-there, put-there}
 use Rattle.scc_common.specs.declared.errors.InsertError.{InsertError}
-use Rattle.scc_contents.specs.Pairs.{IsUnique}
+use Rattle.scc_common.specs.Pairs.{IsUnique}
 use Rattle.scc_table.specs.Relocations.{Relocates, RelocatesTwo}
 use Rattle.scc_index.specs.Entries.{Memory, Occupied, Vacant, entry_guard, entry_key, occupied_pair, GrowsThrough, IsGrownFor, IsOccupiedAt, IsUpdated, IsInserted, IsVacant, OrInserts, OrInsertsSome, RefusesSome, RelocatesThrough}
 use Rattle.scc_table.proofs.Relocations.{waiting-write}

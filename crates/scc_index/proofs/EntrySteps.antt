@@ -5,11 +5,11 @@ use Rattle.std.specs.declared.cmp.PartialEq as eq
 use Rattle.std.specs.declared.hash.Hash as hash
 use Rattle.std.specs.declared.hash.Hasher as hasher
 use Rattle.std.specs.declared.hash.BuildHasher as builder
-use Rattle.scc_contents.specs.Contents.{Contents, entries, refused_of}
+use Rattle.scc_common.specs.Contents.{Contents, entries, refused_of}
 use Rattle.scc_table.specs.Placed.{entry_of, back_of}
 use Rattle.scc_table.specs.Places.{IsPlace, index_of}
 use Rattle.scc_buckets.specs.declared.place.Place.{Place}
-use Rattle.scc_contents.specs.Steps.{HoldsExactly}
+use Rattle.scc_common.specs.Steps.{HoldsExactly}
 use Rattle.scc_common.specs.declared.guard.Guard as guard
 use Rattle.scc_table.proofs.AtPlaces.{splits-there, next-there, past-there}
 use Rattle.scc_index.specs.EntrySteps.{StandsIn, IsNext, IsNextPastRemoved}

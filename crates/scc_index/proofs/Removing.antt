@@ -1,7 +1,7 @@
 -- A removal by key, seen in the entries of an index.
 use Rattle.std.proofs.Common.{Bool, true, false, None, Some, refl, sym, subst, rules}
 use Rattle.std.specs.Cmp.{IsEquivalence}
-use Rattle.scc_contents.specs.Contents.{Contents, entries, IsUniqueBy}
+use Rattle.scc_common.specs.Contents.{Contents, entries, IsUniqueBy}
 use Rattle.scc_buckets.proofs.Lookups.{find-position, find-position_none, finds-removed}
 use Rattle.scc_buckets.proofs.PairSplits.{without-at}
 use Rattle.scc_index.specs.IndexSteps.{Removes}

@@ -3,7 +3,7 @@ use Rattle.std.proofs.Common.{◌≡◌, ◌∙◌, Bool, true, false, cond, Lis
 use Rattle.std.specs.Cmp.{IsEquivalence}
 use Rattle.std.specs.List.{IsDistinct}
 use Rattle.std.specs.Map.{keys_of, lookup_entry}
-use Rattle.scc_contents.specs.Pairs.{find, FindsInstead}
+use Rattle.scc_common.specs.Pairs.{find, FindsInstead}
 use Rattle.scc_buckets.proofs.PairSplits.{by_answer, cond-true, cond-false, find-split, front_apart}
 
 -- pairs that don't pass may stand for one another

@@ -1,14 +1,14 @@
 -- A pair that was visited in a walk: it stays, or is taken out.
 use Rattle.std.proofs.Common.{◌≡◌, suc, ◌<◌, ◌-◌, List, [], ◌∷◌, ◌++◌, length, take, drop, Bool, true, false, Option, None, Some, MatchOption, IfSome, sym, ap, ◌∙◌, arith, subst, append_assoc}
 use Rattle.std.specs.List.{slice_get, remove}
-use Rattle.scc_contents.specs.Contents.{Contents, entries}
+use Rattle.scc_common.specs.Contents.{Contents, entries}
 use Rattle.scc_table.specs.Places.{IsPlace, StandsAt, index_of, spot_of}
-use Rattle.scc_contents.specs.Steps.{HoldsExactly}
-use Rattle.scc_contents.specs.Walks.{HoldsInTurn}
+use Rattle.scc_common.specs.Steps.{HoldsExactly}
+use Rattle.scc_common.specs.Walks.{HoldsInTurn}
 use Rattle.scc_buckets.specs.declared.place.Place.{Place}
 use Rattle.scc_buckets.proofs.Placed.{take-more, drop-here, take-removed, drop-removed}
 use Rattle.scc_buckets.proofs.Standing.{index-below}
-use Rattle.scc_contents.proofs.WalkLemmas.{turn-first, turn-others}
+use Rattle.scc_common.proofs.WalkLemmas.{turn-first, turn-others}
 use Rattle.scc_index.specs.IndexWalks.{Retains, kept, removed}
 use Rattle.scc_table.proofs.Reached.{reached}
 use Rattle.scc_table.proofs.Visits.{shorter}

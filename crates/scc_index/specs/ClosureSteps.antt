@@ -2,9 +2,9 @@
 use Rattle.std.specs.Prelude.{◌≡◌, Bool, true, false, Option, None, Some}
 use Rattle.std.specs.Borrow.{Bor}
 use Rattle.std.specs.Fn.{Once, FnOnceReturnsAt}
-use Rattle.scc_contents.specs.Contents.{Contents, entries}
-use Rattle.scc_contents.specs.Pairs.{without}
-use Rattle.scc_contents.specs.Steps.{Holds, IsUnchanged}
+use Rattle.scc_common.specs.Contents.{Contents, entries}
+use Rattle.scc_common.specs.Pairs.{without}
+use Rattle.scc_common.specs.Steps.{Holds, IsUnchanged}
 
 module _ {F K V S : Type 0} (g : Once F (Bor V × Unit {0}) Bool) (f : F) (eq : K → K → Bool) (c : Contents (K × V) S) (k : K) (r : Bool) (d : Contents (K × V) S) where
   -- at `true` the pair is removed; else nothing changes

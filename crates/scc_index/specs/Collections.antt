@@ -2,10 +2,10 @@
 use Rattle.std.specs.Prelude.{◌≡◌, ◌*◌, ◌<◌, Bool, List, [], ◌∷◌, ◌++◌, length, None, Ok, Err, Result, MatchOption}
 use Rattle.std.specs.List.{FoldsTo}
 use Rattle.std.specs.Option.{IsSomeAnd}
-use Rattle.scc_contents.specs.Contents.{Contents, entries, bucket_count, settings_of}
-use Rattle.scc_contents.specs.Pairs.{find}
-use Rattle.scc_contents.specs.Sizes.{IsArraySize}
-use Rattle.scc_contents.specs.Steps.{IsUnchanged}
+use Rattle.scc_common.specs.Contents.{Contents, entries, bucket_count, settings_of}
+use Rattle.scc_common.specs.Pairs.{find}
+use Rattle.scc_common.specs.Sizes.{IsArraySize}
+use Rattle.scc_common.specs.Steps.{IsUnchanged}
 use Rattle.scc_common.specs.declared.errors.InsertError.{InsertError}
 use Rattle.scc_common.specs.declared.errors.InsertError.TheVariants.{Exists, Memory}
 use Rattle.scc_index.specs.IndexSteps.{Inserts}

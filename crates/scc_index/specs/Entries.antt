@@ -11,11 +11,11 @@ use Rattle.std.specs.declared.cmp.PartialEq as eq
 use Rattle.std.specs.declared.hash.Hash as hash
 use Rattle.std.specs.declared.hash.Hasher as hasher
 use Rattle.std.specs.declared.hash.BuildHasher as builder
-use Rattle.scc_contents.specs.Contents.{Contents, entries, hash_in, key_hash, waiting_of}
-use Rattle.scc_contents.specs.Pairs.{find, without, FindsInstead, IsUnique}
+use Rattle.scc_common.specs.Contents.{Contents, entries, hash_in, key_hash, waiting_of}
+use Rattle.scc_common.specs.Pairs.{find, without, FindsInstead, IsUnique}
 use Rattle.scc_table.specs.Placed.{entry_of, front_of, back_of, IsWrittenAt, IsPutAt}
 use Rattle.scc_table.specs.Relocations.{Relocates, RelocatesTwo}
-use Rattle.scc_contents.specs.Steps.{FirstArrayWhenDue, GrowsForInsertion, GrowsWhenDue, IsUnchanged, RaisesWhenDue}
+use Rattle.scc_common.specs.Steps.{FirstArrayWhenDue, GrowsForInsertion, GrowsWhenDue, IsUnchanged, RaisesWhenDue}
 use Rattle.scc_common.specs.declared.errors.InsertError.{InsertError}
 use Rattle.scc_common.specs.declared.guard.Guard as guard
 use Rattle.scc_index.specs.Lends.{index_row}
@@ -54,6 +54,18 @@ module _ {G N K V S T : Type 0} {d : guard.Ghosts G (Contents (K × V) S)} {g : 
   -- the pairs after the entry
   abbrev pub occupied_back : HeldOccupied G N K V S T d g h b w → List (K × V)
   occupied_back o = back_of (d.inner o.guard) o.place
+
+  -- the guard of an occupied entry
+  abbrev pub occupied_guard : HeldOccupied G N K V S T d g h b w → G
+  occupied_guard o = o.guard
+
+  -- the guard of a vacant entry
+  abbrev pub vacant_guard : HeldVacant G N K V S T d g h b w → G
+  vacant_guard e = e.guard
+
+  -- the key of a vacant entry
+  abbrev pub vacant_key : HeldVacant G N K V S T d g h b w → K
+  vacant_key e = e.key
 
   -- the guard of the entry's index
   abbrev pub entry_guard : HeldEntry G N K V S T d g h b w → G

@@ -6,10 +6,10 @@ use Rattle.std.specs.declared.cmp.PartialEq as eq
 use Rattle.std.specs.declared.hash.Hash as hash
 use Rattle.std.specs.declared.hash.Hasher as hasher
 use Rattle.std.specs.declared.hash.BuildHasher as builder
-use Rattle.scc_contents.specs.Contents.{Contents, refused_of, waiting_of}
-use Rattle.scc_contents.specs.Pairs.{IsUnique}
+use Rattle.scc_common.specs.Contents.{Contents, refused_of, waiting_of}
+use Rattle.scc_common.specs.Pairs.{IsUnique}
 use Rattle.scc_table.specs.Placed.{SplitsAt, IsNextAt, IsNextPastRemovedAt}
-use Rattle.scc_contents.specs.Steps.{HoldsExactly}
+use Rattle.scc_common.specs.Steps.{HoldsExactly}
 use Rattle.scc_common.specs.declared.guard.Guard as guard
 use Rattle.scc_index.specs.Entries.{occupied_front, occupied_back, Borrowed}
 use Rattle.scc_index.specs.Lends.{index_row}

@@ -1,8 +1,8 @@
 -- What each call does to the contents of an index, by the reply.
 use Rattle.std.specs.Prelude.{◌≡◌, Bool, true, false, ◌∷◌, None, Result, Ok, Err, IsSome}
-use Rattle.scc_contents.specs.Contents.{Contents, entries}
-use Rattle.scc_contents.specs.Pairs.{find, without}
-use Rattle.scc_contents.specs.Steps.{Holds, IsUnchanged}
+use Rattle.scc_common.specs.Contents.{Contents, entries}
+use Rattle.scc_common.specs.Pairs.{find, without}
+use Rattle.scc_common.specs.Steps.{Holds, IsUnchanged}
 use Rattle.scc_common.specs.declared.errors.InsertError.{InsertError}
 use Rattle.scc_common.specs.declared.errors.InsertError.TheVariants.{Exists, Memory}
 

@@ -2,7 +2,7 @@
 use Rattle.std.specs.Prelude.{Bool, true, false, List, [], ◌∷◌}
 use Rattle.std.specs.Borrow.{Bor}
 use Rattle.std.specs.Fn.{Mut}
-use Rattle.scc_contents.specs.Walks.{CalledOn, HoldsInTurn, TakesOn}
+use Rattle.scc_common.specs.Walks.{CalledOn, HoldsInTurn, TakesOn}
 
 -- f may be called on the pairs in turn, whatever it returns
 abbrev pub CallableOnAll : {F K V R : Type 0} → Mut F (Bor K × (Bor V × Unit {0})) R → F → List (K × V) → Type 0

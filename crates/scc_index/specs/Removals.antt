@@ -1,9 +1,9 @@
 -- What a removal by key, and a removal of all versions, do to an index and to its array, in one word each.
 use Rattle.std.specs.Prelude.{◌≡◌, ◌≢◌, Bool, [], None, length, IsTrue}
-use Rattle.scc_contents.specs.Contents.{Contents, entries, bucket_count, minimum_of, refused_of, waiting_of}
-use Rattle.scc_contents.specs.Pairs.{FindsInstead, IsUnique}
-use Rattle.scc_contents.specs.Sizes.{IsSmaller}
-use Rattle.scc_contents.specs.Steps.{Holds, ShrinksWhenDue}
+use Rattle.scc_common.specs.Contents.{Contents, entries, bucket_count, minimum_of, refused_of, waiting_of}
+use Rattle.scc_common.specs.Pairs.{FindsInstead, IsUnique}
+use Rattle.scc_common.specs.Sizes.{IsSmaller}
+use Rattle.scc_common.specs.Steps.{Holds, ShrinksWhenDue}
 use Rattle.scc_table.specs.Relocations.{RelocatesNone}
 
 module _ {K V S : Type 0} (eq : K → K → Bool) where

@@ -1,11 +1,10 @@
 //! An entry of an index: what a caller holds of a key after one search. It holds its index by a guard, which is a
 //! `&mut` in the owned form, and is generic in the guard.
-ghost use Rattle.scc_contents.specs.Contents.{entries, key_hash};
-ghost use Rattle.scc_contents.specs.Pairs.{find};
+ghost use Rattle.scc_common.specs.Contents.{entries, key_hash};
+ghost use Rattle.scc_common.specs.Pairs.{find};
 ghost use Rattle.scc_table.specs.Places.{IsPlace};
 ghost use Rattle.std.specs.Prelude.{◌≡◌, None};
 
-mod making;
 mod methods;
 
 use crate::Owned;

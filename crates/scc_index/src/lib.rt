@@ -2,20 +2,22 @@
 //! keep.
 #![tactic(auto)]
 
-ghost use Rattle.scc_contents.specs.Closures.{Reads};
-ghost use Rattle.scc_contents.specs.Contents.{entries, bucket_count, lists_of, settings_of, refused_of, waiting_of, hash_in};
-ghost use Rattle.scc_contents.specs.Pairs.{find, HasRoom, IsUnique};
-ghost use Rattle.scc_contents.specs.Steps.{IsUnchanged};
-ghost use Rattle.scc_contents.specs.Walks.{CalledOn, CallableWhile, Walks};
+ghost use Rattle.scc_common.specs.Closures.{Reads};
+ghost use Rattle.scc_common.specs.Contents.{entries, bucket_count, lists_of, settings_of, refused_of, waiting_of, hash_in};
+ghost use Rattle.scc_common.specs.Pairs.{find, FindsInstead, HasRoom, IsUnique};
+ghost use Rattle.scc_common.specs.Steps.{IsUnchanged};
+ghost use Rattle.scc_common.specs.Walks.{CalledOn, CallableWhile, Walks};
 ghost use Rattle.scc_index.specs.ClosureSteps.{RemovesIf};
-ghost use Rattle.scc_index.specs.IndexSteps.{Removes};
-ghost use Rattle.scc_index.specs.Insertions.{InsertsByRule, PreparesByRule};
+ghost use Rattle.scc_index.specs.IndexSteps.{Inserts, Removes};
+ghost use Rattle.scc_index.specs.Insertions.{PreparesByRule};
 ghost use Rattle.scc_index.specs.Removals.{RemovesByRule};
 ghost use Rattle.std.specs.Arc.{arc_value};
 ghost use Rattle.std.specs.Borrow.{Bor};
 ghost use Rattle.std.specs.Fn.{FnOnceTakesAt};
 ghost use Rattle.std.specs.List.Sorted.{IsPermutation};
 ghost use Rattle.std.specs.Prelude.{◌≡◌, ◌<◌, ◌*◌, ◌↔◌, List, [], length, Some, None, IsTrue, IsSome, IfOk, ◌==◌, true, OnErr, MatchOption, remove, false};
+ghost use Rattle.std.specs.Result.{OnOk};
+ghost use Rattle.scc_table.specs.Arrays.{GrowsByRule};
 
 pub mod borrowed;
 pub mod held;
@@ -29,8 +31,7 @@ mod walk;
 mod whole;
 
 pub use borrowed::{Entry, OccupiedEntry, VacantEntry};
-use scc_common::{InsertError, MakeError, SharedVersion, Version};
-use scc_contents::Hashes;
+use scc_common::{Hashes, InsertError, MakeError, SharedVersion, Version};
 pub use scc_snapshot::Iter;
 use scc_table::Table;
 use std::hash::{BuildHasher, BuildHasherDefault, FoldHasher, Hash};
@@ -49,7 +50,7 @@ pub struct Owned<K: Eq + Hash, V, H: BuildHasher = BuildHasherDefault<FoldHasher
 }
 
 impl<K: Eq + Hash, V, H: BuildHasher> Model for Owned<K, V, H> {
-    ghost use Rattle.scc_contents.specs.Contents.{Contents};
+    ghost use Rattle.scc_common.specs.Contents.{Contents};
 
     ghost Value = { Contents (K × V) H };
 
@@ -209,7 +210,11 @@ impl<K: Eq + Hash, V, H: BuildHasher> Owned<K, V, H> {
     /// changes. A doubling whose memory is refused doesn't make the insertion fail.
     #[inline(always)]
     pub fn insert_sync(&mut self, k: K, v: V) -> Result<(), InsertError<K, V>>
-        ensures { InsertsByRule K.eq ⟦<H as Hashes<K>>⟧.hash_of self.old (k, v) result self.new }
+        ensures step { Inserts K.eq self.old (k, v) result self.new }
+        ensures finds { OnOk result (FindsInstead K.eq (entries self.old) k (Some (k, v)) (entries self.new)) }
+        ensures same { OnErr result ((q : K) → find K.eq (entries self.new) q ≡ find K.eq (entries self.old) q) }
+        ensures unique { IsUnique K.eq self.new }
+        ensures array { GrowsByRule (λ p. p.0) (hash_in ⟦<H as Hashes<K>>⟧.hash_of self.old) (find K.eq (entries self.old) k) self.old k result self.new }
     {
         let hash = self.table.hash(&k);
         match self.table.search(hash, &k) {

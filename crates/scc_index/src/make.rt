@@ -1,6 +1,6 @@
 //! How an index is made: empty, or from items.
-ghost use Rattle.scc_contents.specs.Contents.{entries, settings_of};
-ghost use Rattle.scc_contents.specs.Pairs.{IsUnique};
+ghost use Rattle.scc_common.specs.Contents.{entries, settings_of};
+ghost use Rattle.scc_common.specs.Pairs.{IsUnique};
 ghost use Rattle.scc_index.specs.Collections.{FindsFirst, InsertsAll, IsCollected, StopsAt};
 ghost use Rattle.scc_table.specs.Making.{IsNew, MakesEmpty};
 ghost use Rattle.std.specs.Arc.{arc_value};

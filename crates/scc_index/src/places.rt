@@ -1,9 +1,9 @@
 //! The calls at a place of an index.
 ghost use Rattle.scc_array.specs.ShelfWrites.{put_whole};
-ghost use Rattle.scc_contents.specs.Contents.{entries, bucket_count, minimum_of, hash_in};
-ghost use Rattle.scc_contents.specs.Pairs.{find, IsUnique};
-ghost use Rattle.scc_contents.specs.Sizes.{IsSmaller};
-ghost use Rattle.scc_contents.specs.Steps.{Holds, ShrinksWhenDue};
+ghost use Rattle.scc_common.specs.Contents.{entries, bucket_count, minimum_of, hash_in};
+ghost use Rattle.scc_common.specs.Pairs.{find, IsUnique};
+ghost use Rattle.scc_common.specs.Sizes.{IsSmaller};
+ghost use Rattle.scc_common.specs.Steps.{Holds, ShrinksWhenDue};
 ghost use Rattle.scc_index.specs.Insertions.{InsertsNewByRule};
 ghost use Rattle.scc_table.specs.Places.{IsPlace, IsFoundAt, index_of, with_write_at};
 ghost use Rattle.scc_table.specs.Relocations.{RelocatesNone};
@@ -11,8 +11,7 @@ ghost use Rattle.std.specs.Prelude.{◌≡◌, ◌≢◌, ◌<◌, ◌*◌, leng
 
 use crate::Owned;
 use scc_buckets::Place;
-use scc_common::{Made, SharedVersion};
-use scc_contents::Hashes;
+use scc_common::{Hashes, Made, SharedVersion};
 use std::hash::{BuildHasher, Hash};
 
 impl<K: Eq + Hash, V, H: BuildHasher> Owned<K, V, H> {

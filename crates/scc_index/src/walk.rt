@@ -1,10 +1,10 @@
 //! Walks over the pairs of an index, from place to place.
-ghost use Rattle.scc_contents.specs.Contents.{entries, bucket_count, minimum_of, refused_of, waiting_of};
-ghost use Rattle.scc_contents.specs.PairWalks.{Declines, PassesFirst};
-ghost use Rattle.scc_contents.specs.Pairs.{IsUnique};
-ghost use Rattle.scc_contents.specs.Sizes.{IsSmaller};
-ghost use Rattle.scc_contents.specs.Steps.{Holds, HoldsExactly, ShrinksWhenDue};
-ghost use Rattle.scc_contents.specs.Walks.{CalledOn, CallableWhile, Walks};
+ghost use Rattle.scc_common.specs.Contents.{entries, bucket_count, minimum_of, refused_of, waiting_of};
+ghost use Rattle.scc_common.specs.PairWalks.{Declines, PassesFirst};
+ghost use Rattle.scc_common.specs.Pairs.{IsUnique};
+ghost use Rattle.scc_common.specs.Sizes.{IsSmaller};
+ghost use Rattle.scc_common.specs.Steps.{Holds, HoldsExactly, ShrinksWhenDue};
+ghost use Rattle.scc_common.specs.Walks.{CalledOn, CallableWhile, Walks};
 ghost use Rattle.scc_index.specs.IndexWalks.{CallableOnAll, Retains};
 ghost use Rattle.scc_index.specs.Removals.{ClearsByRule};
 ghost use Rattle.scc_table.specs.Places.{IsPlace, StandsAt, index_of};

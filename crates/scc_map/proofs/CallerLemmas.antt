@@ -6,10 +6,10 @@ use Rattle.std.specs.Fn.{Once, FnOnceReturnsAtMut}
 use Rattle.std.specs.List.{IsDistinct, remove}
 use Rattle.std.specs.List.Sorted.{IsPermutation}
 use Rattle.std.specs.Map.{keys_of, lookup_entry, set_value}
-use Rattle.scc_contents.specs.Contents.{Contents, entries}
-use Rattle.scc_contents.specs.Pairs.{find, without, FindsInstead, IsUnique}
+use Rattle.scc_common.specs.Contents.{Contents, entries}
+use Rattle.scc_common.specs.Pairs.{find, without, FindsInstead, IsUnique}
 use Rattle.scc_table.specs.Places.{index_of}
-use Rattle.scc_contents.specs.Steps.{Holds, HoldsExactly, Rests}
+use Rattle.scc_common.specs.Steps.{Holds, HoldsExactly, Rests}
 use Rattle.std.specs.declared.cmp.PartialEq as equality
 use Rattle.std.specs.declared.hash.Hash as hash
 use Rattle.std.specs.declared.hash.Hasher as hasher

@@ -6,8 +6,8 @@ use Rattle.std.specs.List.{IsDistinct, fold}
 use Rattle.std.specs.Map.{keys_of, lookup_entry}
 use Rattle.std.specs.Option.{option_or}
 use Rattle.std.proofs.lemmas.Map.{keys-set_value}
-use Rattle.scc_contents.specs.Contents.{Contents, entries, settings_of}
-use Rattle.scc_contents.specs.Pairs.{find, IsUnique}
+use Rattle.scc_common.specs.Contents.{Contents, entries, settings_of}
+use Rattle.scc_common.specs.Pairs.{find, IsUnique}
 use Rattle.scc_map.specs.Collections.{UpsertsAll, key_and_value, FindsItems}
 use Rattle.scc_map.specs.MapSteps.{Upserts}
 use Rattle.scc_map.proofs.CallerLemmas.{finds-inserted, finds-set_value, find-equal}

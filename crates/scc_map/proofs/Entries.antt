@@ -8,8 +8,8 @@ use Rattle.std.specs.declared.cmp.PartialEq as eq
 use Rattle.std.specs.declared.hash.Hash as hash
 use Rattle.std.specs.declared.hash.Hasher as hasher
 use Rattle.std.specs.declared.hash.BuildHasher as builder
-use Rattle.scc_contents.specs.Contents.{Contents, entries, waiting_of}
-use Rattle.scc_contents.specs.Pairs.{with_pair_value}
+use Rattle.scc_common.specs.Contents.{Contents, entries, waiting_of}
+use Rattle.scc_common.specs.Pairs.{with_pair_value}
 use Rattle.scc_buckets.specs.Placed as spots
 use Rattle.scc_table.specs.Places.{IsPlace, IsFoundAt, IsInsertedAt, index_of}
 use Rattle.scc_table.specs.Places.{with_write_at}

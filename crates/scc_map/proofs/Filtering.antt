@@ -7,14 +7,14 @@ use Rattle.std.specs.Map.{keys_of}
 use Rattle.std.specs.Result.{OnOk}
 use Rattle.std.proofs.lemmas.List.Sorted.{IsPermutation-refl, IsPermutation-sym, IsPermutation-cons, IsPermutation-trans, IsPermutation-middle}
 use Rattle.std.proofs.lemmas.Map.Keys.{IsDistinct-head, IsDistinct-tail}
-use Rattle.scc_contents.specs.Contents.{Contents, entries}
-use Rattle.scc_contents.specs.Pairs.{find, IsUnique}
-use Rattle.scc_contents.specs.Steps.{Holds}
+use Rattle.scc_common.specs.Contents.{Contents, entries}
+use Rattle.scc_common.specs.Pairs.{find, IsUnique}
+use Rattle.scc_common.specs.Steps.{Holds}
 use Rattle.scc_common.specs.declared.errors.WalkError.{WalkError}
 use Rattle.scc_common.specs.declared.verdict.Verdict.{Verdict}
 use Rattle.scc_common.specs.declared.verdict.Verdict.TheVariants.{Keep, Take, KeepStop, TakeStop}
-use Rattle.scc_contents.specs.PairWalks.{Retains, Takes}
-use Rattle.scc_contents.specs.PairWalks as walks
+use Rattle.scc_common.specs.PairWalks.{Retains, Takes}
+use Rattle.scc_common.specs.PairWalks as walks
 use Rattle.scc_map.proofs.CallerLemmas.{by_answer, cond-true, cond-false}
 use Rattle.scc_buckets.proofs.Lookups.{along, apart-none, find-IsPermutation, distinct-IsPermutation}
 

@@ -1,7 +1,7 @@
 -- A removal by key, seen in the pairs of a map.
 use Rattle.std.proofs.Common.{Bool, Option, None, Some, refl, sym, subst, ◌∙◌, rules}
 use Rattle.std.specs.Cmp.{IsEquivalence}
-use Rattle.scc_contents.specs.Contents.{Contents, entries, IsUniqueBy}
+use Rattle.scc_common.specs.Contents.{Contents, entries, IsUniqueBy}
 use Rattle.scc_buckets.proofs.Lookups.{find-position, find-position_none, finds-removed}
 use Rattle.scc_buckets.proofs.PairSplits.{without-at}
 use Rattle.scc_map.specs.MapSteps.{Removes}

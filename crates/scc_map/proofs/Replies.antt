@@ -3,14 +3,14 @@ use Rattle.std.proofs.Common.{◌≡◌, ◌⊎◌, ℕ, Bool, true, false, Opti
 use Rattle.std.specs.Prelude.{IfErr, IfSome}
 use Rattle.std.specs.Borrow.{MutBor}
 use Rattle.std.specs.Fn.{Once}
-use Rattle.scc_contents.specs.Contents.{Contents, entries}
-use Rattle.scc_contents.specs.Pairs.{find}
+use Rattle.scc_common.specs.Contents.{Contents, entries}
+use Rattle.scc_common.specs.Pairs.{find}
 use Rattle.scc_buckets.proofs.Lookups.{by_option}
 use Rattle.scc_common.specs.declared.errors.InsertError.{InsertError}
 use Rattle.scc_map.specs.Entries.{Exists, Memory}
 use Rattle.scc_map.specs.ClosureSteps.{RemovesIf}
 use Rattle.scc_map.specs.MapSteps.{Inserts, Upserts, Removes}
-use Rattle.scc_contents.specs.Replies.{HasKey, PassesWith}
+use Rattle.scc_common.specs.Replies.{HasKey, PassesWith}
 pub use Rattle.scc_table.proofs.Replies.{find-key, if-map, reads-equal}
 
 module _ {K V S : Type 0} (eq : K → K → Bool) where

@@ -10,11 +10,11 @@ use Rattle.scc_table.proofs.AtPlaces.{noted-write, place-found, value-written, v
 use Rattle.scc_table.proofs.Relocations.{waiting-write}
 use Rattle.scc_map.specs.ClosureSteps.{UpdatesAt}
 use Rattle.scc_map.proofs.CallerLemmas.{finds-set_value}
-use Rattle.scc_contents.specs.Contents.{Contents, bucket_count, entries, refused_of, settings_of, waiting_of}
-use Rattle.scc_contents.specs.Pairs.{find, FindsInstead, IsUnique, with_pair_value}
-use Rattle.scc_contents.specs.Steps.{HoldsExactly}
+use Rattle.scc_common.specs.Contents.{Contents, bucket_count, entries, refused_of, settings_of, waiting_of}
+use Rattle.scc_common.specs.Pairs.{find, FindsInstead, IsUnique, with_pair_value}
+use Rattle.scc_common.specs.Steps.{HoldsExactly}
 use Rattle.scc_buckets.proofs.Lookups.{find-position_none}
-use Rattle.scc_contents.specs.Closures.{WritesAt}
+use Rattle.scc_common.specs.Closures.{WritesAt}
 
 module _ {F K V R S : Type 0} (g : Once F (Bor K × (MutBor V × Unit {0})) (R × (MutBor V × Unit {0}))) (f : F) {eq : K → K → Bool} (laws : IsEquivalence eq) (c d : Contents (K × V) S) (k : K) (unique : IsUnique eq c) where
   abbrev Step : Option R → Type 0

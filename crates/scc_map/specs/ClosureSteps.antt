@@ -3,10 +3,10 @@ use Rattle.std.specs.Prelude.{◌≡◌, Bool, true, false, Option, None, Some, 
 use Rattle.std.specs.Borrow.{Bor, MutBor}
 use Rattle.std.specs.Fn.{Once, FnOnceReturnsAtMut}
 use Rattle.std.specs.Map.{set_value}
-use Rattle.scc_contents.specs.Contents.{Contents, entries, refused_of, waiting_of}
-use Rattle.scc_contents.specs.Pairs.{find, without, FindsInstead, IsUnique}
-use Rattle.scc_contents.specs.Steps.{Holds, HoldsExactly, IsUnchanged}
-use Rattle.scc_contents.specs.Closures.{WritesAt}
+use Rattle.scc_common.specs.Contents.{Contents, entries, refused_of, waiting_of}
+use Rattle.scc_common.specs.Pairs.{find, without, FindsInstead, IsUnique}
+use Rattle.scc_common.specs.Steps.{Holds, HoldsExactly, IsUnchanged}
+use Rattle.scc_common.specs.Closures.{WritesAt}
 
 -- f is called on the pair of k if there is one, and the value that f leaves is stored
 module _ {F K V R : Type 0} (g : Once F (Bor K × (MutBor V × Unit {0})) (R × (MutBor V × Unit {0}))) (f : F) {S : Type 0} (eq : K → K → Bool) (c : Contents (K × V) S) (k : K) (d : Contents (K × V) S) where

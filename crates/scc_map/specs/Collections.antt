@@ -2,9 +2,9 @@
 use Rattle.std.specs.Prelude.{◌≡◌, ℕ, ◌*◌, ◌<◌, Bool, List, [], length, reverse, Option, None, Some, Ok, MatchOption}
 use Rattle.std.specs.List.{FoldsTo}
 use Rattle.std.specs.Option.{IsSomeAnd}
-use Rattle.scc_contents.specs.Contents.{Contents, entries, bucket_count, settings_of}
-use Rattle.scc_contents.specs.Pairs.{find}
-use Rattle.scc_contents.specs.Sizes.{IsArraySize}
+use Rattle.scc_common.specs.Contents.{Contents, entries, bucket_count, settings_of}
+use Rattle.scc_common.specs.Pairs.{find}
+use Rattle.scc_common.specs.Sizes.{IsArraySize}
 use Rattle.scc_map.specs.MapSteps.{Upserts}
 
 module _ {K V S : Type 0} (eq : K → K → Bool) (hash : K → ℕ) where

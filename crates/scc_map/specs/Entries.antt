@@ -12,12 +12,12 @@ use Rattle.std.specs.declared.hash.Hash as hash
 use Rattle.std.specs.declared.hash.Hasher as hasher
 use Rattle.std.specs.declared.hash.BuildHasher as builder
 use Rattle.std.proofs.Common.{sym, subst}
-use Rattle.scc_contents.specs.Contents.{Contents, entries, hash_in, key_hash, waiting_of}
-use Rattle.scc_contents.specs.PairSteps.{SwapsKey}
-use Rattle.scc_contents.specs.Pairs.{find, without, HasRoom, IsUnique, with_pair_value}
+use Rattle.scc_common.specs.Contents.{Contents, entries, hash_in, key_hash, waiting_of}
+use Rattle.scc_common.specs.PairSteps.{SwapsKey}
+use Rattle.scc_common.specs.Pairs.{find, without, HasRoom, IsUnique, with_pair_value}
 use Rattle.scc_table.specs.Placed.{entry_of, front_of, back_of, IsWrittenAt, IsPutAt}
 use Rattle.scc_table.specs.Places.{IsPlace}
-use Rattle.scc_contents.specs.Steps.{FirstArrayWhenDue, GrowsForInsertion, HoldsExactly, Rests}
+use Rattle.scc_common.specs.Steps.{FirstArrayWhenDue, GrowsForInsertion, HoldsExactly, Rests}
 use Rattle.scc_table.specs.Placed.{IsPlace-with_write_at}
 use Rattle.scc_table.specs.Places.{with_write_at}
 use Rattle.scc_table.specs.Relocations.{Relocates, RelocatesTwo}
@@ -61,6 +61,18 @@ module _ {G N K V S T : Type 0} {d : guard.Ghosts G (Contents (K × V) S)} {g : 
   -- the pairs after the entry
   abbrev pub occupied_back : HeldOccupied G N K V S T d g h b w → List (K × V)
   occupied_back o = back_of (d.inner o.guard) o.place
+
+  -- the guard of an occupied entry
+  abbrev pub occupied_guard : HeldOccupied G N K V S T d g h b w → G
+  occupied_guard o = o.guard
+
+  -- the guard of a vacant entry
+  abbrev pub vacant_guard : HeldVacant G N K V S T d g h b w → G
+  vacant_guard e = e.guard
+
+  -- the key of a vacant entry
+  abbrev pub vacant_key : HeldVacant G N K V S T d g h b w → K
+  vacant_key e = e.key
 
   -- the guard of the entry's map
   abbrev pub entry_guard : HeldEntry G N K V S T d g h b w → G

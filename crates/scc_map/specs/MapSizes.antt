@@ -1,8 +1,8 @@
 -- What the calls about sizes do to a container, by the reply.
 use Rattle.std.specs.Prelude.{◌≡◌, ℕ, ◌+◌, ◌^◌, ◌<◌, ◌≤◌, ◌↔◌, Option, None, Some, Result, Ok, Err, IsSome, IsOk, IfNone, OnSome}
 use Rattle.std.specs.Result.{OnOk, OnErr}
-use Rattle.scc_contents.specs.Contents.{Contents, settings_of, minimum_of, refused_of, waiting_of}
-use Rattle.scc_contents.specs.Steps.{IsUnchanged, ReachesMinimumWhenDue, Releases, Reserves, ShrinksWhenDue}
+use Rattle.scc_common.specs.Contents.{Contents, settings_of, minimum_of, refused_of, waiting_of}
+use Rattle.scc_common.specs.Steps.{IsUnchanged, ReachesMinimumWhenDue, Releases, Reserves, ShrinksWhenDue}
 use Rattle.scc_table.specs.Relocates.{IsBelowMinimum, IsShrinkDue, Spreads}
 
 module _ {E S : Type 0} where

@@ -1,9 +1,9 @@
 -- What each call does to the contents of a map, by the reply.
 use Rattle.std.specs.Prelude.{◌≡◌, ℕ, Bool, Option, None, Some, Result, Ok, Err}
-use Rattle.scc_contents.specs.Contents.{Contents, entries}
-use Rattle.scc_contents.specs.PairSteps.{AddsPair, HandsBack, SetsValue, LacksKey, TakesPair}
-use Rattle.scc_contents.specs.Pairs.{find, HasRoom}
-use Rattle.scc_contents.specs.Steps.{Holds, HoldsExactly, Rests}
+use Rattle.scc_common.specs.Contents.{Contents, entries}
+use Rattle.scc_common.specs.PairSteps.{AddsPair, HandsBack, SetsValue, LacksKey, TakesPair}
+use Rattle.scc_common.specs.Pairs.{find, HasRoom}
+use Rattle.scc_common.specs.Steps.{Holds, HoldsExactly, Rests}
 use Rattle.scc_common.specs.declared.errors.InsertError.{InsertError}
 use Rattle.scc_common.specs.declared.errors.InsertError.TheVariants.{Exists, Memory}
 

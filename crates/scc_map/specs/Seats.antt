@@ -5,7 +5,7 @@ use Rattle.std.specs.declared.hash.Hash as hash
 use Rattle.std.specs.declared.hash.Hasher as hasher
 use Rattle.std.specs.declared.hash.BuildHasher as builder
 use Rattle.scc_common.specs.declared.guard.Guard as guard
-use Rattle.scc_contents.specs.Contents.{Contents}
+use Rattle.scc_common.specs.Contents.{Contents}
 use Rattle.scc_stripes.specs.Seats.{seat_stripe, IsLaterSeat, IsSeatIn}
 use Rattle.scc_stripes.specs.declared.seats.Seat.{Seat}
 use Rattle.scc_stripes.specs.declared.Striped.{Striped}

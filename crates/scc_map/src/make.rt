@@ -1,6 +1,6 @@
 //! How a map is made: empty, or from items.
-ghost use Rattle.scc_contents.specs.Contents.{entries, settings_of, hash_in};
-ghost use Rattle.scc_contents.specs.Pairs.{IsUnique};
+ghost use Rattle.scc_common.specs.Contents.{entries, settings_of, hash_in};
+ghost use Rattle.scc_common.specs.Pairs.{IsUnique};
 ghost use Rattle.scc_map.specs.Collections.{FindsItems, IsCollected, UpsertsAll};
 ghost use Rattle.scc_table.specs.Making.{IsNew, MakesEmpty};
 ghost use Rattle.std.specs.Arc.{arc_value};
@@ -8,8 +8,7 @@ ghost use Rattle.std.specs.Iterator.{Drains, IsFinite};
 ghost use Rattle.std.specs.Prelude.{◌<◌, ◌≤◌, List, IfOk, OnOk};
 
 use crate::Owned;
-use scc_common::{MakeError, Shared};
-use scc_contents::Hashes;
+use scc_common::{Hashes, MakeError, Shared};
 use scc_table::Table;
 use std::alloc::Global;
 use std::hash::{BuildHasher, BuildHasherDefault, Hash};

@@ -1,6 +1,6 @@
 //! The calls at a place of a map.
-ghost use Rattle.scc_contents.specs.Contents.{entries, hash_in};
-ghost use Rattle.scc_contents.specs.Pairs.{find, IsUnique, with_pair_key, with_pair_value};
+ghost use Rattle.scc_common.specs.Contents.{entries, hash_in};
+ghost use Rattle.scc_common.specs.Pairs.{find, IsUnique, with_pair_key, with_pair_value};
 ghost use Rattle.scc_map.specs.Insertions.{InsertsNewByRule};
 ghost use Rattle.scc_map.specs.Lends.{lends_value};
 ghost use Rattle.scc_map.specs.Shrinking.{RemovesAtByRule};
@@ -10,7 +10,7 @@ ghost use Rattle.std.specs.Prelude.{◌≡◌, ◌<◌, ◌*◌, Some, None, tru
 
 use crate::Owned;
 use scc_buckets::Place;
-use scc_contents::Hashes;
+use scc_common::Hashes;
 use std::hash::{BuildHasher, Hash};
 
 impl<K: Eq + Hash, V, H: BuildHasher> Owned<K, V, H> {

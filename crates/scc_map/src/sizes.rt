@@ -1,12 +1,12 @@
 //! The calls about the size of a map: reservations, the range of the capacity, the bucket of a key.
-ghost use Rattle.scc_contents.specs.Contents.{minimum_of, pending_of, hash_in, bucket_of};
-ghost use Rattle.scc_contents.specs.Pairs.{IsUnique};
+ghost use Rattle.scc_common.specs.Contents.{minimum_of, pending_of, hash_in, bucket_of};
+ghost use Rattle.scc_common.specs.Pairs.{IsUnique};
 ghost use Rattle.scc_map.specs.MapSizes.{ReservesByRule, ReleasesByRule};
 ghost use Rattle.std.specs.Prelude.{◌≡◌, ◌^◌};
 
 use crate::Owned;
 use scc_buckets::sizes::GREATEST_CAPACITY;
-use scc_contents::Hashes;
+use scc_common::Hashes;
 use scc_table::Reservation;
 use std::hash::{BuildHasher, Hash};
 use std::ops::RangeInclusive;

@@ -1,8 +1,8 @@
 //! The calls on a whole map: comparisons and clones.
-ghost use Rattle.scc_contents.specs.Clones.{HasClones};
-ghost use Rattle.scc_contents.specs.Contents.{entries, refused_of, waiting_of};
-ghost use Rattle.scc_contents.specs.Copies.{IsCopied};
-ghost use Rattle.scc_contents.specs.Pairs.{find, IsUnique};
+ghost use Rattle.scc_common.specs.Clones.{HasClones};
+ghost use Rattle.scc_common.specs.Contents.{entries, refused_of, waiting_of};
+ghost use Rattle.scc_common.specs.Copies.{IsCopied};
+ghost use Rattle.scc_common.specs.Pairs.{find, IsUnique};
 ghost use Rattle.scc_map.specs.Collections.{FindsClones};
 ghost use Rattle.std.specs.HashMap.{entries_eq};
 ghost use Rattle.std.specs.List.{list_all};
@@ -89,7 +89,7 @@ impl<K: Eq + Hash, V, H: BuildHasher> Owned<K, V, H> {
 }
 
 impl<K: Eq + Hash, V: PartialEq, H: BuildHasher> PartialEq for Owned<K, V, H> {
-    ghost use Rattle.scc_contents.specs.Equality.{entries_eq-symm, entries_eq-trans};
+    ghost use Rattle.scc_common.specs.Equality.{entries_eq-symm, entries_eq-trans};
 
     ghost eq = { λ m n. entries_eq K.eq (λ p q. V.eq p.1 q.1) (entries m) (entries n) };
 
@@ -109,7 +109,7 @@ impl<K: Eq + Hash, V: PartialEq, H: BuildHasher> PartialEq for Owned<K, V, H> {
 impl<K: Eq + Hash, V: Eq, H: BuildHasher> Eq for Owned<K, V, H> {
     ghost use Rattle.std.specs.Cmp;
     ghost use Rattle.std.specs.Cmp.{partial_equiv_from_equiv};
-    ghost use Rattle.scc_contents.specs.Equality.{entries_eq-symm, entries_eq-trans, entries_eq-refl};
+    ghost use Rattle.scc_common.specs.Equality.{entries_eq-symm, entries_eq-trans, entries_eq-refl};
 
     ghost laws = { let v = V.Eq.laws in Cmp.equiv (record {
       symm = λ m n. entries_eq-symm K.eq (λ p q. V.eq p.1 q.1)

@@ -7,7 +7,7 @@ use Rattle.scc_common.specs.declared.errors.InsertError.{InsertError}
 use Rattle.scc_common.specs.declared.errors.InsertError.TheVariants.{Exists, Memory}
 use Rattle.std.specs.Borrow.{Bor}
 use Rattle.std.specs.Fn.{Once}
-use Rattle.scc_contents.specs.Contents.{Contents, entries, bucket_count, lists_of}
+use Rattle.scc_common.specs.Contents.{Contents, entries, bucket_count, lists_of}
 use Rattle.scc_cache.specs.CacheSteps.{AnswersOn, ChangesLists, IsAbsent, IsPresent, Puts, PutsNew, Removes, list_number}
 use Rattle.scc_cache.specs.Caches.{Cached}
 use Rattle.scc_cache.specs.ListSteps.{IsThere, Refreshes}

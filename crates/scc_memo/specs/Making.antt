@@ -1,7 +1,7 @@
 -- What a new memo holds.
 use Rattle.std.specs.Prelude.{◌≡◌, ℕ, ◌*◌, ◌<◌, [], max, Result, IsOk, IfOk}
-use Rattle.scc_contents.specs.Contents.{entries, bucket_count, settings_of, waiting_of}
-use Rattle.scc_contents.specs.Sizes.{IsArraySize}
+use Rattle.scc_common.specs.Contents.{entries, bucket_count, settings_of, waiting_of}
+use Rattle.scc_common.specs.Sizes.{IsArraySize}
 use Rattle.scc_memo.specs.Memos.{Memoized}
 
 module _ {P E S X : Type 0} where

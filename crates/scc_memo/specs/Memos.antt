@@ -2,7 +2,7 @@
 use Rattle.std.specs.Prelude.{◌≡◌, ℕ, Bool, Option, refl}
 use Rattle.std.specs.Coded.{Coded, code_by, coded×}
 use Rattle.std.specs.List.{AllByRecursion}
-use Rattle.scc_contents.specs.Contents.{Contents, bucket_count, lists_of}
+use Rattle.scc_common.specs.Contents.{Contents, bucket_count, lists_of}
 use Rattle.scc_cache.specs.CacheSteps.{ChangesLists, IsAbsent, PutsNew, list_number}
 use Rattle.scc_cache.specs.Caches.{Cached, cached_code}
 use Rattle.scc_cache.specs.ListSteps.{Refreshes}

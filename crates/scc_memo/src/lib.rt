@@ -2,7 +2,7 @@
 #![tactic(auto)]
 
 ghost use Rattle.std.specs.Prelude.{◌≡◌, ◌*◌, ◌↔◌, true, length, Option, IsSome, IsTrue, MatchOption};
-ghost use Rattle.scc_contents.specs.Contents.{bucket_count, entries, key_hash};
+ghost use Rattle.scc_common.specs.Contents.{bucket_count, entries, key_hash};
 ghost use Rattle.scc_cache.specs.CacheSteps.{IsAbsent, IsPresent, Removes};
 ghost use Rattle.scc_cache.specs.Caches.{IsCacheState};
 ghost use Rattle.scc_cache.specs.Relocations.{RelocatesNoneWithin};

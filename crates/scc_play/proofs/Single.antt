@@ -11,8 +11,8 @@ use Rattle.scc_calls.specs.declared.calls_as_values.MapCall.{MapCall}
 use Rattle.scc_calls.specs.declared.calls_as_values.SetCall.{SetCall}
 use Rattle.scc_calls.specs.declared.fixed.Setting.{Setting}
 use Rattle.scc_calls.specs.Made.{IsMadeFor}
-use Rattle.scc_contents.specs.Routing.{bucket_number}
-use Rattle.scc_contents.specs.Sizes.{IsArraySize}
+use Rattle.scc_common.specs.Routing.{bucket_number}
+use Rattle.scc_common.specs.Sizes.{IsArraySize}
 use Rattle.scc_recorded.specs.Setups.{share_among}
 use Rattle.scc_print.specs.Finished.{IsOutput, MapOutput, SetOutput, IndexOutput, CacheOutput, script_setting, key_number, pair_cmp}
 use Rattle.scc_print.specs.Output.{reply_line, content_line}

@@ -3,8 +3,8 @@ use Rattle.std.specs.Prelude.{Option, Some, ◌≡◌, ℕ, ◌%◌, ◌^◌, �
 use Rattle.std.specs.Hash.{le_bytes}
 use Rattle.std.specs.List.Sorted.{IsPermutation}
 use Rattle.std.specs.Ordering.{nat_cmp}
-use Rattle.scc_contents.specs.Contents.{Contents, entries, lists_of}
-use Rattle.scc_contents.specs.Sizes.{IsArraySize}
+use Rattle.scc_common.specs.Contents.{Contents, entries, lists_of}
+use Rattle.scc_common.specs.Sizes.{IsArraySize}
 use Rattle.scc_cache.specs.Caches.{Cached}
 use Rattle.scc_calls.specs.CacheCalls.{cache_key, number_by, CacheMoves, CacheResizes}
 use Rattle.scc_calls.specs.IndexCalls.{index_key, IndexMoves}
@@ -12,7 +12,7 @@ use Rattle.scc_calls.specs.IndexWhole.{IndexWholeMoves}
 use Rattle.scc_calls.specs.MapCalls.{map_key, MapMoves}
 use Rattle.scc_calls.specs.MapWhole.{joined, MapWholeMoves}
 use Rattle.scc_calls.specs.Parted.{PartMoves, PartResizes}
-use Rattle.scc_contents.specs.Routing.{stripe_number}
+use Rattle.scc_common.specs.Routing.{stripe_number}
 use Rattle.scc_calls.specs.SetCalls.{key_of_set, SetMoves}
 use Rattle.scc_calls.specs.SetWhole.{SetWholeMoves}
 use Rattle.scc_calls.specs.States.{State, state_of, ResizesTo}

@@ -1,6 +1,6 @@
 //! One worker of a script.
 ghost use Rattle.std.specs.Prelude.{◌≡◌, length, map, true, IfOk, IsSomeAnd, slice_get};
-ghost use Rattle.scc_contents.specs.Routing.{stripe_of};
+ghost use Rattle.scc_common.specs.Routing.{stripe_of};
 ghost use Rattle.scc_play.specs.Making.{AddsCall};
 
 use scc_print::printed::Printed;

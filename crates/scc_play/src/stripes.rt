@@ -1,7 +1,7 @@
 //! The replies that workers got, and the end of their run.
 ghost use Rattle.std.specs.Prelude.{◌≡◌, ℕ, ◌<◌, List, length, map, IfOk, IfSome, Ok, Some, slice_get, vec_len};
 ghost use Rattle.std.specs.String.{string_bytes};
-ghost use Rattle.scc_contents.specs.Routing.{stripe_of};
+ghost use Rattle.scc_common.specs.Routing.{stripe_of};
 ghost use Rattle.scc_calls.specs.declared.fixed.Request.{Request};
 ghost use Rattle.scc_calls.specs.Histories.{CallsRouted, FirstMisrouted};
 ghost use Rattle.scc_history.specs.Orders.{IsOnlyStampOrder, steps_at};

@@ -5,7 +5,7 @@ use Rattle.std.specs.List.Sorted.{IsPermutation}
 use Rattle.std.specs.Result.{is_err}
 use Rattle.std.proofs.lemmas.List.Sorted.{IsPermutation-trans}
 use Rattle.scc_map.proofs.Filtering.{Sorts}
-use Rattle.scc_contents.specs.Contents.{Contents, entries, lists_of}
+use Rattle.scc_common.specs.Contents.{Contents, entries, lists_of}
 
 none-kept : {X : Type 0} (es : List X) → filter (λ x. not true) es ≡ []
 none-kept [] = refl

@@ -1,6 +1,6 @@
 //! The comparisons before a run is finished.
 ghost use Rattle.scc_calls.specs.Histories.{CallsRouted, StepRouted, FirstMisrouted};
-ghost use Rattle.scc_contents.specs.Routing.{stripe_of};
+ghost use Rattle.scc_common.specs.Routing.{stripe_of};
 ghost use Rattle.scc_history.specs.Receipts.{AreAll, seen};
 ghost use Rattle.scc_recorded.specs.Closing.{AllMatch, FirstDisagrees, lesser_of};
 ghost use Rattle.std.specs.List.{AllByRecursion};

@@ -1,6 +1,6 @@
 //! A finished run, and why a run can't be finished.
 ghost use Rattle.scc_calls.specs.Histories.{CallsRouted};
-ghost use Rattle.scc_contents.specs.Routing.{stripe_of};
+ghost use Rattle.scc_common.specs.Routing.{stripe_of};
 ghost use Rattle.scc_history.specs.Orders.{IsOnlyStampOrder, steps_at};
 ghost use Rattle.scc_history.specs.Receipts.{AreAll, calls_of};
 ghost use Rattle.scc_history.specs.Stamps.{calls_in};
@@ -18,6 +18,7 @@ use crate::setups::Site;
 use scc_calls::{Calls, Step, every_merge_is_a_run};
 use scc_history::{records_by_pass, stamp_order};
 use std::fmt::Debug;
+use std::io;
 use std::sync::ledger::Ledger;
 use thiserror::Error;
 
@@ -264,4 +265,14 @@ pub enum FinishError {
     /// Memory for a list was refused.
     #[error("out of memory")]
     Memory,
+}
+
+impl From<FinishError> for io::Error {
+    /// Returns an error of the kind `OutOfMemory` for `Memory`, and of the kind `InvalidData` for the rest.
+    fn from(error: FinishError) -> io::Error {
+        match error {
+            FinishError::Memory => io::Error::from(io::ErrorKind::OutOfMemory),
+            _ => io::Error::from(io::ErrorKind::InvalidData),
+        }
+    }
 }

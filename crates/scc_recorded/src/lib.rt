@@ -4,7 +4,7 @@
 ghost use Rattle.scc_calls.specs.Copies.{ClonesEqual, MayNotClone};
 ghost use Rattle.scc_calls.specs.declared.fixed.Request.{Request};
 ghost use Rattle.scc_calls.specs.declared.fixed.Setting.{Setting};
-ghost use Rattle.scc_contents.specs.Routing.{stripe_of};
+ghost use Rattle.scc_common.specs.Routing.{stripe_of};
 ghost use Rattle.scc_history.specs.Added.{AddsReceipt};
 ghost use Rattle.scc_recorded.specs.Adds.{MayAnswer};
 ghost use Rattle.std.specs.List.{range_with_len};

@@ -4,9 +4,9 @@ use Rattle.std.specs.List.{AllZip}
 use Rattle.std.specs.Map.{keys_of}
 use Rattle.std.specs.Option.{IsSomeAnd}
 use Rattle.std.proofs.lemmas.List.Sorted.{IsPermutation-map}
-use Rattle.scc_contents.specs.Clones.{HasClones}
-use Rattle.scc_contents.specs.Contents.{Contents, entries}
-use Rattle.scc_contents.specs.Pairs.{find as find_pair}
+use Rattle.scc_common.specs.Clones.{HasClones}
+use Rattle.scc_common.specs.Contents.{Contents, entries}
+use Rattle.scc_common.specs.Pairs.{find as find_pair}
 use Rattle.scc_buckets.proofs.Mapped.{entries-mapped, bucket_count-mapped, settings_of-mapped}
 use Rattle.scc_map.specs.Collections as pairs
 use Rattle.scc_set.specs.Collections.{FindsClones}

@@ -3,12 +3,12 @@ use Rattle.std.proofs.Common.{◌≡◌, ℕ, zero, suc, Bool, List, [], ◌∷�
 use Rattle.std.specs.List.{slice_get, remove}
 use Rattle.std.specs.Map.{keys_of}
 use Rattle.std.specs.Option.{option_map}
-use Rattle.scc_contents.specs.Contents.{Contents, entries}
+use Rattle.scc_common.specs.Contents.{Contents, entries}
 use Rattle.scc_buckets.specs.Placed as spots
 use Rattle.scc_table.specs.Placed.{front_of}
 use Rattle.scc_table.specs.Places.{index_of}
 use Rattle.scc_table.specs.Places.{StandsAt}
-use Rattle.scc_contents.specs.Steps.{Holds, HoldsExactly}
+use Rattle.scc_common.specs.Steps.{Holds, HoldsExactly}
 use Rattle.scc_buckets.specs.declared.place.Place.{Place}
 use Rattle.scc_buckets.proofs.Mapped.{entries-mapped, length-mapped, Holds-mapped, HoldsExactly-mapped}
 use Rattle.scc_table.proofs.MappedPlaces.{index_of-mapped, StandsAt-mapped}

@@ -3,9 +3,9 @@ use Rattle.std.proofs.Common.{◌≡◌, ◌⊎◌, ℕ, inl, inr, map, true, sy
 use Rattle.std.specs.Hash.{HashWrites}
 use Rattle.std.specs.declared.hash.Hasher as hasher
 use Rattle.std.specs.declared.hash.BuildHasher as builder
-use Rattle.scc_contents.specs.Contents.{Contents, lists_of, key_hash, refused_of}
-use Rattle.scc_contents.specs.Mapped.{mapped}
-use Rattle.scc_contents.specs.Steps.{IsPreparedFor, Prepares}
+use Rattle.scc_common.specs.Contents.{Contents, lists_of, key_hash, refused_of}
+use Rattle.scc_common.specs.Mapped.{mapped}
+use Rattle.scc_common.specs.Steps.{IsPreparedFor, Prepares}
 use Rattle.scc_buckets.proofs.Mapped.{Rests-mapped, Grows-mapped, HasRoomBy-mapped, HasRoomBy-from_mapped}
 use Rattle.scc_table.specs.Marks.{IsGrowthDue, MarksPreparation}
 use Rattle.scc_set.specs.Keys.{of_map}

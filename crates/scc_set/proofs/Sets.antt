@@ -12,11 +12,11 @@ use Rattle.std.specs.Option.{option_map}
 use Rattle.std.specs.Set.{remove_key, swap_key}
 use Rattle.std.specs.declared.hash.Hasher as hasher
 use Rattle.std.specs.declared.hash.BuildHasher as builder
-use Rattle.scc_contents.specs.Contents.{Contents, entries, bucket_count, settings_of, minimum_of, refused_of, pending_of, waiting_of, key_hash, bucket_of}
-use Rattle.scc_contents.specs.Mapped.{mapped}
-use Rattle.scc_contents.specs.Sizes.{IsSmaller}
-use Rattle.scc_contents.specs.Steps.{Holds, HoldsExactly, IsUnchanged, GrowsWhenDue}
-use Rattle.scc_contents.specs.Pairs.{find as find_pair, without as without_pair, FindsInstead as FindsPairInstead, HasRoom as HasRoomForPair, IsUnique as IsUniqueMap}
+use Rattle.scc_common.specs.Contents.{Contents, entries, bucket_count, settings_of, minimum_of, refused_of, pending_of, waiting_of, key_hash, bucket_of}
+use Rattle.scc_common.specs.Mapped.{mapped}
+use Rattle.scc_common.specs.Sizes.{IsSmaller}
+use Rattle.scc_common.specs.Steps.{Holds, HoldsExactly, IsUnchanged, GrowsWhenDue}
+use Rattle.scc_common.specs.Pairs.{find as find_pair, without as without_pair, FindsInstead as FindsPairInstead, HasRoom as HasRoomForPair, IsUnique as IsUniqueMap}
 use Rattle.scc_buckets.proofs.Mapped.{entries-mapped, bucket_count-mapped, settings_of-mapped, refused_of-mapped, pending_of-mapped, length-mapped, HoldsExactly-mapped, IsUnchanged-mapped, Holds-mapped, Rests-mapped, Reserves-mapped, Releases-mapped, HasRoomBy-mapped, HasRoomBy-from_mapped, GrowsWhenDue-mapped}
 use Rattle.scc_table.specs.Relocations.{RelocatesTwo}
 use Rattle.scc_table.proofs.MappedRelocations.{waiting_of-mapped, RelocatesTwo-mapped}
@@ -25,9 +25,9 @@ use Rattle.scc_common.specs.declared.errors.InsertError.TheVariants.{Exists, Mem
 use Rattle.scc_map.specs.MapSizes.{ReservesOrRefuses, ReleasesOrRefuses}
 use Rattle.scc_map.specs.MapSteps as pairs
 use Rattle.scc_map.specs.ClosureSteps as steps
-use Rattle.scc_contents.specs.Closures as closures
-use Rattle.scc_contents.specs.Copies.{IsCopied}
-use Rattle.scc_contents.specs.Closures.{AnswersAt}
+use Rattle.scc_common.specs.Closures as closures
+use Rattle.scc_common.specs.Copies.{IsCopied}
+use Rattle.scc_common.specs.Closures.{AnswersAt}
 use Rattle.scc_set.specs.Keys.{find, without, with_key, of_map, FindsInstead, IsUnique, HasRoom}
 use Rattle.scc_set.specs.SetSteps.{Inserts, Removes, Reads, RemovedIf, RemovesIf, key_answer}
 

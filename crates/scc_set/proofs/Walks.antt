@@ -7,14 +7,14 @@ use Rattle.std.specs.List.Sorted.{IsPermutation}
 use Rattle.std.specs.Map.{keys_of}
 use Rattle.std.proofs.lemmas.List.{map-append}
 use Rattle.std.proofs.lemmas.List.Sorted.{IsPermutation-map}
-use Rattle.scc_contents.specs.Contents.{Contents, entries}
-use Rattle.scc_contents.specs.Walks.{HoldsInTurn, CalledOn, TakesOn}
-use Rattle.scc_contents.specs.Walks as pairs
+use Rattle.scc_common.specs.Contents.{Contents, entries}
+use Rattle.scc_common.specs.Walks.{HoldsInTurn, CalledOn, TakesOn}
+use Rattle.scc_common.specs.Walks as pairs
 use Rattle.scc_common.specs.declared.errors.WalkError.{WalkError}
 use Rattle.scc_common.specs.declared.verdict.Verdict.{Verdict}
 use Rattle.scc_buckets.proofs.Mapped.{entries-mapped}
-use Rattle.scc_contents.specs.PairWalks.{CalledToWrite, TakesToWrite, CallableToWrite}
-use Rattle.scc_contents.specs.PairWalks as writes
+use Rattle.scc_common.specs.PairWalks.{CalledToWrite, TakesToWrite, CallableToWrite}
+use Rattle.scc_common.specs.PairWalks as writes
 use Rattle.scc_map.specs.Sinks.{with_units}
 use Rattle.scc_set.specs.Keys.{of_map}
 use Rattle.scc_set.specs.SetWalks.{CallableWhile, Walks, walked, stopped, went_on, Declines, declined_none, declined, Retains, retained, stayed, went, Takes, ended, refused, kept, took, kept_last, took_last}

@@ -2,9 +2,9 @@
 use Rattle.std.specs.Prelude.{◌≡◌, ◌*◌, ◌<◌, Bool, List, [], ◌∷◌, ◌++◌, length, None, IsSome, MatchOption, ◌⊎◌}
 use Rattle.std.specs.List.{FoldsTo}
 use Rattle.std.specs.Option.{IsSomeAnd}
-use Rattle.scc_contents.specs.Contents.{Contents, entries, bucket_count, settings_of}
-use Rattle.scc_contents.specs.Sizes.{IsArraySize}
-use Rattle.scc_contents.specs.Steps.{Holds, IsUnchanged, Rests}
+use Rattle.scc_common.specs.Contents.{Contents, entries, bucket_count, settings_of}
+use Rattle.scc_common.specs.Sizes.{IsArraySize}
+use Rattle.scc_common.specs.Steps.{Holds, IsUnchanged, Rests}
 use Rattle.scc_set.specs.Keys.{find}
 
 module _ {K S : Type 0} (eq : K → K → Bool) where

@@ -2,8 +2,8 @@
 use Rattle.std.specs.Prelude.{◌≡◌, ℕ, Bool, cond, List, Option}
 use Rattle.std.specs.List.{IsDistinct, find as first_passing}
 use Rattle.std.specs.Set.{remove_key, swap_key}
-use Rattle.scc_contents.specs.Contents.{Contents, entries, HasRoomBy}
-use Rattle.scc_contents.specs.Mapped.{mapped}
+use Rattle.scc_common.specs.Contents.{Contents, entries, HasRoomBy}
+use Rattle.scc_common.specs.Mapped.{mapped}
 
 module _ {K : Type 0} (eq : K → K → Bool) where
   -- the key that equals k

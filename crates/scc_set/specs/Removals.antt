@@ -2,9 +2,9 @@
 -- a place.
 use Rattle.std.specs.Prelude.{◌≡◌, ◌≢◌, suc, Bool, None, Option, Some, length, remove, slice_get, IfNone, MatchOption, OnSome}
 use Rattle.scc_buckets.specs.declared.place.Place.{Place}
-use Rattle.scc_contents.specs.Contents.{Contents, entries, bucket_count, minimum_of, refused_of, waiting_of}
-use Rattle.scc_contents.specs.Sizes.{IsSmaller}
-use Rattle.scc_contents.specs.Steps.{Holds, HoldsExactly, ShrinksWhenDue}
+use Rattle.scc_common.specs.Contents.{Contents, entries, bucket_count, minimum_of, refused_of, waiting_of}
+use Rattle.scc_common.specs.Sizes.{IsSmaller}
+use Rattle.scc_common.specs.Steps.{Holds, HoldsExactly, ShrinksWhenDue}
 use Rattle.scc_table.specs.Places.{StandsAt, index_of}
 use Rattle.scc_table.specs.Relocations.{RelocatesNone}
 use Rattle.scc_set.specs.Keys.{FindsInstead, IsUnique}

@@ -6,11 +6,11 @@ use Rattle.std.specs.declared.cmp.PartialEq as eq
 use Rattle.std.specs.declared.hash.Hash as hash
 use Rattle.std.specs.declared.hash.Hasher as hasher
 use Rattle.std.specs.declared.hash.BuildHasher as builder
-use Rattle.scc_contents.specs.Contents.{Contents, entries, bucket_count, minimum_of, refused_of, waiting_of}
+use Rattle.scc_common.specs.Contents.{Contents, entries, bucket_count, minimum_of, refused_of, waiting_of}
 use Rattle.scc_table.specs.Placed.{entry_of, front_of, back_of, SplitsAt, IsNextAt, IsNextPastRemovedAt}
 use Rattle.scc_table.specs.Relocations.{RelocatesNone}
-use Rattle.scc_contents.specs.Sizes.{IsSmaller}
-use Rattle.scc_contents.specs.Steps.{Holds, HoldsExactly, ShrinksWhenDue}
+use Rattle.scc_common.specs.Sizes.{IsSmaller}
+use Rattle.scc_common.specs.Steps.{Holds, HoldsExactly, ShrinksWhenDue}
 use Rattle.scc_buckets.specs.declared.place.Place.{Place}
 use Rattle.scc_set.specs.Keys.{IsUnique}
 use Rattle.scc_set.specs.Lends.{set_row}
@@ -21,6 +21,10 @@ module _ {K S T : Type 0} {g : eq.Ghosts K} {h : hash.Ghosts K} {b : builder.Gho
   -- the place of the entry
   abbrev pub place_of : OccupiedEntry K S T g h b w → Place
   place_of o = record { bucket = o.bucket; slot = o.slot }
+
+  -- the borrow of the set that the entry holds
+  abbrev pub occupied_borrow : OccupiedEntry K S T g h b w → MutBor (Contents K S)
+  occupied_borrow o = o.set
 
   -- the key of the entry
   abbrev pub occupied_key : OccupiedEntry K S T g h b w → K

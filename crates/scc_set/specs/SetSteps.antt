@@ -2,8 +2,8 @@
 use Rattle.std.specs.Prelude.{◌≡◌, ℕ, Bool, true, false, ◌∷◌, Option, None, Some, Result, Ok, Err, IsSome, IsSomeAnd}
 use Rattle.std.specs.Borrow.{Bor}
 use Rattle.std.specs.Fn.{Once, FnOnceReturnsAt}
-use Rattle.scc_contents.specs.Contents.{Contents, entries}
-use Rattle.scc_contents.specs.Steps.{Holds, HoldsExactly, IsUnchanged, Rests}
+use Rattle.scc_common.specs.Contents.{Contents, entries}
+use Rattle.scc_common.specs.Steps.{Holds, HoldsExactly, IsUnchanged, Rests}
 use Rattle.scc_common.specs.declared.errors.InsertError.{InsertError}
 use Rattle.scc_common.specs.declared.errors.InsertError.TheVariants.{Exists as PairExists, Memory as PairMemory}
 use Rattle.scc_common.specs.declared.errors.KeyError.{KeyError}

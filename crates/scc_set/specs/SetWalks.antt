@@ -2,11 +2,11 @@
 use Rattle.std.specs.Prelude.{Bool, true, false, List, [], ◌∷◌, Result, Ok, Err}
 use Rattle.std.specs.Borrow.{Bor}
 use Rattle.std.specs.Fn.{Mut, CalledAt, TakesAt}
-use Rattle.scc_contents.specs.Walks.{HoldsInTurn}
+use Rattle.scc_common.specs.Walks.{HoldsInTurn}
 use Rattle.scc_common.specs.declared.errors.WalkError.{WalkError}
 use Rattle.scc_common.specs.declared.verdict.Verdict.{Verdict}
 use Rattle.scc_common.specs.declared.verdict.Verdict.TheVariants.{Keep, Take, KeepStop, TakeStop}
-pub use Rattle.scc_contents.specs.PairWalks.{GoesOn}
+pub use Rattle.scc_common.specs.PairWalks.{GoesOn}
 
 -- f may be called on the keys in turn, for as long as On holds of each result
 abbrev pub CallableWhile : {F K R : Type 0} → Mut F (Bor K × Unit {0}) R → (R → Type 0) → F → List K → Type 0

@@ -1,5 +1,5 @@
 //! The calls at a place of a set, by which an entry goes from key to key.
-ghost use Rattle.scc_contents.specs.Contents.{entries};
+ghost use Rattle.scc_common.specs.Contents.{entries};
 ghost use Rattle.scc_set.specs.Removals.{RemovesAtByRule, TakesWithNextByRule};
 ghost use Rattle.scc_set.specs.SetWalks.{CallableWhile, PassesAt, PassesNone};
 ghost use Rattle.scc_table.specs.Placed.{front_of};

@@ -1,19 +1,21 @@
 //! A hash set for one owner, over the map of `scc_map`.
 #![tactic(auto)]
 
-ghost use Rattle.scc_contents.specs.Contents.{entries, bucket_count, lists_of, settings_of, refused_of, waiting_of, hash_in};
-ghost use Rattle.scc_contents.specs.Pairs.{IsUnique as IsUniqueMap};
-ghost use Rattle.scc_contents.specs.Pairs.{find as find_pair};
-ghost use Rattle.scc_contents.specs.Steps.{HoldsExactly, IsUnchanged};
-ghost use Rattle.scc_set.specs.Insertions.{InsertsByRule, PreparesByRule, ReplacesByRule};
+ghost use Rattle.scc_common.specs.Contents.{entries, bucket_count, lists_of, settings_of, refused_of, waiting_of, hash_in};
+ghost use Rattle.scc_common.specs.Pairs.{IsUnique as IsUniqueMap};
+ghost use Rattle.scc_common.specs.Pairs.{find as find_pair};
+ghost use Rattle.scc_common.specs.Steps.{HoldsExactly, IsUnchanged};
+ghost use Rattle.scc_set.specs.Insertions.{PreparesByRule};
 ghost use Rattle.scc_set.specs.Keys.{find, with_key, FindsInstead, HasRoom, IsUnique};
 ghost use Rattle.scc_set.specs.Removals.{RemovesByRule};
-ghost use Rattle.scc_set.specs.SetSteps.{Reads, Removes, RemovesIf};
+ghost use Rattle.scc_set.specs.SetSteps.{Inserts, Reads, Removes, RemovesIf, Replaces};
 ghost use Rattle.scc_set.specs.SetSteps.{key_answer as key_answer_of};
 ghost use Rattle.std.specs.Fn.{FnOnceTakesAt, FnOnceReturnsAt};
 ghost use Rattle.std.specs.Map.{set_key};
 ghost use Rattle.std.specs.Option.{option_map};
-ghost use Rattle.std.specs.Prelude.{◌≡◌, ◌<◌, ◌*◌, ◌↔◌, [], length, Some, None, IsTrue, IsSome, IfErr, IfOk, false};
+ghost use Rattle.std.specs.Prelude.{◌≡◌, ◌<◌, ◌*◌, ◌↔◌, [], length, Some, None, IsTrue, IsSome, IsOk, IfErr, IfOk, false};
+ghost use Rattle.std.specs.Result.{OnErr, OnOk};
+ghost use Rattle.scc_table.specs.Arrays.{GrowsByRule};
 
 pub mod entry;
 mod key_places;
@@ -23,8 +25,7 @@ mod walk;
 mod whole;
 
 pub use entry::{OccupiedEntry, Removed};
-use scc_common::{InsertError, KeyError, MakeError};
-use scc_contents::Hashes;
+use scc_common::{Hashes, InsertError, KeyError, MakeError};
 use scc_map::borrowed::ReplaceResult;
 use std::hash::{BuildHasher, BuildHasherDefault, FoldHasher, Hash};
 use std::marker::Model;
@@ -40,7 +41,7 @@ pub struct Owned<K: Eq + Hash, H: BuildHasher = BuildHasherDefault<FoldHasher>> 
 }
 
 impl<K: Eq + Hash, H: BuildHasher> Model for Owned<K, H> {
-    ghost use Rattle.scc_contents.specs.Contents.{Contents};
+    ghost use Rattle.scc_common.specs.Contents.{Contents};
     ghost use Rattle.scc_set.specs.Keys.{of_map};
 
     ghost Value = { Contents K H };
@@ -122,7 +123,12 @@ impl<K: Eq + Hash, H: BuildHasher> Owned<K, H> {
     /// overflow list is refused. A doubling whose memory is refused doesn't make the insertion fail.
     #[inline(always)]
     pub fn insert_sync(&mut self, k: K) -> Result<(), KeyError<K>>
-        ensures { InsertsByRule K.eq ⟦<H as Hashes<K>>⟧.hash_of self.old k result self.new }
+        ensures step { Inserts K.eq (hash_in ⟦<H as Hashes<K>>⟧.hash_of self.old) self.old k result self.new }
+        ensures succeeds { find K.eq (entries self.old) k ≡ None → HasRoom (hash_in ⟦<H as Hashes<K>>⟧.hash_of self.old) self.old k → IsOk result }
+        ensures finds { OnOk result (FindsInstead K.eq (entries self.old) k (Some k) (entries self.new)) }
+        ensures same { OnErr result ((q : K) → find K.eq (entries self.new) q ≡ find K.eq (entries self.old) q) }
+        ensures unique { IsUnique K.eq self.new }
+        ensures array { GrowsByRule (λ q. q) (hash_in ⟦<H as Hashes<K>>⟧.hash_of self.old) (find K.eq (entries self.old) k) self.old k result self.new }
     {
         key_answer(self.map.insert_sync(k, ()))
     }
@@ -154,7 +160,13 @@ impl<K: Eq + Hash, H: BuildHasher> Owned<K, H> {
     /// equals `k`, `k` is inserted and `None` is returned; if memory is refused, `k` comes back.
     #[inline(always)]
     pub fn replace_sync(&mut self, k: K) -> Result<Option<K>, KeyError<K>>
-        ensures { ReplacesByRule K.eq ⟦<H as Hashes<K>>⟧.hash_of self.old k result self.new }
+        ensures step { Replaces K.eq (hash_in ⟦<H as Hashes<K>>⟧.hash_of self.old) self.old k result self.new }
+        ensures present { IsSome (find K.eq (entries self.old) k) → IsOk result }
+        ensures succeeds { HasRoom (hash_in ⟦<H as Hashes<K>>⟧.hash_of self.old) self.old k → IsOk result }
+        ensures finds { OnOk result (FindsInstead K.eq (entries self.old) k (Some k) (entries self.new)) }
+        ensures same { OnErr result ((q : K) → find K.eq (entries self.new) q ≡ find K.eq (entries self.old) q) }
+        ensures unique { IsUnique K.eq self.new }
+        ensures array { GrowsByRule (λ q. q) (hash_in ⟦<H as Hashes<K>>⟧.hash_of self.old) (find K.eq (entries self.old) k) self.old k result self.new }
     {
         match self.swap_key(k) {
             Ok(old) => Ok(Some(old)),

@@ -1,5 +1,5 @@
 //! How a set is made: empty, or from items.
-ghost use Rattle.scc_contents.specs.Contents.{entries, settings_of};
+ghost use Rattle.scc_common.specs.Contents.{entries, settings_of};
 ghost use Rattle.scc_set.specs.Collections.{FindsItems, InsertsAll, IsCollected, StopsAt};
 ghost use Rattle.scc_set.specs.Keys.{find, IsUnique};
 ghost use Rattle.scc_table.specs.Making.{IsNew, MakesEmpty};

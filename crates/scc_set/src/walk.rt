@@ -1,6 +1,6 @@
 //! Walks over the keys of a set.
-ghost use Rattle.scc_contents.specs.Contents.{entries};
-ghost use Rattle.scc_contents.specs.Steps.{Holds};
+ghost use Rattle.scc_common.specs.Contents.{entries};
+ghost use Rattle.scc_common.specs.Steps.{Holds};
 ghost use Rattle.scc_map.specs.Shrinking.{ClearsByRule, RetainsByRule, TakesByRule};
 ghost use Rattle.scc_set.specs.Keys.{IsUnique};
 ghost use Rattle.scc_set.specs.SetWalks.{CallableWhile, GoesOn, Retains, Takes, Walks};

@@ -1,7 +1,7 @@
 //! The calls on a whole set: comparisons and clones.
-ghost use Rattle.scc_contents.specs.Clones.{HasClones};
-ghost use Rattle.scc_contents.specs.Contents.{entries, refused_of, waiting_of};
-ghost use Rattle.scc_contents.specs.Copies.{IsCopied};
+ghost use Rattle.scc_common.specs.Clones.{HasClones};
+ghost use Rattle.scc_common.specs.Contents.{entries, refused_of, waiting_of};
+ghost use Rattle.scc_common.specs.Copies.{IsCopied};
 ghost use Rattle.scc_set.specs.Collections.{FindsClones};
 ghost use Rattle.scc_set.specs.Keys.{find, IsUnique};
 ghost use Rattle.std.specs.Prelude.{◌≡◌, Some, IfOk, OnErr, [], true, false};

@@ -4,7 +4,7 @@ use Rattle.std.specs.declared.cmp.PartialEq as eq
 use Rattle.std.specs.declared.hash.Hash as hash
 use Rattle.std.specs.declared.hash.Hasher as hasher
 use Rattle.std.specs.declared.hash.BuildHasher as builder
-use Rattle.scc_contents.specs.Contents.{lists_of}
+use Rattle.scc_common.specs.Contents.{lists_of}
 use Rattle.scc_common.specs.declared.guard.Guard as guard
 use Rattle.scc_cache.specs.Caches.{Cached}
 use Rattle.scc_cache.specs.Entries.{Replaces}

@@ -1,6 +1,6 @@
 -- The maximum of a cache that is made without one.
 use Rattle.std.proofs.Common.{◌≡◌, ℕ, max, refl, subst, arith}
-use Rattle.scc_contents.specs.Sizes.{IsArraySize}
+use Rattle.scc_common.specs.Sizes.{IsArraySize}
 use Rattle.scc_buckets.proofs.Powers.{size-once}
 use Rattle.scc_shared_cache.specs.SharedSizes.{IsSlotsAsked}
 

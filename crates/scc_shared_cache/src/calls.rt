@@ -2,7 +2,7 @@
 //! of its name does.
 ghost use Rattle.std.specs.Prelude.{◌≡◌, ◌⊎◌, IfErr, IfSome};
 ghost use Rattle.scc_cache.specs.Entries.{Exists, Memory};
-ghost use Rattle.scc_contents.specs.Replies.{HasKey, ReadsEqual, PassesWith};
+ghost use Rattle.scc_common.specs.Replies.{HasKey, ReadsEqual, PassesWith};
 
 use super::{EvictedEntry, HashCache};
 use scc_common::InsertError;

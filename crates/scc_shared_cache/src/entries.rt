@@ -2,10 +2,10 @@
 //! it finds.
 ghost use Rattle.std.specs.Prelude.{◌≡◌, true, IfSome};
 ghost use Rattle.std.specs.Sync.RwLock.{write_guard_value};
-ghost use Rattle.scc_contents.specs.Contents.{key_hash};
+ghost use Rattle.scc_common.specs.Contents.{key_hash};
 ghost use Rattle.scc_cache.specs.Caches.{Cached, IsCacheState};
 ghost use Rattle.scc_cache.specs.Entries.{entry_guard, entry_key, occupied_cache, occupied_pair, IsEntryOf, IsRefreshed, replaced_guard, Replaces};
-ghost use Rattle.scc_contents.specs.Replies.{HasKey};
+ghost use Rattle.scc_common.specs.Replies.{HasKey};
 ghost use Rattle.scc_shared_cache.specs.Replies.{ReplacesEqual};
 
 use super::{Entry, HashCache, OccupiedEntry, ReplaceResult};

@@ -2,8 +2,8 @@
 //! pair.
 ghost use Rattle.std.specs.Prelude.{◌≡◌, ◌≤◌, ◌++◌, List, OnErr};
 ghost use Rattle.std.specs.Vec.{vec_len, vec_capacity};
-ghost use Rattle.scc_contents.specs.Walks.{CalledOn, Walks};
-ghost use Rattle.scc_contents.specs.PairWalks.{CalledToWrite, Retains, Takes};
+ghost use Rattle.scc_common.specs.Walks.{CalledOn, Walks};
+ghost use Rattle.scc_common.specs.PairWalks.{CalledToWrite, Retains, Takes};
 
 use super::HashCache;
 use scc_common::{Verdict, WalkError};

@@ -3,8 +3,8 @@ use Rattle.std.proofs.Common.{List, [], ◌∷◌, ◌++◌, Bool, refl}
 use Rattle.std.specs.Borrow.{Bor}
 use Rattle.std.specs.Fn.{Mut}
 use denote.Param.Always.{always_mut, mut_next}
-use Rattle.scc_contents.specs.Walks.{CalledOn}
-use Rattle.scc_contents.proofs.WalkLemmas.{turn-always}
+use Rattle.scc_common.specs.Walks.{CalledOn}
+use Rattle.scc_common.proofs.WalkLemmas.{turn-always}
 use Rattle.scc_index.specs.IndexWalks.{CallableOnAll, Retains}
 use Rattle.scc_index.specs.IndexWalks as retained
 

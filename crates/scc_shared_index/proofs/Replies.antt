@@ -3,13 +3,13 @@ use Rattle.std.proofs.Common.{◌≡◌, ◌⊎◌, List, Bool, true, false, IsT
 use Rattle.std.specs.Prelude.{IfErr, IfOk, IfSome}
 use Rattle.std.specs.Borrow.{Bor}
 use Rattle.std.specs.Fn.{Once, FnOnceReturnsAt}
-use Rattle.scc_contents.specs.Contents.{Contents, entries}
-use Rattle.scc_contents.specs.Pairs.{find}
+use Rattle.scc_common.specs.Contents.{Contents, entries}
+use Rattle.scc_common.specs.Pairs.{find}
 use Rattle.scc_common.specs.declared.errors.InsertError.{InsertError}
 use Rattle.scc_index.specs.Entries.{Exists, Memory}
 use Rattle.scc_index.specs.ClosureSteps.{RemovesIf}
 use Rattle.scc_index.specs.IndexSteps.{Inserts}
-use Rattle.scc_contents.specs.Replies.{HasKey}
+use Rattle.scc_common.specs.Replies.{HasKey}
 use Rattle.scc_table.proofs.Replies.{find-key}
 use Rattle.scc_shared_index.specs.Replies.{PassesOn}
 

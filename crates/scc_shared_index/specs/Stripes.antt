@@ -1,5 +1,5 @@
 -- The stripes of an index, and its hasher.
-use Rattle.scc_contents.specs.Contents.{Contents}
+use Rattle.scc_common.specs.Contents.{Contents}
 use Rattle.scc_stripes.specs.declared.Striped.{Striped}
 use Rattle.scc_stripes.specs.Stripes.{stripes_hasher}
 use Rattle.scc_shared_index.specs.declared.HashIndex.{HashIndex}

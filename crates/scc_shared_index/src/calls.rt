@@ -3,7 +3,7 @@
 ghost use Rattle.std.specs.Prelude.{◌≡◌, ◌⊎◌, IfErr, IfOk, IfSome, IsTrue, true};
 ghost use Rattle.std.specs.Arc.{arc_value};
 ghost use Rattle.scc_index.specs.Entries.{Exists, Memory};
-ghost use Rattle.scc_contents.specs.Replies.{HasKey, ReadsEqual};
+ghost use Rattle.scc_common.specs.Replies.{HasKey, ReadsEqual};
 ghost use Rattle.scc_shared_index.specs.Replies.{PassesOn};
 
 use super::{HashIndex, Version};

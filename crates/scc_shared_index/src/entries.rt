@@ -1,14 +1,14 @@
 //! The calls that return an entry. An entry holds the lock of its stripe.
 ghost use Rattle.std.specs.Prelude.{◌≡◌, [], List, IfSome};
 ghost use Rattle.std.specs.Sync.RwLock.{write_guard_value};
-ghost use Rattle.scc_contents.specs.Pairs.{IsUnique};
+ghost use Rattle.scc_common.specs.Pairs.{IsUnique};
 ghost use Rattle.scc_index.specs.Entries.{occupied_index, entry_guard, occupied_pair, occupied_front, IsEntryOf, IsOccupiedAt};
 ghost use Rattle.scc_index.specs.EntrySteps.{StandsIn};
 ghost use Rattle.scc_index.specs.Seats.{entry_rest, occupied_rest, HasSeatIn};
 ghost use Rattle.scc_shared_index.specs.Stripes.{stripes_of};
 ghost use Rattle.scc_stripes.specs.Seats.{IsSeatOfKey};
-ghost use Rattle.scc_contents.specs.Walks.{CalledOn};
-ghost use Rattle.scc_contents.specs.PairWalks.{Declines, PassesAt};
+ghost use Rattle.scc_common.specs.Walks.{CalledOn};
+ghost use Rattle.scc_common.specs.PairWalks.{Declines, PassesAt};
 
 use super::{Entry, HashIndex, OccupiedEntry};
 use scc_index::held::{HeldEntry, HeldOccupied};

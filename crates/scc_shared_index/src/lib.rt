@@ -1,8 +1,6 @@
 //! A hash index that threads share: a fixed number of stripes, each an owned index behind a lock.
 #![tactic(auto)]
 
-ghost use Rattle.std.specs.Prelude.{◌≤◌, ◌^◌};
-
 mod calls;
 mod entries;
 mod sizes;
@@ -10,16 +8,13 @@ mod unlocked;
 mod walks;
 mod whole;
 
-use scc_buckets::sizes::slots_for;
 use scc_common::{MakeError, Shared, Version};
 use scc_index::locked::{Entry, OccupiedEntry, VacantEntry};
 use scc_index::{Iter, Owned};
 use scc_stripes::Striped;
-use scc_stripes::shares::bits_for;
 pub use sizes::Reserve;
 use std::alloc::Global;
 use std::hash::{BuildHasher, BuildHasherDefault, FoldHasher, Hash};
-use std::sync::Arc;
 
 /// An index from keys to versions that threads share by reference. Each of its stripes is an owned index behind a
 /// lock, and a call takes the lock of the stripe of its key. A version never changes, and readers may keep it.
@@ -68,26 +63,7 @@ impl<K: Eq + Hash, V, H: BuildHasher> HashIndex<K, V, H> {
         V: Drop,
         H: Drop,
     {
-        if capacity == 0 {
-            return HashIndex::in_stripes(alloc, 4, 0, hasher);
-        }
-        let slots = slots_for(capacity);
-        HashIndex::in_stripes(alloc, bits_for(slots), slots, hasher)
-    }
-
-    /// Makes 2^`bits` stripes, each with its share of `slots`. Fails if memory is refused.
-    fn in_stripes(alloc: Global, bits: u32, slots: usize, hasher: H) -> Result<Self, MakeError>
-    where
-        K: Drop,
-        V: Drop,
-        H: Drop,
-        requires bits { bits ≤ 4 }
-        requires most { slots ≤ 2 ^ 63 }
-    {
-        let Ok(owner) = Arc::new(alloc, hasher) else {
-            return Err(MakeError);
-        };
-        let stripes = Striped::make(alloc, bits, slots, 0, owner)?;
+        let stripes = Striped::with_capacity(alloc, capacity, hasher)?;
         Ok(HashIndex { stripes, alloc })
     }
 }

@@ -1,7 +1,7 @@
 //! Walks over all stripes, one after another. A contract says on which pairs the closure was called in turn and what
 //! it returned, for lists of pairs found in the stripes.
 ghost use Rattle.std.specs.Prelude.{List};
-ghost use Rattle.scc_contents.specs.Walks.{CalledOn, Walks};
+ghost use Rattle.scc_common.specs.Walks.{CalledOn, Walks};
 ghost use Rattle.scc_index.specs.IndexWalks.{Retains};
 
 use super::{HashIndex, Iter};

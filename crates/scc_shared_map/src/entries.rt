@@ -1,15 +1,15 @@
 //! The calls that return an entry. An entry holds the lock of its stripe.
 ghost use Rattle.std.specs.Prelude.{◌≡◌, [], List, IfSome};
 ghost use Rattle.std.specs.Sync.RwLock.{write_guard_value};
-ghost use Rattle.scc_contents.specs.Contents.{Contents};
-ghost use Rattle.scc_contents.specs.Pairs.{IsUnique};
+ghost use Rattle.scc_common.specs.Contents.{Contents};
+ghost use Rattle.scc_common.specs.Pairs.{IsUnique};
 ghost use Rattle.scc_map.specs.Entries.{occupied_map, entry_guard, occupied_pair, occupied_front, IsEntryOf, IsOccupiedAt, replaced_guard, Replaces};
 ghost use Rattle.scc_map.specs.EntrySteps.{StandsIn};
 ghost use Rattle.scc_map.specs.Seats.{entry_rest, occupied_rest, replaced_rest, HasSeatIn};
 ghost use Rattle.scc_shared_map.specs.Stripes.{stripes_of};
 ghost use Rattle.scc_stripes.specs.Seats.{IsSeatOfKey};
-ghost use Rattle.scc_contents.specs.Walks.{CalledOn};
-ghost use Rattle.scc_contents.specs.PairWalks.{Declines, PassesAt};
+ghost use Rattle.scc_common.specs.Walks.{CalledOn};
+ghost use Rattle.scc_common.specs.PairWalks.{Declines, PassesAt};
 
 use super::{Entry, HashMap, OccupiedEntry, ReplaceResult};
 use scc_map::held::{HeldEntry, HeldOccupied, HeldReplace};

@@ -1,6 +1,6 @@
 //! Sizes and reservations. A call looks at the stripes one after another.
 ghost use Rattle.std.specs.Prelude.{◌≡◌, ◌<◌, ◌≤◌, ◌^◌, IfSome};
-ghost use Rattle.scc_contents.specs.Routing.{stripe_of};
+ghost use Rattle.scc_common.specs.Routing.{stripe_of};
 ghost use Rattle.scc_stripes.specs.Stripes.{stripe_count};
 ghost use Rattle.scc_shared_map.specs.Stripes.{hasher_of, stripes_of};
 ghost use Rattle.scc_shared_map.specs.Reserves.{reserved_in, reserved_slots};

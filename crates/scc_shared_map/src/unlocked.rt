@@ -4,11 +4,9 @@ ghost use Rattle.scc_stripes.specs.Parts.{parts_hasher, parts_owner};
 ghost use Rattle.scc_shared_map.specs.Stripes.{hasher_of};
 
 use super::HashMap;
-use scc_buckets::sizes::slots_for;
 use scc_common::{MakeError, Shared};
 use scc_map::Owned;
 use scc_stripes::OpenStripes;
-use scc_stripes::shares::bits_for;
 use std::alloc::Global;
 use std::hash::{BuildHasher, Hash};
 
@@ -28,14 +26,7 @@ impl<K: Eq + Hash + Drop, V: Drop, H: BuildHasher + Drop> Unlocked<K, V, H> {
     ) -> Result<Self, MakeError>
         ensures hasher { IfOk result (λ u. parts_hasher u.parts ≡ hasher_of map.now) }
     {
-        let owner = map.stripes.owner()?;
-        let (bits, slots) = if capacity == 0 {
-            (4, 0)
-        } else {
-            let slots = slots_for(capacity);
-            (bits_for(slots), slots)
-        };
-        match OpenStripes::make(alloc, bits, slots, 0, owner) {
+        match OpenStripes::alike(alloc, &map.stripes, capacity) {
             Ok(parts) => Ok(Unlocked { parts }),
             Err(e) => Err(e),
         }

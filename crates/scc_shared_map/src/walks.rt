@@ -1,8 +1,8 @@
 //! Walks over all stripes, one after another. A walk lends its closure to each stripe in turn.
 ghost use Rattle.std.specs.Prelude.{◌≡◌, ◌≤◌, ◌++◌, List, length, OnErr};
 ghost use Rattle.std.specs.Vec.{vec_len, vec_capacity};
-ghost use Rattle.scc_contents.specs.Walks.{CalledOn, Walks};
-ghost use Rattle.scc_contents.specs.PairWalks.{CalledToWrite, Retains, Takes};
+ghost use Rattle.scc_common.specs.Walks.{CalledOn, Walks};
+ghost use Rattle.scc_common.specs.PairWalks.{CalledToWrite, Retains, Takes};
 
 use super::HashMap;
 use scc_common::{Verdict, WalkError};

@@ -4,9 +4,9 @@ use Rattle.std.specs.Borrow.{Bor, MutBor}
 use Rattle.std.specs.Fn.{Mut, Once, Called, CalledAt, TakesAt, FnOnceReturnsAt, FnOnceReturnsAtMut}
 use Rattle.std.specs.Map.{keys_of}
 use denote.Param.Always.{always_mut, mut_by, mut_next}
-use Rattle.scc_contents.specs.Walks.{CalledOn}
-use Rattle.scc_contents.specs.PairWalks as writes
-use Rattle.scc_contents.specs.Replies as replies
+use Rattle.scc_common.specs.Walks.{CalledOn}
+use Rattle.scc_common.specs.PairWalks as writes
+use Rattle.scc_common.specs.Replies as replies
 use Rattle.scc_shared_set.specs.Answers.{ReadsEqual}
 use Rattle.scc_set.specs.SetWalks.{Declines, declined_none, declined, PassesAt}
 

@@ -8,7 +8,7 @@ use Rattle.std.specs.declared.hash.BuildHasher as builder
 use Rattle.scc_map.specs.Entries.{occupied_pair, occupied_front as pairs_before, occupied_back as pairs_after}
 use Rattle.scc_map.specs.EntrySteps as pairs
 use Rattle.scc_map.specs.Seats as seats
-use Rattle.scc_contents.specs.Contents.{Contents}
+use Rattle.scc_common.specs.Contents.{Contents}
 use Rattle.scc_common.specs.declared.guard.Guard as guard
 use Rattle.scc_map.specs.declared.held.HeldOccupied.{HeldOccupied}
 use Rattle.scc_shared_set.specs.declared.entries.HeldKey.{HeldKey}

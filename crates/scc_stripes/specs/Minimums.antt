@@ -1,8 +1,8 @@
 -- How a part of a shared map or index follows its share of the minimum, in one word.
 use Rattle.std.specs.Prelude.{◌≡◌, ◌≤◌, ◌<◌, ◌-◌, ◌⊎◌, ℕ, Bool}
-use Rattle.scc_contents.specs.Contents.{Contents, minimum_of, refused_of, settings_of, waiting_of}
-use Rattle.scc_contents.specs.Pairs.{IsUnique}
-use Rattle.scc_contents.specs.Steps.{IsUnchanged, ReachesMinimumWhenDue, Releases, Reserves, ShrinksWhenDue}
+use Rattle.scc_common.specs.Contents.{Contents, minimum_of, refused_of, settings_of, waiting_of}
+use Rattle.scc_common.specs.Pairs.{IsUnique}
+use Rattle.scc_common.specs.Steps.{IsUnchanged, ReachesMinimumWhenDue, Releases, Reserves, ShrinksWhenDue}
 
 module _ {K V S : Type 0} (eq : K → K → Bool) where
   -- `share` is made the minimum of c, which includes the slots asked for at making

@@ -3,7 +3,7 @@ use Rattle.std.specs.Prelude.{◌≡◌, ◌<◌, ℕ, suc}
 use Rattle.std.specs.Hash.{HashWrites}
 use Rattle.std.specs.declared.hash.Hasher as hasher
 use Rattle.std.specs.declared.hash.BuildHasher as builder
-use Rattle.scc_contents.specs.Routing.{stripe_of}
+use Rattle.scc_common.specs.Routing.{stripe_of}
 use Rattle.scc_stripes.specs.declared.seats.Seat.{Seat}
 use Rattle.scc_stripes.specs.declared.Striped.{Striped}
 use Rattle.scc_stripes.specs.Stripes.{stripe_count, stripes_hasher}

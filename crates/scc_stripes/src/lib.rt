@@ -2,8 +2,8 @@
 //! and the book of reserved slots.
 #![tactic(auto)]
 
-ghost use Rattle.scc_contents.specs.Hashing.{hash_of};
-ghost use Rattle.scc_contents.specs.Routing.{stripe_number, stripe_of};
+ghost use Rattle.scc_common.specs.Hashing.{hash_of};
+ghost use Rattle.scc_common.specs.Routing.{stripe_number, stripe_of};
 ghost use Rattle.std.specs.Arc.{arc_value};
 ghost use Rattle.std.specs.Prelude.{◌≡◌, ◌≤◌, ◌<◌, ◌^◌, IfOk, IfSome, vec_len};
 
@@ -11,7 +11,7 @@ pub mod parts;
 pub mod seats;
 pub mod shares;
 
-use crate::shares::share;
+use crate::shares::{share, sizes_for};
 pub use parts::OpenStripes;
 use scc_buckets::place::bucket_index;
 use scc_common::MakeError;
@@ -70,13 +70,27 @@ pub struct Striped<O, H> {
 impl<O, H> Striped<O, H> {
     ghost use Rattle.scc_stripes.specs.Stripes.{reservation_slots, stripe_bits, stripe_count, stripes_hasher};
 
-    /// Makes 2^`bits` empty containers, each with its share of `slots` and of `maximum`, and locks around them.
+    /// Makes empty containers for at least `capacity` slots together, divided evenly among them, and locks around
+    /// them. There are as many as get 64 slots or more each, at most 16, and 16 without arrays if `capacity` is 0.
+    /// Fails if memory is refused.
+    pub fn with_capacity(alloc: Global, capacity: usize, hasher: H) -> Result<Self, MakeError>
+    where
+        O: Part<H> + Drop,
+        H: Drop,
+        ensures hasher { IfOk result (λ s. stripes_hasher s ≡ hasher) }
+    {
+        let (bits, slots) = sizes_for(capacity);
+        Striped::make(alloc, bits, slots, 0, hasher)
+    }
+
+    /// Makes 2^`bits` empty containers, each with its share of `slots` and of `maximum`, and locks around them. Fails
+    /// if memory is refused.
     pub fn make(
         alloc: Global,
         bits: u32,
         slots: usize,
         maximum: usize,
-        hasher: Arc<H>,
+        hasher: H,
     ) -> Result<Self, MakeError>
     where
         O: Part<H> + Drop,
@@ -85,9 +99,12 @@ impl<O, H> Striped<O, H> {
         requires slots { slots ≤ 2 ^ 63 }
         requires maximum { maximum ≤ 2 ^ 63 }
         ensures bits { IfOk result (λ s. stripe_bits s ≡ bits) }
-        ensures hasher { IfOk result (λ s. stripes_hasher s ≡ arc_value hasher) }
+        ensures hasher { IfOk result (λ s. stripes_hasher s ≡ hasher) }
     {
-        OpenStripes::make(alloc, bits, slots, maximum, hasher)?.lock(alloc)
+        let Ok(owner) = Arc::new(alloc, hasher) else {
+            return Err(MakeError);
+        };
+        OpenStripes::make(alloc, bits, slots, maximum, owner)?.lock(alloc)
     }
 
     /// Returns one more owner of the hasher.

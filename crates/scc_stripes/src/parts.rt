@@ -1,10 +1,10 @@
 //! `OpenStripes`: the containers that will be stripes, before they have locks.
-ghost use Rattle.scc_contents.specs.Routing.{stripe_of};
+ghost use Rattle.scc_common.specs.Routing.{stripe_of};
 ghost use Rattle.std.specs.Arc.{arc_value};
 ghost use Rattle.std.specs.Fn.{FnOnceReturnsAtMut};
 ghost use Rattle.std.specs.Prelude.{◌≡◌, ◌≤◌, ◌<◌, ◌^◌, IfOk, Some, slice_get, slice_set, vec_len};
 
-use crate::shares::{ReserveBook, share};
+use crate::shares::{ReserveBook, share, sizes_for};
 use crate::{Part, Striped};
 use scc_buckets::place::bucket_index;
 use scc_common::MakeError;
@@ -63,6 +63,19 @@ impl<O, H> OpenStripes<O, H> {
             bits,
             slots,
         })
+    }
+
+    /// Makes empty containers under the hasher of `stripes`, as many and of the sizes that `Striped::with_capacity`
+    /// makes for `capacity`. Fails if memory is refused.
+    pub fn alike(alloc: Global, stripes: &Striped<O, H>, capacity: usize) -> Result<Self, MakeError>
+    where
+        O: Part<H> + Drop,
+        H: Drop,
+        ensures hasher { IfOk result (λ p. parts_hasher p ≡ stripes_hasher stripes.now) }
+    {
+        let owner = stripes.owner()?;
+        let (bits, slots) = sizes_for(capacity);
+        OpenStripes::make(alloc, bits, slots, 0, owner)
     }
 
     /// Returns the number of the part of the key `k`, which will be the number of its stripe.

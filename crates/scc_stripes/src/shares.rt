@@ -2,7 +2,7 @@
 ghost use Rattle.scc_stripes.specs.Stripes.{share_of, reservation_slots};
 ghost use Rattle.std.specs.Prelude.{◌≡◌, ◌≤◌, ◌<◌, ◌+◌, ◌*◌, ◌^◌, ◌⊎◌, IfSome};
 
-use scc_buckets::sizes::GREATEST_CAPACITY;
+use scc_buckets::sizes::{GREATEST_CAPACITY, slots_for};
 use std::sync::atomic::{AtomicU64, Ordering};
 use std::sync::{Mutex, Wait};
 
@@ -24,6 +24,19 @@ pub fn bits_for(slots: usize) -> u32
     } else {
         4
     }
+}
+
+/// Returns the bits that name a stripe and the slots of all stripes together, for at least `capacity` slots. If
+/// `capacity` is 0, there are 16 stripes without slots; otherwise the slots are those of one array for `capacity`.
+pub fn sizes_for(capacity: usize) -> (u32, usize)
+    ensures few { result.0 ≤ 4 }
+    ensures most { result.1 ≤ 2 ^ 63 }
+{
+    if capacity == 0 {
+        return (4, 0);
+    }
+    let slots = slots_for(capacity);
+    (bits_for(slots), slots)
 }
 
 /// Returns the share of one of 2^`bits` stripes, rounded up.

@@ -3,11 +3,11 @@ use Rattle.std.proofs.Common.{◌≡◌, ◌++◌, suc, [], Bool, true, Some, le
 use Rattle.std.specs.Cmp.{IsEquivalence}
 use Rattle.std.specs.List.{IsDistinct, remove, slice_get}
 use Rattle.std.specs.Map.{keys_of, set_key, set_value}
-use Rattle.scc_contents.specs.Contents.{Contents, entries, refused_of}
-use Rattle.scc_contents.specs.Pairs.{with_pair_key, with_pair_value, without}
+use Rattle.scc_common.specs.Contents.{Contents, entries, refused_of}
+use Rattle.scc_common.specs.Pairs.{with_pair_key, with_pair_value, without}
 use Rattle.scc_buckets.specs.Placed as spots
 use Rattle.scc_buckets.specs.Places as places
-use Rattle.scc_contents.specs.Steps.{Holds, HoldsExactly}
+use Rattle.scc_common.specs.Steps.{Holds, HoldsExactly}
 use Rattle.scc_buckets.specs.declared.place.Place.{Place}
 use Rattle.scc_buckets.proofs.KeyWrites as writing
 use Rattle.scc_buckets.proofs.PairWrites.{IsPlaceOf}

@@ -7,9 +7,9 @@ use Rattle.std.proofs.lemmas.List.{length-replicate}
 use Rattle.std.proofs.lemmas.List.Concat.{length-flat_map}
 use Rattle.scc_array.specs.Shelves.{shelf_of}
 use Rattle.scc_array.specs.Shelf.{Shelf, shelf_entries, empty_shelf}
-use Rattle.scc_contents.specs.Contents.{Contents, Settings, entries, bucket_count, lists_of, settings_of, overflow_of, pending_of}
+use Rattle.scc_common.specs.Contents.{Contents, Settings, entries, bucket_count, lists_of, settings_of, overflow_of, pending_of}
 use Rattle.scc_buckets.specs.Pour.{IsRegrouped}
-use Rattle.scc_contents.specs.Sizes.{IsBucketCount}
+use Rattle.scc_common.specs.Sizes.{IsBucketCount}
 use Rattle.scc_buckets.specs.Tables.{IsBuckets}
 use Rattle.scc_buckets.proofs.Arrays.{shelf-at}
 use Rattle.scc_draining.specs.Moves.{TakesOver}

@@ -8,8 +8,8 @@ use Rattle.std.proofs.lemmas.List.Sorted.{IsPermutation-append_right, IsPermutat
 use native.Mathlib.Decide.{dec_lt}
 use Rattle.scc_array.specs.Shelves.{shelf_of}
 use Rattle.scc_array.specs.Shelf.{Shelf, empty_shelf, shelf_entries}
-use Rattle.scc_contents.specs.Clones.{AddsClones, HasClones}
-use Rattle.scc_contents.specs.Contents.{Contents, entries, bucket_count, settings_of}
+use Rattle.scc_common.specs.Clones.{AddsClones, HasClones}
+use Rattle.scc_common.specs.Contents.{Contents, entries, bucket_count, settings_of}
 use Rattle.scc_buckets.specs.Tables.{overflow_in}
 use Rattle.scc_draining.specs.Moves.{AreOwn}
 use Rattle.scc_draining.proofs.FromBuckets.{few-each}

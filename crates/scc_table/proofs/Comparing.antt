@@ -7,7 +7,7 @@ use Rattle.std.specs.Map.{keys_of, lookup_entry, remove_entry}
 use Rattle.std.specs.Option.{option_eq}
 use Rattle.std.proofs.lemmas.Map.Keys.{IsDistinct-head, IsDistinct-tail, IsDistinct-cons}
 use Rattle.std.proofs.lemmas.Bool.{false≢true}
-use Rattle.scc_contents.specs.Walks.{Walks, ended, stopped, went_on}
+use Rattle.scc_common.specs.Walks.{Walks, ended, stopped, went_on}
 use Rattle.scc_buckets.proofs.Lookups.{by_option, place-of_find, find-without, distinct-remove_entry}
 use Rattle.scc_buckets.proofs.PairSplits.{by_answer, cond-true, cond-false, found-place, none-find, apart-keys}
 

@@ -2,7 +2,7 @@
 use Rattle.std.proofs.Common.{◌≡◌, ℕ, Bool, [], Option, Some, None, sym, ap, subst, ◌∙◌}
 use Rattle.std.specs.Cmp.{IsEquivalence}
 use Rattle.std.specs.List.{position}
-use Rattle.scc_contents.specs.Contents.{Contents, Settings, owed_of, settings_of}
+use Rattle.scc_common.specs.Contents.{Contents, Settings, owed_of, settings_of}
 use Rattle.scc_buckets.specs.OneList.{IsSwappedOutOf}
 use Rattle.scc_buckets.specs.Takes.{TakesFirstSpot}
 use Rattle.scc_table.specs.Places.{spot_of}

@@ -1,9 +1,9 @@
 -- The entries of one bucket among twice as many buckets.
 use Rattle.std.proofs.Common.{◌≡◌, ◌==◌, ℕ, ◌*◌, ◌/◌, Bool, true, List, [], ◌∷◌, length, refl, sym, ap, ◌∙◌, arith, eqb-true, eq-eqb}
 use Rattle.std.specs.List.{filter}
-use Rattle.scc_contents.specs.Contents.{Contents, entries, bucket_count, list_of, settings_of, IsRouted}
+use Rattle.scc_common.specs.Contents.{Contents, entries, bucket_count, list_of, settings_of, IsRouted}
 use Rattle.scc_buckets.specs.Pour.{bound_for}
-use Rattle.scc_contents.specs.Routing.{bucket_number}
+use Rattle.scc_common.specs.Routing.{bucket_number}
 use Rattle.scc_buckets.proofs.PairSplits.{by_answer}
 use Rattle.scc_table.proofs.Listed.{listed-is}
 use Rattle.scc_draining.proofs.Numbers.{number-div}

@@ -4,8 +4,8 @@ use Rattle.std.specs.List.{find, flat_map}
 use Rattle.scc_array.proofs.Finds.{find-filter}
 use Rattle.scc_array.specs.Shelves.{shelf_of}
 use Rattle.scc_array.specs.Shelf.{Shelf, shelf_entries}
-use Rattle.scc_contents.specs.Contents.{Contents, entries, bucket_count, list_of, settings_of, IsRouted}
-use Rattle.scc_contents.specs.Routing.{bucket_number}
+use Rattle.scc_common.specs.Contents.{Contents, entries, bucket_count, list_of, settings_of, IsRouted}
+use Rattle.scc_common.specs.Routing.{bucket_number}
 use Rattle.scc_buckets.proofs.FindingLemmas.{HashOf}
 use Rattle.scc_buckets.proofs.Finds as table
 use Rattle.scc_table.specs.TwoArrays.{together, TwoArrays, waits_at}

@@ -2,7 +2,7 @@
 use Rattle.std.proofs.Common.{◌≡◌, ◌==◌, ℕ, zero, suc, ◌+◌, Bool, true, false, List, [], ◌∷◌, set, refl, sym, ap, ◌∙◌, arith, rules}
 use Rattle.std.specs.List.{count_by}
 use Rattle.scc_buckets.specs.Bounded.{IsBounded}
-use Rattle.scc_contents.specs.Contents.{Contents, lists_of, settings_of, refused_of, waiting_of, pending_of}
+use Rattle.scc_common.specs.Contents.{Contents, lists_of, settings_of, refused_of, waiting_of, pending_of}
 use Rattle.scc_buckets.proofs.PairSplits.{by_answer}
 use Rattle.scc_table.specs.Relocates.{AreShort}
 use Rattle.scc_table.specs.TwoArrays.{IsRelocated, IsWaiting, waits_at, cleared}

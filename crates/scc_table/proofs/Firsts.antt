@@ -5,10 +5,10 @@ use Rattle.std.specs.List.Sorted.{IsPermutation}
 use Rattle.std.proofs.lemmas.List.{nil_from_length}
 use Rattle.std.proofs.lemmas.List.Sorted.{IsPermutation-refl}
 use Rattle.scc_array.specs.Shelf.{shelf_entries}
-use Rattle.scc_contents.specs.Contents.{Contents, entries, bucket_count, minimum_of, settings_of, overflow_of}
-use Rattle.scc_contents.specs.Routing.{bucket_number}
-use Rattle.scc_contents.specs.Sizes.{IsBucketCount, IsArraySize}
-use Rattle.scc_contents.specs.Steps.{Grows, IsUnchanged, Rests}
+use Rattle.scc_common.specs.Contents.{Contents, entries, bucket_count, minimum_of, settings_of, overflow_of}
+use Rattle.scc_common.specs.Routing.{bucket_number}
+use Rattle.scc_common.specs.Sizes.{IsBucketCount, IsArraySize}
+use Rattle.scc_common.specs.Steps.{Grows, IsUnchanged, Rests}
 use Rattle.scc_draining.specs.Moves.{AreOwn}
 use Rattle.scc_table.specs.TwoArrays.{Draining, IsTable, waits_at}
 use Rattle.scc_table.proofs.Alone.{entries-alone, nothing-owed}

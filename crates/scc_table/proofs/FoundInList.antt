@@ -3,9 +3,9 @@ use Rattle.std.proofs.Common.{◌≡◌, ℕ, zero, suc, ◌+◌, ◌<◌, ◌�
 use Rattle.std.specs.List.{flat_map, position}
 use native.Mathlib.Decide.{dec_lt}
 use Rattle.scc_buckets.specs.Bounded.{IsListedAtSpot, IsUnlisted}
-use Rattle.scc_contents.specs.Contents.{Contents, entries, bucket_count, list_of, lists_of, settings_of, IsRouted}
+use Rattle.scc_common.specs.Contents.{Contents, entries, bucket_count, list_of, lists_of, settings_of, IsRouted}
 use Rattle.scc_buckets.specs.Places.{IsFoundAtSpot, IsSpot, index_of_spot}
-use Rattle.scc_contents.specs.Routing.{bucket_number}
+use Rattle.scc_common.specs.Routing.{bucket_number}
 use Rattle.scc_buckets.specs.declared.place.Place.{Place}
 use Rattle.scc_buckets.proofs.FindingLemmas.{HashOf}
 use Rattle.scc_buckets.proofs.Spots.{before}

@@ -8,12 +8,12 @@ use Rattle.std.proofs.lemmas.List.FromFn.{length-range_with_len}
 use Rattle.std.proofs.lemmas.List.Sorted.{sum_by-IsPermutation}
 use Rattle.std.proofs.lemmas.List.Sums.{length-filter}
 use Rattle.scc_array.proofs.ListsLemmas.{get-below, get-right}
-use Rattle.scc_contents.specs.Contents.{Contents, entries, bucket_count, list_of, settings_of, owed_of, pending_of, waiting_of, IsRouted}
+use Rattle.scc_common.specs.Contents.{Contents, entries, bucket_count, list_of, settings_of, owed_of, pending_of, waiting_of, IsRouted}
 use Rattle.scc_buckets.specs.OneList.{IsPutIn}
 use Rattle.scc_buckets.specs.Places as spots
 use Rattle.scc_buckets.specs.Pour.{bound_for, IsRegrouped}
-use Rattle.scc_contents.specs.Routing.{bucket_number}
-use Rattle.scc_contents.specs.Steps.{Rests}
+use Rattle.scc_common.specs.Routing.{bucket_number}
+use Rattle.scc_common.specs.Steps.{Rests}
 use Rattle.scc_buckets.specs.declared.place.Place.{Place}
 use Rattle.scc_buckets.proofs.Pours.{bound_append, bound_here, bound_other}
 use Rattle.scc_buckets.proofs.Resizes.{rests-resizes, then-resized}

@@ -7,10 +7,10 @@ use Rattle.std.proofs.lemmas.List.{append-nil}
 use Rattle.std.proofs.lemmas.List.Edits.{length-insert}
 use Rattle.std.proofs.lemmas.List.Sorted.{IsPermutation-insert, IsPermutation-trans, IsPermutation-append_comm, IsPermutation-append_left, IsPermutation-append_right}
 use Rattle.std.proofs.lemmas.List.Sums.{sum_by-cons}
-use Rattle.scc_contents.specs.Contents.{Contents, entries, bucket_count, list_of, lists_of}
+use Rattle.scc_common.specs.Contents.{Contents, entries, bucket_count, list_of, lists_of}
 use Rattle.scc_buckets.specs.OneList.{IsPutIn}
 use Rattle.scc_buckets.specs.Places.{IsInsertedAtSpot, IsSpot}
-use Rattle.scc_contents.specs.Steps.{Holds}
+use Rattle.scc_common.specs.Steps.{Holds}
 use Rattle.scc_buckets.specs.declared.place.Place.{Place}
 use Rattle.scc_buckets.proofs.FindingLemmas.{position_hit, position_cons}
 use Rattle.scc_buckets.proofs.Inserts.{none_left}

@@ -3,12 +3,12 @@ use Rattle.std.proofs.Common.{List, ◌++◌, Bool, true, Result, Ok, refl}
 use Rattle.std.specs.Borrow.{Bor, MutBor}
 use Rattle.std.specs.Fn.{Mut}
 use denote.Param.Always.{always_mut, mut_next}
-use Rattle.scc_contents.specs.Walks.{CalledOn, Walks}
-use Rattle.scc_contents.specs.Walks as walks
+use Rattle.scc_common.specs.Walks.{CalledOn, Walks}
+use Rattle.scc_common.specs.Walks as walks
 use Rattle.scc_common.specs.declared.errors.WalkError.{WalkError}
 use Rattle.scc_common.specs.declared.verdict.Verdict.{Verdict}
-use Rattle.scc_contents.specs.PairWalks.{CalledToWrite, Retains, Takes, Declines}
-use Rattle.scc_contents.specs.PairWalks as pairs
+use Rattle.scc_common.specs.PairWalks.{CalledToWrite, Retains, Takes, Declines}
+use Rattle.scc_common.specs.PairWalks as pairs
 
 module _ {F K V : Type 0} where
   pub retains-join : {T : F → K × V → Bool → V → F → Type 0} {f m last : F} {es fs stay more : List (K × V)} → Retains T f es stay m → Retains T m fs more last → Retains T f (es ++ fs) (stay ++ more) last

@@ -2,7 +2,7 @@
 use Rattle.std.proofs.Common.{◌≡◌, ◌==◌, ℕ, zero, suc, ◌+◌, ◌<◌, ◌⊎◌, inl, inr, Bool, cond, List, [], ◌∷◌, length, get_or, refl, sym, ap, ◌∙◌, arith}
 use Rattle.std.specs.List.{filter, flat_map, count_by}
 use Rattle.scc_array.specs.Shelf.{Shelf, shelf_entries}
-use Rattle.scc_contents.specs.Contents.{Contents, bucket_count, lists_of, settings_of, refused_of, waiting_of, owed_of, pending_of}
+use Rattle.scc_common.specs.Contents.{Contents, bucket_count, lists_of, settings_of, refused_of, waiting_of, owed_of, pending_of}
 use Rattle.scc_table.specs.TwoArrays.{joined, together, target_by, waits_at, owed_in}
 
 module _ {E : Type 0} (target : E → ℕ) (es : List E) where

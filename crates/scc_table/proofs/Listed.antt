@@ -4,8 +4,8 @@ use Rattle.std.specs.List.{count_by, filter, flat_map, slice_get}
 use Rattle.std.proofs.lemmas.List.{append-nil}
 use Rattle.std.proofs.lemmas.List.Elements.{filter-append}
 use Rattle.std.proofs.lemmas.List.Sums.{length-filter}
-use Rattle.scc_contents.specs.Contents.{Contents, entries, bucket_count, list_of, settings_of, IsRouted}
-use Rattle.scc_contents.specs.Routing.{bucket_number}
+use Rattle.scc_common.specs.Contents.{Contents, entries, bucket_count, list_of, settings_of, IsRouted}
+use Rattle.scc_common.specs.Routing.{bucket_number}
 use Rattle.scc_table.proofs.RelocatingLemmas.{not_equal}
 
 module _ {E : Type 0} (f : E → ℕ) (i : ℕ) where

@@ -11,10 +11,10 @@ use native.Mathlib.Decide.{dec_lt}
 use Rattle.scc_array.specs.Shelf.{Shelf}
 use Rattle.scc_array.proofs.ListsLemmas.{get-below, get-is}
 use Rattle.scc_buckets.specs.Bounded.{HasList, IsBounded, IsListed, PutsLast}
-use Rattle.scc_contents.specs.Contents.{Contents, entries, bucket_count, list_of, lists_of, settings_of, IsUniqueBy}
+use Rattle.scc_common.specs.Contents.{Contents, entries, bucket_count, list_of, lists_of, settings_of, IsUniqueBy}
 use Rattle.scc_buckets.specs.Places.{IsSpot, index_of_spot}
-use Rattle.scc_contents.specs.Routing.{bucket_number}
-use Rattle.scc_contents.specs.Sizes.{IsLawful}
+use Rattle.scc_common.specs.Routing.{bucket_number}
+use Rattle.scc_common.specs.Sizes.{IsLawful}
 use Rattle.scc_buckets.specs.declared.place.Place.{Place}
 use Rattle.scc_buckets.proofs.Bounds as bounds
 use Rattle.scc_buckets.proofs.FindingLemmas.{position_cons, position_hit}

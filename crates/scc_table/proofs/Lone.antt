@@ -3,11 +3,11 @@ use Rattle.std.proofs.Common.{◌≡◌, ℕ, ◌+◌, ◌*◌, ◌^◌, ◌<◌
 use Rattle.std.specs.List.{filter, flat_map, slice_get, IsDistinct}
 use Rattle.std.specs.List.Sorted.{IsPermutation}
 use Rattle.scc_array.specs.Shelf.{shelf_entries}
-use Rattle.scc_contents.specs.Contents.{Contents, entries, bucket_count, owed_of, lists_of, minimum_of, settings_of, overflow_of, waiting_of}
+use Rattle.scc_common.specs.Contents.{Contents, entries, bucket_count, owed_of, lists_of, minimum_of, settings_of, overflow_of, waiting_of}
 use Rattle.scc_buckets.specs.Places as spots
-use Rattle.scc_contents.specs.Routing.{bucket_number}
-use Rattle.scc_contents.specs.Sizes.{IsBucketCount, IsArraySize}
-use Rattle.scc_contents.specs.Steps.{FirstArrayWhenDue, Grows, IsUnchanged}
+use Rattle.scc_common.specs.Routing.{bucket_number}
+use Rattle.scc_common.specs.Sizes.{IsBucketCount, IsArraySize}
+use Rattle.scc_common.specs.Steps.{FirstArrayWhenDue, Grows, IsUnchanged}
 use Rattle.scc_buckets.specs.declared.place.Place.{Place}
 use Rattle.scc_draining.specs.Moves.{AreOwn}
 use Rattle.scc_table.specs.Places.{IsInsertedAt, spot_of}

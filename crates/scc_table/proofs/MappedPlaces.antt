@@ -1,7 +1,7 @@
 -- Places of two arrays whose entries are seen through a function.
 use Rattle.std.proofs.Common.{◌≡◌, ℕ, sym, ap, subst, ◌∙◌}
-use Rattle.scc_contents.specs.Contents.{Contents, owed_of, waiting_of}
-use Rattle.scc_contents.specs.Mapped.{mapped}
+use Rattle.scc_common.specs.Contents.{Contents, owed_of, waiting_of}
+use Rattle.scc_common.specs.Mapped.{mapped}
 use Rattle.scc_buckets.specs.Places as places
 use Rattle.scc_buckets.specs.declared.place.Place.{Place}
 use Rattle.scc_buckets.proofs.Mapped as mapping

@@ -2,8 +2,8 @@
 use Rattle.std.proofs.Common.{◌≡◌, ◌∙◌, ℕ, zero, suc, inl, inr, List, [], ◌∷◌, length, map, refl, sym, ap}
 use Rattle.std.specs.List.{filter, range_with_len, slice_index_or}
 use Rattle.std.proofs.lemmas.List.{length-map}
-use Rattle.scc_contents.specs.Contents.{Contents, owed_of, list_of, waiting_of}
-use Rattle.scc_contents.specs.Mapped.{mapped}
+use Rattle.scc_common.specs.Contents.{Contents, owed_of, list_of, waiting_of}
+use Rattle.scc_common.specs.Mapped.{mapped}
 use Rattle.scc_buckets.proofs.Mapped.{bucket_count-mapped, length-mapped, pending_of-mapped, settings_of-mapped}
 use Rattle.scc_table.specs.Relocates.{AreMovedFrom, AreShort, IsBelowMinimum, IsShrinkDue, Spreads}
 use Rattle.scc_table.specs.Relocations.{Relocates, RelocatesNone, RelocatesTwo}

@@ -2,7 +2,7 @@
 use Rattle.std.proofs.Common.{◌≡◌, ◌≢◌, ◌∙◌, ◌*◌, ◌^◌, ◌<◌, ◌≤◌, ℕ, Bool, true, false, inl, inr, Result, length, sym, ap, arith}
 use Rattle.std.specs.List.{count_by}
 use Rattle.std.proofs.lemmas.Bool.{cases_order}
-use Rattle.scc_contents.specs.Contents.{Contents, HasRoomAt, bucket_count, entries, lists_of, pending_of, refused_of, settings_of}
+use Rattle.scc_common.specs.Contents.{Contents, HasRoomAt, bucket_count, entries, lists_of, pending_of, refused_of, settings_of}
 use Rattle.scc_table.specs.Growths.{FindsBucketForNew}
 use Rattle.scc_table.specs.Marks.{IsGrowthDue, MarksPreparation}
 use Rattle.scc_table.proofs.Finishing.{pending-is}

@@ -5,7 +5,7 @@ use Rattle.std.specs.List.{count_by, flat_map, slice_get}
 use native.Mathlib.Decide.{dec_lt}
 use Rattle.scc_array.specs.Shelves.{shelf_of}
 use Rattle.scc_array.specs.Shelf.{Shelf, shelf_entries, empty_shelf}
-use Rattle.scc_contents.specs.Contents.{Contents, bucket_count, entries, owed_of, list_of, settings_of, waiting_of}
+use Rattle.scc_common.specs.Contents.{Contents, bucket_count, entries, owed_of, list_of, settings_of, waiting_of}
 use Rattle.scc_buckets.specs.Places as spots
 use Rattle.scc_buckets.specs.Pour.{bound_for}
 use Rattle.scc_buckets.specs.Tables.{overflow_in}

@@ -2,7 +2,7 @@
 use Rattle.std.proofs.Common.{◌≡◌, ℕ, Bool, false, List, [], Result, Ok, Err, ap, sym, ◌∙◌}
 use Rattle.std.specs.Prelude.{IfOk, IfErr}
 use Rattle.std.specs.List.{count_by}
-use Rattle.scc_contents.specs.Contents.{Contents, pending_of, waiting_of}
+use Rattle.scc_common.specs.Contents.{Contents, pending_of, waiting_of}
 use Rattle.scc_table.specs.TwoArrays.{waits_at}
 use Rattle.scc_table.proofs.Finishing.{pending-is}
 use Rattle.scc_table.proofs.RelocatingLemmas.{none-up}

@@ -7,7 +7,7 @@ use native.Mathlib.Decide.{dec_lt}
 use Rattle.scc_array.specs.Shelves.{shelf_of}
 use Rattle.scc_array.specs.Shelf.{Shelf, shelf_entries, empty_shelf}
 use Rattle.scc_array.proofs.ListsLemmas.{get-below, get-right}
-use Rattle.scc_contents.specs.Contents.{Contents, entries, bucket_count, list_of, lists_of, settings_of, owed_of}
+use Rattle.scc_common.specs.Contents.{Contents, entries, bucket_count, list_of, lists_of, settings_of, owed_of}
 use Rattle.scc_buckets.specs.Places as spots
 use Rattle.scc_buckets.specs.Pour.{bound_for}
 use Rattle.scc_buckets.specs.declared.place.Place.{Place}

@@ -2,8 +2,8 @@
 use Rattle.std.proofs.Common.{◌≡◌, ◌≢◌, ℕ, ◌<◌, ◌⊎◌, inl, inr, true, [], replicate, refl, sym, ap, ◌∙◌, arith}
 use Rattle.std.specs.List.{count_by}
 use Rattle.std.proofs.lemmas.Bool.{cases_order}
-use Rattle.scc_contents.specs.Contents.{Contents, HasRoomAt, bucket_count, lists_of, pending_of, refused_of, settings_of, waiting_of}
-use Rattle.scc_contents.specs.Steps.{Grows, IsPreparedAt, Prepares, Rests}
+use Rattle.scc_common.specs.Contents.{Contents, HasRoomAt, bucket_count, lists_of, pending_of, refused_of, settings_of, waiting_of}
+use Rattle.scc_common.specs.Steps.{Grows, IsPreparedAt, Prepares, Rests}
 use Rattle.scc_table.proofs.Finishing.{pending-is}
 use Rattle.scc_table.proofs.InstallingLemmas.{count-up}
 use Rattle.scc_table.proofs.Same.{count-same, entries-same, pending-same}

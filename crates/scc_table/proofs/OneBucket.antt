@@ -6,9 +6,9 @@ use Rattle.std.proofs.lemmas.List.Sums.{count_by-le-length}
 use Rattle.std.proofs.lemmas.List.Concat.{length-flat_map}
 use Rattle.scc_array.specs.Shelves.{shelf_of}
 use Rattle.scc_array.specs.Shelf.{Shelf, shelf_entries}
-use Rattle.scc_contents.specs.Contents.{Contents, bucket_count, list_of, lists_of, settings_of, waiting_of, owed_of, pending_of}
-use Rattle.scc_contents.specs.Routing.{bucket_number}
-use Rattle.scc_contents.specs.Sizes.{IsBucketCount}
+use Rattle.scc_common.specs.Contents.{Contents, bucket_count, list_of, lists_of, settings_of, waiting_of, owed_of, pending_of}
+use Rattle.scc_common.specs.Routing.{bucket_number}
+use Rattle.scc_common.specs.Sizes.{IsBucketCount}
 use Rattle.scc_buckets.specs.Pour.{bound_for}
 use Rattle.scc_draining.specs.Moves.{AreMultiples, TakesOver}
 use Rattle.scc_draining.proofs.Counted.{bound-le}

@@ -4,10 +4,10 @@ use Rattle.std.specs.List.{filter, flat_map, count_by, insert, slice_get}
 use Rattle.std.specs.List.Sorted.{IsPermutation}
 use Rattle.std.proofs.lemmas.List.{drop_all, get_or_default, nil_from_length}
 use Rattle.scc_array.proofs.ListsLemmas.{get-index}
-use Rattle.scc_contents.specs.Contents.{Contents, entries, bucket_count, list_of, lists_of, settings_of, waiting_of, owed_of, pending_of, bucket_of, HasRoomBy, IsRouted}
+use Rattle.scc_common.specs.Contents.{Contents, entries, bucket_count, list_of, lists_of, settings_of, waiting_of, owed_of, pending_of, bucket_of, HasRoomBy, IsRouted}
 use Rattle.scc_buckets.specs.OneList.{IsPutIn}
 use Rattle.scc_buckets.specs.Places as spots
-use Rattle.scc_contents.specs.Routing.{bucket_number}
+use Rattle.scc_common.specs.Routing.{bucket_number}
 use Rattle.scc_buckets.specs.declared.place.Place.{Place}
 use Rattle.scc_buckets.proofs.PairSplits.{by_answer}
 use Rattle.scc_buckets.proofs.Resizes.{rests-inserted}

@@ -4,9 +4,9 @@ use Rattle.std.specs.List.{filter, flat_map, IsDistinct}
 use Rattle.std.proofs.lemmas.List.{get_or_past}
 use native.Mathlib.Decide.{dec_lt}
 use Rattle.scc_array.specs.Shelf.{Shelf, shelf_entries}
-use Rattle.scc_contents.specs.Contents.{Contents, entries, bucket_count, list_of, lists_of, settings_of}
+use Rattle.scc_common.specs.Contents.{Contents, entries, bucket_count, list_of, lists_of, settings_of}
 use Rattle.scc_buckets.specs.Pour.{bound_for}
-use Rattle.scc_contents.specs.Sizes.{IsBucketCount}
+use Rattle.scc_common.specs.Sizes.{IsBucketCount}
 use Rattle.scc_buckets.proofs.PairSplits.{by_answer}
 use Rattle.scc_draining.specs.Moves.{AreMultiples}
 use Rattle.scc_table.specs.TwoArrays.{joined, waits_at, target_by, together, TwoArrays}

@@ -1,9 +1,9 @@
 -- Walks that go from place to place of two arrays.
 use Rattle.std.proofs.Common.{◌≡◌, ℕ, zero, suc, ◌<◌, ◌-◌, ◌++◌, Bool, true, false, List, [], ◌∷◌, length, Option, None, Some, MatchOption, IfSome, take, drop, refl, sym, ap, ◌∙◌, arith}
 use Rattle.std.specs.List.{slice_get}
-use Rattle.scc_contents.specs.Walks.{Walks, ended, stopped, went_on}
-use Rattle.scc_contents.proofs.WalkLemmas.{walk-append}
-use Rattle.scc_contents.specs.Contents.{Contents, entries}
+use Rattle.scc_common.specs.Walks.{Walks, ended, stopped, went_on}
+use Rattle.scc_common.proofs.WalkLemmas.{walk-append}
+use Rattle.scc_common.specs.Contents.{Contents, entries}
 use Rattle.scc_buckets.specs.Places as spots
 use Rattle.scc_buckets.specs.Standing as standing
 use Rattle.scc_buckets.specs.declared.place.Place.{Place}

@@ -7,10 +7,10 @@ use Rattle.std.proofs.lemmas.List.Sums.{sum_by-cons}
 use native.Mathlib.Decide.{dec_lt}
 use Rattle.scc_array.specs.Shelves.{shelf_of}
 use Rattle.scc_array.specs.Shelf.{Shelf, shelf_entries}
-use Rattle.scc_contents.specs.Contents.{Contents, entries, bucket_count, list_of, lists_of, settings_of, overflow_of, waiting_of}
+use Rattle.scc_common.specs.Contents.{Contents, entries, bucket_count, list_of, lists_of, settings_of, overflow_of, waiting_of}
 use Rattle.scc_buckets.specs.Pour.{bound_for}
-use Rattle.scc_contents.specs.Routing.{bucket_number}
-use Rattle.scc_contents.specs.Sizes.{IsBucketCount}
+use Rattle.scc_common.specs.Routing.{bucket_number}
+use Rattle.scc_common.specs.Sizes.{IsBucketCount}
 use Rattle.scc_buckets.specs.Tables.{overflow_in}
 use Rattle.scc_buckets.proofs.PairSplits.{by_answer}
 use Rattle.scc_draining.specs.Moves.{others_for, AreMultiples, AreOwn, TakesOver}

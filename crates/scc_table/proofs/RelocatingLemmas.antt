@@ -8,7 +8,7 @@ use native.Mathlib.Decide.{dec_lt}
 use Rattle.scc_array.specs.Shelves.{shelf_of}
 use Rattle.scc_array.specs.Shelf.{Shelf, shelf_entries}
 use Rattle.scc_buckets.specs.Pour.{bound_for}
-use Rattle.scc_contents.specs.Routing.{bucket_number}
+use Rattle.scc_common.specs.Routing.{bucket_number}
 use Rattle.scc_buckets.proofs.PairSplits.{by_answer}
 use Rattle.scc_draining.specs.Moves.{others_for}
 use Rattle.scc_table.specs.TwoArrays.{joined, waits_at}

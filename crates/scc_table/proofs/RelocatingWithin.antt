@@ -2,7 +2,7 @@
 use Rattle.std.proofs.Common.{◌≡◌, ℕ, zero, suc, ◌+◌, ◌<◌, ◌≤◌, inl, inr, List, [], ◌∷◌, length, drop, get_or, refl, sym, ap, ◌∙◌, subst, arith}
 use Rattle.std.proofs.lemmas.List.{drop_all, get_or-drop, length-drop, nil_from_length}
 use Rattle.scc_buckets.specs.Bounded.{IsBounded}
-use Rattle.scc_contents.specs.Contents.{Contents, list_of, lists_of, settings_of, refused_of, waiting_of, pending_of}
+use Rattle.scc_common.specs.Contents.{Contents, list_of, lists_of, settings_of, refused_of, waiting_of, pending_of}
 use Rattle.scc_table.specs.Relocates.{AreMovedFrom, AreShort}
 use Rattle.scc_table.specs.TwoArrays.{IsFirstWaiting, IsRelocated, IsWaiting, pending_targets, waits_at}
 use Rattle.scc_table.proofs.Finishing.{settle-down}

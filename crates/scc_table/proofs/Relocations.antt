@@ -1,9 +1,9 @@
 -- Which buckets wait after a write, and after a removal that follows one.
 use Rattle.std.proofs.Common.{◌≡◌, refl, arith, sym, subst}
 use Rattle.std.proofs.lemmas.List.Sorted.{length_permutation}
-use Rattle.scc_contents.specs.Contents.{Contents, entries, bucket_count, minimum_of, waiting_of}
-use Rattle.scc_contents.specs.Sizes.{IsSmaller}
-use Rattle.scc_contents.specs.Steps.{Resizes}
+use Rattle.scc_common.specs.Contents.{Contents, entries, bucket_count, minimum_of, waiting_of}
+use Rattle.scc_common.specs.Sizes.{IsSmaller}
+use Rattle.scc_common.specs.Steps.{Resizes}
 use Rattle.scc_buckets.specs.Writes as writes
 use Rattle.scc_buckets.specs.declared.place.Place.{Place}
 use Rattle.scc_table.specs.Places.{with_write_at}

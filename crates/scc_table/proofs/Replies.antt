@@ -4,10 +4,10 @@ use Rattle.std.specs.Prelude.{IfSome}
 use Rattle.std.specs.Option.{IsSomeAnd}
 use Rattle.std.specs.Borrow.{Bor}
 use Rattle.std.specs.Fn.{Once}
-use Rattle.scc_contents.specs.Pairs.{find}
+use Rattle.scc_common.specs.Pairs.{find}
 use Rattle.scc_buckets.proofs.Lookups.{by_option, place-of_find}
-use Rattle.scc_contents.specs.Closures.{Reads, AnswersAt}
-use Rattle.scc_contents.specs.Replies.{ReadsEqual}
+use Rattle.scc_common.specs.Closures.{Reads, AnswersAt}
+use Rattle.scc_common.specs.Replies.{ReadsEqual}
 
 pub if-map : {A : Type 0} (P Q : A → Type 0) (o : Option A) → ((a : A) → P a → Q a) → IfSome o P → IfSome o Q
 if-map P Q None f h = tt

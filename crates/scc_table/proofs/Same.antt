@@ -6,11 +6,11 @@ use Rattle.std.specs.List.{flat_map, slice_get, count_by, IsDistinct}
 use Rattle.std.specs.declared.hash.Hasher as hasher
 use Rattle.std.specs.declared.hash.BuildHasher as builder
 use Rattle.scc_buckets.specs.Bounded.{IsListed}
-use Rattle.scc_contents.specs.Contents.{Contents, entries, bucket_count, list_of, lists_of, settings_of, overflow_of, waiting_of, pending_of, key_hash, IsUniqueBy}
-use Rattle.scc_contents.specs.Hashing.{hash_of}
+use Rattle.scc_common.specs.Contents.{Contents, entries, bucket_count, list_of, lists_of, settings_of, overflow_of, waiting_of, pending_of, key_hash, IsUniqueBy}
+use Rattle.scc_common.specs.Hashing.{hash_of}
 use Rattle.scc_buckets.specs.Pour.{IsRegrouped, bound_for}
-use Rattle.scc_contents.specs.Sizes.{IsLawful}
-use Rattle.scc_contents.specs.Steps.{IsUnchanged}
+use Rattle.scc_common.specs.Sizes.{IsLawful}
+use Rattle.scc_common.specs.Steps.{IsUnchanged}
 
 module _ {E S : Type 0} (c d : Contents E S) (same : lists_of d ≡ lists_of c) where
   pub entries-same : entries d ≡ entries c

@@ -1,7 +1,7 @@
 -- What the contents of two arrays have of the new one.
 use Rattle.std.proofs.Common.{◌≡◌, ℕ, Bool, List, sym, ap, ◌∙◌}
 use Rattle.scc_array.specs.Shelf.{Shelf}
-use Rattle.scc_contents.specs.Contents.{Contents, bucket_count, settings_of, waiting_of}
+use Rattle.scc_common.specs.Contents.{Contents, bucket_count, settings_of, waiting_of}
 use Rattle.scc_table.specs.TwoArrays.{together, TwoArrays}
 use Rattle.scc_table.proofs.Joining.{count-together, settings-together, waiting-together}
 

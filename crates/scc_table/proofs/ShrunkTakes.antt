@@ -2,9 +2,9 @@
 use Rattle.std.proofs.Common.{◌≡◌, ◌+◌, ◌≤◌, Bool, true, ◌∙◌, ap, sym, subst, length}
 use Rattle.std.specs.List.{remove}
 use Rattle.std.proofs.lemmas.List.Sorted.{length_permutation}
-use Rattle.scc_contents.specs.Contents.{Contents, entries, bucket_count, minimum_of, pending_of, IsUniqueBy}
-use Rattle.scc_contents.specs.Sizes.{IsSmaller}
-use Rattle.scc_contents.specs.Steps.{Resizes, Shrinks, ShrinksWhenDue}
+use Rattle.scc_common.specs.Contents.{Contents, entries, bucket_count, minimum_of, pending_of, IsUniqueBy}
+use Rattle.scc_common.specs.Sizes.{IsSmaller}
+use Rattle.scc_common.specs.Steps.{Resizes, Shrinks, ShrinksWhenDue}
 use Rattle.scc_buckets.proofs.Resizes.{smaller-by, shrinks-after, then-resized}
 use Rattle.scc_buckets.specs.declared.place.Place.{Place}
 use Rattle.scc_table.specs.Places.{index_of}

@@ -1,10 +1,10 @@
 -- A pair that was visited in a walk over two arrays: it stays with what was written, or is taken out.
 use Rattle.std.proofs.Common.{◌≡◌, suc, [], length, Option, Some, MatchOption, IfSome, sym, subst}
 use Rattle.std.specs.List.{slice_get, remove}
-use Rattle.scc_contents.specs.Contents.{Contents, entries}
-use Rattle.scc_contents.specs.Pairs.{with_pair_value}
+use Rattle.scc_common.specs.Contents.{Contents, entries}
+use Rattle.scc_common.specs.Pairs.{with_pair_value}
 use Rattle.scc_buckets.specs.Places as spots
-use Rattle.scc_contents.specs.Steps.{HoldsExactly}
+use Rattle.scc_common.specs.Steps.{HoldsExactly}
 use Rattle.scc_buckets.specs.declared.place.Place.{Place}
 use Rattle.scc_table.specs.Places.{IsPlace, StandsAt, index_of, spot_of, with_write_at}
 use Rattle.scc_table.proofs.Reached.{walk_spot, stands-spot, within-spot, spot-written}

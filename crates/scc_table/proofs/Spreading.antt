@@ -1,7 +1,7 @@
 -- What waits after a resize was tried.
 use Rattle.std.proofs.Common.{◌≡◌, ◌≢◌, ℕ, ◌*◌, ◌<◌, ◌≤◌, length, max, sym, ap, ◌∙◌, subst, arith}
-use Rattle.scc_contents.specs.Contents.{Contents, entries, bucket_count, minimum_of, pending_of, waiting_of, owed_of}
-use Rattle.scc_contents.specs.Sizes.{IsArraySize, IsSmaller}
+use Rattle.scc_common.specs.Contents.{Contents, entries, bucket_count, minimum_of, pending_of, waiting_of, owed_of}
+use Rattle.scc_common.specs.Sizes.{IsArraySize, IsSmaller}
 use Rattle.scc_buckets.proofs.Powers.{size-once}
 use Rattle.scc_table.specs.Relocates.{IsBelowMinimum, IsShrinkDue, Spreads}
 use Rattle.scc_table.specs.TwoArrays.{IsWaiting, waits_at}

@@ -10,7 +10,7 @@ use native.Mathlib.Decide.{dec_lt}
 use Rattle.scc_array.specs.Shelves.{shelf_of}
 use Rattle.scc_array.specs.Shelf.{Shelf, shelf_entries, empty_shelf, without_slot}
 use Rattle.scc_array.proofs.ListsLemmas.{get-below}
-use Rattle.scc_contents.specs.Contents.{owed_of, Contents, entries, bucket_count, list_of, lists_of, settings_of}
+use Rattle.scc_common.specs.Contents.{owed_of, Contents, entries, bucket_count, list_of, lists_of, settings_of}
 use Rattle.scc_buckets.specs.OneList.{IsSwappedOutOf, IsTakenFrom}
 use Rattle.scc_buckets.specs.Places as spots
 use Rattle.scc_buckets.specs.Tables.{overflow_in}

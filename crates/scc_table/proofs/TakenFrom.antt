@@ -8,11 +8,11 @@ use Rattle.std.proofs.lemmas.List.Sorted.{IsPermutation-append_left, IsPermutati
 use Rattle.std.proofs.lemmas.Map.Keys.{IsDistinct-IsPermutation}
 use Rattle.scc_array.proofs.ListsLemmas.{get-below, get-is}
 use Rattle.scc_buckets.specs.Bounded.{HasList, IsBounded}
-use Rattle.scc_contents.specs.Contents.{Contents, entries, bucket_count, list_of, lists_of, IsUniqueBy}
+use Rattle.scc_common.specs.Contents.{Contents, entries, bucket_count, list_of, lists_of, IsUniqueBy}
 use Rattle.scc_buckets.specs.OneList.{IsSwappedOutOf, IsTakenFrom}
 use Rattle.scc_buckets.specs.Placed.{at, at-get}
 use Rattle.scc_buckets.specs.Places.{IsSpot, index_of_spot}
-use Rattle.scc_contents.specs.Steps.{HoldsExactly}
+use Rattle.scc_common.specs.Steps.{HoldsExactly}
 use Rattle.scc_buckets.specs.declared.place.Place.{Place}
 use Rattle.scc_buckets.proofs.Bounds as bounds
 use Rattle.scc_buckets.proofs.Removes.{unique-removed}

@@ -2,16 +2,16 @@
 use Rattle.std.proofs.Common.{◌≡◌, suc, ◌+◌, List, [], ◌∷◌, ◌++◌, length, take, drop, Bool, false, Option, Some, Result, Ok, Err, refl, sym, ap, ◌∙◌, arith, subst, append_assoc, append-nil, take-append-drop, length-append, inl, inr}
 use Rattle.std.specs.List.{slice_get, remove}
 use Rattle.std.proofs.lemmas.List.{nil_from_length}
-use Rattle.scc_contents.specs.Contents.{Contents, entries, list_of}
+use Rattle.scc_common.specs.Contents.{Contents, entries, list_of}
 use Rattle.scc_buckets.specs.Places.{IsSpot, index_of_spot}
-use Rattle.scc_contents.specs.Steps.{Holds, HoldsExactly, Resizes}
+use Rattle.scc_common.specs.Steps.{Holds, HoldsExactly, Resizes}
 use Rattle.scc_common.specs.declared.errors.WalkError.{WalkError}
 use Rattle.scc_buckets.specs.declared.place.Place.{Place}
 use Rattle.scc_common.specs.declared.verdict.Verdict.{Verdict}
 use Rattle.scc_common.specs.declared.verdict.Verdict.TheVariants.{Keep, Take, KeepStop, TakeStop}
 use Rattle.scc_buckets.proofs.Spots.{place-get}
 use Rattle.scc_buckets.specs.Placed.{at, at-get}
-use Rattle.scc_contents.specs.PairWalks.{Takes, ended, refused, kept, took, kept_last, took_last}
+use Rattle.scc_common.specs.PairWalks.{Takes, ended, refused, kept, took, kept_last, took_last}
 use Rattle.scc_buckets.proofs.Placed.{drop-here}
 use Rattle.scc_table.proofs.WalkReached.{reached}
 use Rattle.scc_buckets.proofs.PairSplits.{split-place}

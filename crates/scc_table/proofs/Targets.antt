@@ -4,7 +4,7 @@ use Rattle.std.specs.List.{filter, count_by, range_with_len}
 use Rattle.std.proofs.lemmas.List.{length-drop, nil_from_length, set-get_or}
 use Rattle.std.proofs.lemmas.List.FromFn.{length-range_with_len}
 use Rattle.std.proofs.lemmas.List.Sums.{sum_by-cons}
-use Rattle.scc_contents.specs.Contents.{Contents, pending_of, waiting_of}
+use Rattle.scc_common.specs.Contents.{Contents, pending_of, waiting_of}
 use Rattle.scc_buckets.proofs.PairSplits.{by_answer}
 use Rattle.scc_table.specs.Relocates.{left_after}
 use Rattle.scc_table.specs.TwoArrays.{IsFirstWaiting, IsRelocated, pending_targets, cleared, waits_at}

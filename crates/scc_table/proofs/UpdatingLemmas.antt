@@ -5,7 +5,7 @@ use Rattle.std.specs.Cmp.{IsEquivalence}
 use Rattle.std.specs.Fn.{Once}
 use Rattle.std.specs.List.{position}
 use Rattle.std.specs.Prelude.{[]}
-use Rattle.scc_contents.specs.Contents.{Contents, Settings, settings_of}
+use Rattle.scc_common.specs.Contents.{Contents, Settings, settings_of}
 use Rattle.scc_buckets.specs.Updates as one
 use Rattle.scc_buckets.specs.Writes as writes
 use Rattle.scc_table.specs.TwoArrays.{Draining, together, IsTable}

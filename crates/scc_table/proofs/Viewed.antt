@@ -2,7 +2,7 @@
 use Rattle.std.proofs.Common.{◌≡◌, ℕ, ◌+◌, ◌⊎◌, Bool, List, [], length, sym, ap, ◌∙◌}
 use Rattle.std.specs.List.{count_by}
 use Rattle.scc_array.specs.Shelf.{Shelf}
-use Rattle.scc_contents.specs.Contents.{Contents, bucket_count, lists_of, settings_of, refused_of, overflow_of, waiting_of, owed_of, pending_of}
+use Rattle.scc_common.specs.Contents.{Contents, bucket_count, lists_of, settings_of, refused_of, overflow_of, waiting_of, owed_of, pending_of}
 use Rattle.scc_buckets.specs.Tables.{overflow_in}
 use Rattle.scc_table.specs.TwoArrays.{Draining, together, IsTable}
 use Rattle.scc_table.proofs.Alone.{lists-alone, owed-alone, spilled-together}

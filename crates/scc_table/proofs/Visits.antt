@@ -1,20 +1,20 @@
 -- A pair that was visited in a walk: it stays with what was written, or is taken out.
 use Rattle.std.proofs.Common.{◌≡◌, ℕ, zero, suc, ◌<◌, ◌-◌, List, [], ◌∷◌, ◌++◌, length, take, drop, Bool, true, false, Option, None, Some, MatchOption, IfSome, refl, sym, ap, ◌∙◌, arith, subst, append_assoc}
 use Rattle.std.specs.List.{slice_get, remove}
-use Rattle.scc_contents.specs.Contents.{Contents, entries, bucket_count, settings_of, list_of, refused_of}
+use Rattle.scc_common.specs.Contents.{Contents, entries, bucket_count, settings_of, list_of, refused_of}
 use Rattle.scc_buckets.specs.Places.{IsSpot, index_of_spot}
 use Rattle.scc_buckets.specs.Standing.{StandsAtSpot}
-use Rattle.scc_contents.specs.Steps.{HoldsExactly}
+use Rattle.scc_common.specs.Steps.{HoldsExactly}
 use Rattle.scc_array.specs.ShelfWrites.{write_at}
 use Rattle.scc_buckets.specs.Writes.{with_write_at_spot, IsPlace-with_write_at}
 use Rattle.scc_buckets.specs.declared.place.Place.{Place}
 use Rattle.scc_buckets.proofs.Standing.{index-below}
 use Rattle.scc_buckets.proofs.WritingTables.{exactly-write}
-use Rattle.scc_contents.specs.Walks.{HoldsInTurn}
-use Rattle.scc_contents.proofs.WalkLemmas.{turn-first, turn-others}
+use Rattle.scc_common.specs.Walks.{HoldsInTurn}
+use Rattle.scc_common.proofs.WalkLemmas.{turn-first, turn-others}
 use Rattle.scc_buckets.specs.Placed.{at-get}
-use Rattle.scc_contents.specs.Pairs.{with_pair_value}
-use Rattle.scc_contents.specs.PairWalks.{Retains, kept, removed}
+use Rattle.scc_common.specs.Pairs.{with_pair_value}
+use Rattle.scc_common.specs.PairWalks.{Retains, kept, removed}
 use Rattle.scc_buckets.proofs.Placed.{front-write, back-write}
 use Rattle.scc_buckets.proofs.Placed.{take-more, drop-here, take-removed, drop-removed}
 use Rattle.scc_table.proofs.WalkReached.{reached, reached-at}

@@ -3,15 +3,15 @@ use Rattle.std.proofs.Common.{◌≡◌, ℕ, zero, suc, ◌<◌, ◌-◌, List,
 use Rattle.std.specs.Borrow.{Bor, MutBor}
 use Rattle.std.specs.Fn.{Mut}
 use denote.Param.Always.{always_mut, mut_next}
-use Rattle.scc_contents.specs.Contents.{Contents, entries}
+use Rattle.scc_common.specs.Contents.{Contents, entries}
 use Rattle.scc_buckets.specs.Places.{IsSpot, index_of_spot}
 use Rattle.scc_buckets.specs.Standing.{StandsAtSpot}
 use Rattle.scc_buckets.specs.declared.place.Place.{Place}
 use Rattle.scc_buckets.proofs.Standing.{index-below}
 use Rattle.scc_buckets.specs.Placed.{entry_of_spot, front_of_spot}
 use Rattle.scc_buckets.proofs.Placed.{entry_of-is}
-use Rattle.scc_contents.proofs.WalkLemmas.{turn-always}
-use Rattle.scc_contents.specs.PairWalks.{CallableToWrite, Declines, ended, went_on, PassesAt, PassesFirst}
+use Rattle.scc_common.proofs.WalkLemmas.{turn-always}
+use Rattle.scc_common.specs.PairWalks.{CallableToWrite, Declines, ended, went_on, PassesAt, PassesFirst}
 
 -- how many pairs stand before the place of a walk, all where it is over
 abbrev pub reached : {E S : Type 0} → Contents E S → Option Place → ℕ

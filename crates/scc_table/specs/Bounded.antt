@@ -3,8 +3,8 @@
 use Rattle.std.specs.Prelude.{◌≡◌, ℕ, ◌*◌, ◌<◌, ◌≤◌, ◌⊎◌, Bool, false, true, length}
 use Rattle.scc_buckets.specs.Bounded as bounded
 use Rattle.scc_buckets.specs.Bounded.{IsResized, HasListsOf}
-use Rattle.scc_contents.specs.Contents.{Contents, entries, bucket_count, list_of, minimum_of, pending_of, refused_of}
-use Rattle.scc_contents.specs.Sizes.{IsArraySize}
+use Rattle.scc_common.specs.Contents.{Contents, entries, bucket_count, list_of, minimum_of, pending_of, refused_of}
+use Rattle.scc_common.specs.Sizes.{IsArraySize}
 use Rattle.scc_buckets.specs.declared.place.Place.{Place}
 use Rattle.scc_table.specs.Places.{spot_of}
 

@@ -3,9 +3,9 @@ use Rattle.std.specs.Prelude.{◌≡◌, ◌≢◌, ◌≤◌, ◌<◌, ◌+◌,
 use Rattle.std.specs.List.{range_with_len}
 use Rattle.std.specs.List.Sorted.{IsPermutation}
 use Rattle.std.specs.Result.{OnOk, OnErr}
-use Rattle.scc_contents.specs.Contents.{Contents, entries, bucket_count, list_of, lists_of, pending_of, refused_of, settings_of, waiting_of, HasRoomAt, IsUniqueBy}
-use Rattle.scc_contents.specs.Routing.{bucket_number}
-use Rattle.scc_contents.specs.Steps.{FirstArrayWhenDue, Grows, IsUnchanged, Rests}
+use Rattle.scc_common.specs.Contents.{Contents, entries, bucket_count, list_of, lists_of, pending_of, refused_of, settings_of, waiting_of, HasRoomAt, IsUniqueBy}
+use Rattle.scc_common.specs.Routing.{bucket_number}
+use Rattle.scc_common.specs.Steps.{FirstArrayWhenDue, Grows, IsUnchanged, Rests}
 use Rattle.scc_buckets.specs.Bounded.{IsListed, HasListsOf}
 use Rattle.scc_buckets.specs.Pour.{IsRegrouped}
 use Rattle.scc_buckets.specs.declared.place.Place.{Place}

@@ -3,8 +3,8 @@
 use Rattle.std.specs.Prelude.{◌≡◌, ◌≤◌, ◌<◌, ℕ, Bool, true, false, [], replicate, Result}
 use Rattle.std.specs.List.Sorted.{IsPermutation}
 use Rattle.std.specs.Result.{OnOk, OnErr}
-use Rattle.scc_contents.specs.Contents.{Contents, entries, bucket_count, lists_of, owed_of, pending_of, refused_of, settings_of, overflow_of, waiting_of, IsUniqueBy}
-use Rattle.scc_contents.specs.Steps.{FirstArrayWhenDue, Grows, IsUnchanged, Rests}
+use Rattle.scc_common.specs.Contents.{Contents, entries, bucket_count, lists_of, owed_of, pending_of, refused_of, settings_of, overflow_of, waiting_of, IsUniqueBy}
+use Rattle.scc_common.specs.Steps.{FirstArrayWhenDue, Grows, IsUnchanged, Rests}
 use Rattle.scc_buckets.specs.Bounded.{IsBounded, IsResized}
 use Rattle.scc_buckets.specs.Pour.{IsRegrouped}
 use Rattle.scc_table.specs.Relocates.{AreShort}

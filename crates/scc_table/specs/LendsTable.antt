@@ -3,7 +3,7 @@ use Rattle.std.specs.Borrow.{Fml, RattleType, MutBor, Lends}
 use Rattle.std.specs.HashMap.Lent.{HashMembers}
 use Rattle.std.specs.declared.hash.Hasher as hasher
 use Rattle.std.specs.declared.hash.BuildHasher as builder
-use Rattle.scc_contents.specs.Contents.{Contents}
+use Rattle.scc_common.specs.Contents.{Contents}
 use Rattle.scc_buckets.specs.declared.place.Place.{Place}
 use Rattle.scc_common.specs.declared.entry.Keyed as keyed
 use Rattle.scc_table.specs.Places.{with_write_at}

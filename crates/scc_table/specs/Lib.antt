@@ -1,3 +1,4 @@
+pub mod Arrays
 pub mod Bounded
 pub mod Growths
 pub mod Insertions

@@ -1,7 +1,7 @@
 -- What a new container holds.
 use Rattle.std.specs.Prelude.{◌≡◌, ℕ, ◌*◌, ◌<◌, false, [], Result, IsOk, IfOk}
-use Rattle.scc_contents.specs.Contents.{Contents, entries, bucket_count, settings_of, refused_of, waiting_of}
-use Rattle.scc_contents.specs.Sizes.{IsArraySize}
+use Rattle.scc_common.specs.Contents.{Contents, entries, bucket_count, settings_of, refused_of, waiting_of}
+use Rattle.scc_common.specs.Sizes.{IsArraySize}
 
 module _ {E S : Type 0} where
   -- c is an empty container without an array, with the hasher `hasher` and the minimum 0

@@ -1,6 +1,6 @@
 -- What the preparation of an insertion does to the note and the mark.
 use Rattle.std.specs.Prelude.{◌≡◌, ◌≢◌, ◌*◌, ◌^◌, ◌<◌, ◌≤◌, ◌⊎◌, ℕ, false, true, length}
-use Rattle.scc_contents.specs.Contents.{Contents, entries, bucket_count, pending_of, refused_of, HasRoomAt}
+use Rattle.scc_common.specs.Contents.{Contents, entries, bucket_count, pending_of, refused_of, HasRoomAt}
 
 module _ {E K S : Type 0} (hash : K → ℕ) (key : E → K) where
   -- a growth is due for a new key with the hash h: no bucket waits, the bucket of h has no room, the table has at least

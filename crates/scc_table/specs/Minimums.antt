@@ -1,8 +1,8 @@
 -- What a change of the minimum does to a table of two arrays, one word a call.
 use Rattle.std.specs.Prelude.{◌≡◌, ◌≢◌, ◌≤◌, ◌<◌, ◌+◌, ◌*◌, ◌^◌, ◌↔◌, ℕ, Bool, Option, IfNone, IfSome, IsSome, IsTrue, OnSome}
-use Rattle.scc_contents.specs.Contents.{Contents, bucket_count, minimum_of, refused_of, settings_of, waiting_of, IsUniqueBy}
-use Rattle.scc_contents.specs.Sizes.{IsArraySize}
-use Rattle.scc_contents.specs.Steps.{IsUnchanged, ReachesMinimumWhenDue, Releases, Reserves, Resizes, ShrinksWhenDue}
+use Rattle.scc_common.specs.Contents.{Contents, bucket_count, minimum_of, refused_of, settings_of, waiting_of, IsUniqueBy}
+use Rattle.scc_common.specs.Sizes.{IsArraySize}
+use Rattle.scc_common.specs.Steps.{IsUnchanged, ReachesMinimumWhenDue, Releases, Reserves, Resizes, ShrinksWhenDue}
 use Rattle.scc_table.specs.Relocates.{IsBelowMinimum, IsShrinkDue, Spreads}
 
 module _ {E K S : Type 0} (eq : K → K → Bool) (key : E → K) where

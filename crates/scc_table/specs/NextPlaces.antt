@@ -1,6 +1,6 @@
 -- Where a step from place to place goes on.
 use Rattle.std.specs.Prelude.{◌≡◌, ℕ, ◌+◌, ◌-◌, ◌<◌, ◌≤◌, ◌==◌, false, true, cond, nat_lt, length, count_by}
-use Rattle.scc_contents.specs.Contents.{Contents, bucket_count, owed_of, list_of, waiting_of}
+use Rattle.scc_common.specs.Contents.{Contents, bucket_count, owed_of, list_of, waiting_of}
 use Rattle.scc_buckets.specs.Places as spots
 use Rattle.scc_buckets.specs.declared.place.Place.{Place}
 use Rattle.scc_table.specs.Places.{owed_before}

@@ -2,7 +2,7 @@
 -- stands for its spot, and the words of `scc_buckets` speak of spots.
 use Rattle.std.specs.Prelude.{◌≡◌, List}
 use Rattle.std.proofs.Common.{sym, ap, subst, length-set}
-use Rattle.scc_contents.specs.Contents.{Contents, bucket_count, waiting_of, owed_of}
+use Rattle.scc_common.specs.Contents.{Contents, bucket_count, waiting_of, owed_of}
 use Rattle.scc_buckets.specs.Placed as spots
 use Rattle.scc_buckets.specs.Places as places
 use Rattle.scc_buckets.specs.Writes as writes

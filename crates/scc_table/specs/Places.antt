@@ -1,7 +1,7 @@
 -- The place of an entry of two arrays.
 use Rattle.std.specs.Prelude.{ℕ, ◌-◌, ◌==◌, Bool, false, cond, nat_lt, List, [], ◌∷◌, ◌++◌, take, count_by, slice_get, slice_index_or, Option, None, Some}
 use Rattle.std.specs.List.{flat_map}
-use Rattle.scc_contents.specs.Contents.{Contents, bucket_count, waiting_of, owed_of}
+use Rattle.scc_common.specs.Contents.{Contents, bucket_count, waiting_of, owed_of}
 use Rattle.scc_buckets.specs.Places as spots
 use Rattle.scc_buckets.specs.Standing as standing
 use Rattle.scc_buckets.specs.Writes as writes

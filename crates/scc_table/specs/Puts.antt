@@ -1,7 +1,7 @@
 -- What an insertion of a new entry into the list of its bucket does to a table of two arrays.
 use Rattle.std.specs.Prelude.{◌≡◌, ◌≤◌, ◌+◌, ◌++◌, ◌∷◌, [], ℕ, Bool, false, List, remove, slice_get, Option, Some, Result, IfOk, IfErr}
 use Rattle.std.specs.Result.{OnErr}
-use Rattle.scc_contents.specs.Contents.{Contents, list_of, owed_of, pending_of, waiting_of, IsUniqueBy}
+use Rattle.scc_common.specs.Contents.{Contents, list_of, owed_of, pending_of, waiting_of, IsUniqueBy}
 use Rattle.scc_buckets.specs.Bounded.{HasList, IsListed, PutsLast}
 use Rattle.scc_buckets.specs.OneList.{HasSameLists, IsPutIn}
 use Rattle.scc_buckets.specs.declared.place.Place.{Place}

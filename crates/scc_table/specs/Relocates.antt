@@ -1,9 +1,9 @@
 -- What a call does to the waiting buckets.
 use Rattle.std.specs.Prelude.{◌≡◌, ◌≢◌, ◌==◌, ℕ, ◌+◌, ◌-◌, ◌*◌, ◌<◌, ◌≤◌, ◌⊎◌, List, [], length, drop, not, slice_index_or}
 use Rattle.std.specs.List.{filter}
-use Rattle.scc_contents.specs.Contents.{Contents, entries, bucket_count, list_of, settings_of, waiting_of, owed_of, pending_of}
+use Rattle.scc_common.specs.Contents.{Contents, entries, bucket_count, list_of, settings_of, waiting_of, owed_of, pending_of}
 use Rattle.scc_buckets.specs.Pour.{bound_for}
-use Rattle.scc_contents.specs.Sizes.{IsArraySize, IsSmaller}
+use Rattle.scc_common.specs.Sizes.{IsArraySize, IsSmaller}
 use Rattle.scc_table.specs.TwoArrays.{pending_targets, IsWaiting}
 
 -- the waiting buckets ts after two relocations: bucket i, if it is among them, and then the first ones

@@ -2,9 +2,9 @@
 use Rattle.std.specs.Prelude.{◌≡◌, ◌≢◌, ℕ, ◌+◌, ◌<◌, ◌≤◌, false, [], drop, length, Result}
 use Rattle.std.specs.List.{range_with_len}
 use Rattle.std.specs.Result.{OnOk, OnErr}
-use Rattle.scc_contents.specs.Contents.{Contents, entries, bucket_count, list_of, lists_of, minimum_of, pending_of, refused_of, settings_of, waiting_of}
-use Rattle.scc_contents.specs.Routing.{bucket_number}
-use Rattle.scc_contents.specs.Sizes.{IsSmaller}
+use Rattle.scc_common.specs.Contents.{Contents, entries, bucket_count, list_of, lists_of, minimum_of, pending_of, refused_of, settings_of, waiting_of}
+use Rattle.scc_common.specs.Routing.{bucket_number}
+use Rattle.scc_common.specs.Sizes.{IsSmaller}
 use Rattle.scc_buckets.specs.Bounded.{IsBounded}
 use Rattle.scc_table.specs.Relocates.{AreMovedBeside, AreShort, IsMovedUpTo, left_after}
 use Rattle.scc_table.specs.TwoArrays.{IsFirstWaiting, IsWaiting, pending_targets, waits_at}

@@ -2,9 +2,9 @@
 use Rattle.std.specs.Prelude.{◌≡◌, ◌≢◌, ◌≤◌, ◌<◌, ℕ, Bool, Option, Some, None, length, suc, slice_get, remove, MatchOption}
 use Rattle.std.specs.List.{position}
 use Rattle.std.specs.List.Sorted.{IsPermutation}
-use Rattle.scc_contents.specs.Contents.{Contents, entries, bucket_count, list_of, minimum_of, owed_of, pending_of, refused_of, settings_of, waiting_of, IsUniqueBy}
-use Rattle.scc_contents.specs.Sizes.{IsSmaller}
-use Rattle.scc_contents.specs.Steps.{Holds, HoldsExactly, ShrinksWhenDue}
+use Rattle.scc_common.specs.Contents.{Contents, entries, bucket_count, list_of, minimum_of, owed_of, pending_of, refused_of, settings_of, waiting_of, IsUniqueBy}
+use Rattle.scc_common.specs.Sizes.{IsSmaller}
+use Rattle.scc_common.specs.Steps.{Holds, HoldsExactly, ShrinksWhenDue}
 use Rattle.scc_buckets.specs.Bounded.{HasList, IsBounded}
 use Rattle.scc_buckets.specs.OneList.{IsSwappedOutOf, IsTakenFrom}
 use Rattle.scc_buckets.specs.declared.place.Place.{Place}

@@ -3,8 +3,8 @@ use Rattle.std.specs.Prelude.{◌≡◌, Bool, Option, None, Some, slice_get}
 use Rattle.std.specs.Borrow.{Bor, MutBor}
 use Rattle.std.specs.Fn.{Once}
 use Rattle.std.specs.List.{position}
-use Rattle.scc_contents.specs.Updates.{WritesInto}
-use Rattle.scc_contents.specs.Contents.{Contents, entries}
+use Rattle.scc_common.specs.Updates.{WritesInto}
+use Rattle.scc_common.specs.Contents.{Contents, entries}
 use Rattle.scc_buckets.specs.declared.place.Place.{Place}
 use Rattle.scc_table.specs.Places.{IsFoundAt, index_of, with_write_at}
 

@@ -2,8 +2,8 @@
 //! stay there until their bucket of the current array is relocated.
 #![tactic(auto)]
 
-ghost use Rattle.scc_contents.specs.Contents.{bucket_count, pending_of, refused_of, IsUniqueBy};
-ghost use Rattle.scc_contents.specs.Sizes.{IsLawful};
+ghost use Rattle.scc_common.specs.Contents.{bucket_count, pending_of, refused_of, IsUniqueBy};
+ghost use Rattle.scc_common.specs.Sizes.{IsLawful};
 ghost use Rattle.scc_table.specs.TwoArrays.{IsWaiting};
 ghost use Rattle.std.specs.Prelude.{◌≡◌, ◌<◌, ◌≤◌, ◌^◌, ◌↔◌, IsTrue};
 
@@ -51,7 +51,7 @@ impl<E: Keyed, H: BuildHasher> Model for Table<E, H>
 where
     E::Key: Eq + Hash,
 {
-    ghost use Rattle.scc_contents.specs.Contents.{Contents, contents_code, key_hash};
+    ghost use Rattle.scc_common.specs.Contents.{Contents, contents_code, key_hash};
     ghost use Rattle.scc_table.specs.TwoArrays.{draining_of, together, IsTable};
 
     ghost Value = { Contents E H };

@@ -1,7 +1,7 @@
 //! Makes tables with a current array alone: empty ones, and clones.
 ghost use Rattle.scc_buckets.specs.Making.{AreNewBuckets, MakesBuckets};
-ghost use Rattle.scc_contents.specs.Clones.{HasClones};
-ghost use Rattle.scc_contents.specs.Contents.{key_hash, lists_of, refused_of, settings_of, overflow_of, waiting_of};
+ghost use Rattle.scc_common.specs.Clones.{HasClones};
+ghost use Rattle.scc_common.specs.Contents.{key_hash, lists_of, refused_of, settings_of, overflow_of, waiting_of};
 ghost use Rattle.std.specs.Arc.{arc_value};
 ghost use Rattle.std.specs.Prelude.{◌≡◌, ◌≤◌, ◌<◌, [], false, IfOk};
 

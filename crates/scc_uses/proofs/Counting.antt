@@ -6,8 +6,8 @@ use Rattle.std.specs.declared.cmp.PartialEq as equality
 use Rattle.std.specs.declared.hash.Hash as hash
 use Rattle.std.specs.declared.hash.Hasher as hasher
 use Rattle.std.specs.declared.hash.BuildHasher as builder
-use Rattle.scc_contents.specs.Contents.{Contents, entries}
-use Rattle.scc_contents.specs.Pairs.{find}
+use Rattle.scc_common.specs.Contents.{Contents, entries}
+use Rattle.scc_common.specs.Pairs.{find}
 use Rattle.scc_map.specs.Entries.{occupied_pair, IsEntryOf}
 use Rattle.scc_map.specs.declared.held.HeldEntry.TheVariants.{Occupied, Vacant}
 use Rattle.scc_map.specs.declared.held.HeldEntry.{HeldEntry}

@@ -5,13 +5,13 @@ use Rattle.std.specs.Fn.{Once, FnOnceReturnsAtMut}
 use Rattle.std.specs.Map.{set_value}
 use Rattle.std.specs.Option.{option_map, is_some, OnSome}
 use Rattle.std.specs.Result.{OnOk, OnErr}
-use Rattle.scc_contents.specs.Contents.{Contents, entries}
-use Rattle.scc_contents.specs.Pairs.{find, FindsInstead, IsUnique}
-use Rattle.scc_contents.specs.Steps.{HoldsExactly}
+use Rattle.scc_common.specs.Contents.{Contents, entries}
+use Rattle.scc_common.specs.Pairs.{find, FindsInstead, IsUnique}
+use Rattle.scc_common.specs.Steps.{HoldsExactly}
 use Rattle.scc_common.specs.declared.errors.InsertError.{InsertError}
 use Rattle.scc_common.specs.declared.errors.InsertError.TheVariants.{Exists, Memory}
 use Rattle.scc_map.specs.ClosureSteps.{UpdatesAt, RemovesIf, RemovedIf}
-use Rattle.scc_contents.specs.Closures.{WritesAt}
+use Rattle.scc_common.specs.Closures.{WritesAt}
 use Rattle.scc_map.specs.MapSteps.{Inserts}
 use Rattle.scc_map.proofs.CallerLemmas.{by_answer, cond-true, cond-false, find-equal, finds-set_value, finds-rearranged}
 use Rattle.scc_uses.specs.Sessions.{end_of, Sets, IsAsBefore, Renews, Expires}

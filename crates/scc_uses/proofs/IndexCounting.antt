@@ -5,8 +5,8 @@ use Rattle.std.specs.declared.cmp.PartialEq as equality
 use Rattle.std.specs.declared.hash.Hash as hash
 use Rattle.std.specs.declared.hash.Hasher as hasher
 use Rattle.std.specs.declared.hash.BuildHasher as builder
-use Rattle.scc_contents.specs.Contents.{Contents, entries}
-use Rattle.scc_contents.specs.Pairs.{find, FindsInstead, IsUnique}
+use Rattle.scc_common.specs.Contents.{Contents, entries}
+use Rattle.scc_common.specs.Pairs.{find, FindsInstead, IsUnique}
 use Rattle.scc_index.specs.Entries.{occupied_pair, IsEntryOf, IsUpdated, IsInserted, OrInserts}
 use Rattle.scc_index.specs.declared.held.HeldOccupied.{HeldOccupied}
 use Rattle.scc_index.specs.declared.held.HeldEntry.TheVariants.{Occupied, Vacant}

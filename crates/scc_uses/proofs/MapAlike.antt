@@ -9,7 +9,7 @@ use Rattle.std.proofs.lemmas.List.Edits.{length-remove}
 use Rattle.std.proofs.lemmas.List.Sorted.{IsPermutation-sym}
 use Rattle.std.proofs.lemmas.Map.{lookup-set_value}
 use Rattle.std.proofs.lemmas.Map.Keys.{IsDistinct-tail}
-use Rattle.scc_contents.specs.Pairs.{find, without}
+use Rattle.scc_common.specs.Pairs.{find, without}
 use Rattle.scc_buckets.proofs.Lookups.{place-of_find, finds-added, distinct-IsPermutation}
 use Rattle.scc_buckets.proofs.PairSplits.{cond-true, found-place, without-at, distinct-without, place-below}
 use Rattle.scc_calls.specs.Copies.{Alike, Means}

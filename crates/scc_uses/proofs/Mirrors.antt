@@ -1,7 +1,7 @@
 -- What two runs of the same calls make of two containers, by what is known of any two runs of their kind.
 use Rattle.std.proofs.Common.{◌≡◌, ◌∙◌, ℕ, ◌+◌, Bool, List, [], ◌++◌, Result, Ok, Err, length, inl, inr, sym, ap, subst, append-nil}
 use Rattle.std.specs.Result.{OnOk, OnErr}
-use Rattle.scc_contents.specs.Contents.{entries}
+use Rattle.scc_common.specs.Contents.{entries}
 use Rattle.scc_calls.specs.Copies.{Means}
 use Rattle.scc_calls.specs.Means.{means_same}
 use Rattle.scc_calls.specs.Run.{IsRun, done}

@@ -6,7 +6,7 @@ use Rattle.std.specs.declared.cmp.PartialEq as equality
 use Rattle.std.specs.declared.hash.Hash as hash
 use Rattle.std.specs.declared.hash.Hasher as hasher
 use Rattle.std.specs.declared.hash.BuildHasher as builder
-use Rattle.scc_contents.specs.Contents.{key_hash, lists_of}
+use Rattle.scc_common.specs.Contents.{key_hash, lists_of}
 use Rattle.scc_common.specs.declared.guard.Guard as guard
 use Rattle.scc_cache.specs.CacheSteps.{ChangesLists, IsAbsent, IsPresent, PutsNew, list_number}
 use Rattle.scc_cache.specs.Caches.{Cached}

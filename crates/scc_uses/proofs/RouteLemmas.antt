@@ -11,8 +11,8 @@ use Rattle.scc_map.specs.declared.held.HeldOccupied.{HeldOccupied}
 use Rattle.scc_map.specs.declared.held.HeldVacant.{HeldVacant}
 use Rattle.scc_common.specs.declared.guard.Guard as guard
 use Rattle.scc_map.proofs.CallerLemmas.{finds-rearranged, finds-written, finds-put}
-use Rattle.scc_contents.specs.Contents.{Contents, entries}
-use Rattle.scc_contents.specs.Pairs.{find, FindsInstead, IsUnique}
+use Rattle.scc_common.specs.Contents.{Contents, entries}
+use Rattle.scc_common.specs.Pairs.{find, FindsInstead, IsUnique}
 use Rattle.scc_uses.specs.declared.routing.Route.{Route}
 use Rattle.scc_uses.specs.Routing.{route_to, Sets, IsAsBefore, Offers, not_by}
 use Rattle.scc_map.proofs.Filtering.{passing}

@@ -8,13 +8,13 @@ use Rattle.std.specs.List.Sorted.{IsPermutation}
 use Rattle.std.specs.Result.{OnOk}
 use Rattle.std.proofs.lemmas.List.Elements.{All-from_recursion, filter_passes}
 use Rattle.std.proofs.lemmas.List.Sorted.{IsPermutation-trans, IsPermutation-append_left, All-permutation}
-use Rattle.scc_contents.specs.Contents.{Contents, entries}
-use Rattle.scc_contents.specs.Pairs.{find, FindsInstead, IsUnique}
-use Rattle.scc_contents.specs.Steps.{Holds}
+use Rattle.scc_common.specs.Contents.{Contents, entries}
+use Rattle.scc_common.specs.Pairs.{find, FindsInstead, IsUnique}
+use Rattle.scc_common.specs.Steps.{Holds}
 use Rattle.scc_common.specs.declared.errors.InsertError.{InsertError}
 use Rattle.scc_common.specs.declared.errors.InsertError.TheVariants.{Exists, Memory}
 use Rattle.scc_map.specs.ClosureSteps.{UpdatesAt}
-use Rattle.scc_contents.specs.Closures.{WritesAt}
+use Rattle.scc_common.specs.Closures.{WritesAt}
 use Rattle.scc_map.specs.MapSteps.{Inserts}
 use Rattle.scc_map.proofs.CallerLemmas.{finds-set_value, finds-rearranged, finds-unchanged}
 use Rattle.scc_uses.specs.declared.requests.Window.{Window}

@@ -1,7 +1,7 @@
 -- What the same calls do to two containers of one kind with different hashers and sizes.
 use Rattle.std.specs.Prelude.{◌≡◌, ◌+◌, ◌++◌, ◌⊎◌, Bool, List, Result, length}
 use Rattle.std.specs.Result.{OnOk, OnErr}
-use Rattle.scc_contents.specs.Contents.{Contents, entries}
+use Rattle.scc_common.specs.Contents.{Contents, entries}
 use Rattle.scc_calls.specs.Copies.{Means}
 use Rattle.scc_calls.specs.Run.{IsRun}
 use Rattle.scc_calls.specs.States.{State, ResizesTo, setting_of, state_of}

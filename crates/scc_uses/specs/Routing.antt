@@ -1,8 +1,8 @@
 -- The meaning of a routing table: the route to each destination.
 use Rattle.std.specs.Prelude.{◌≡◌, ◌≤◌, ◌<◌, ℕ, Bool, true, false, cond, Option, None, Some, nat_eq}
 use Rattle.std.specs.Option.{option_map}
-use Rattle.scc_contents.specs.Contents.{Contents, entries}
-use Rattle.scc_contents.specs.Pairs.{find}
+use Rattle.scc_common.specs.Contents.{Contents, entries}
+use Rattle.scc_common.specs.Pairs.{find}
 use Rattle.scc_uses.specs.declared.routing.Route.{Route}
 
 -- the route, unless it is by this next hop

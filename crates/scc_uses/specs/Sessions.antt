@@ -1,8 +1,8 @@
 -- The meaning of a table of sessions: the end of each session.
 use Rattle.std.specs.Prelude.{◌≡◌, ◌≤◌, ◌<◌, ℕ, Bool, true, false, cond, max, Option, None, Some, nat_eq}
 use Rattle.std.specs.Option.{option_map}
-use Rattle.scc_contents.specs.Contents.{Contents, entries}
-use Rattle.scc_contents.specs.Pairs.{find}
+use Rattle.scc_common.specs.Contents.{Contents, entries}
+use Rattle.scc_common.specs.Pairs.{find}
 
 module _ {S : Type 0} where
   -- when the session ends, if there is such a session

@@ -1,7 +1,7 @@
 //! An insertion, a look-up and a removal, one after another.
 ghost use Rattle.std.specs.Prelude.{◌≡◌, IfOk, Some, OnOk};
 ghost use Rattle.std.specs.List.Sorted.{IsPermutation};
-ghost use Rattle.scc_contents.specs.Contents.{entries};
+ghost use Rattle.scc_common.specs.Contents.{entries};
 
 use scc_common::InsertError;
 use scc_map::Owned;

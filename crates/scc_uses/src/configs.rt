@@ -1,8 +1,8 @@
 //! Configurations in an index: a value is published anew while a reader keeps its version.
 ghost use Rattle.std.specs.Arc.{arc_value};
 ghost use Rattle.std.specs.Prelude.{◌≡◌, nat_eq, Some, IfOk, IfErr, OnOk, OnErr};
-ghost use Rattle.scc_contents.specs.Contents.{entries};
-ghost use Rattle.scc_contents.specs.Pairs.{find, FindsInstead};
+ghost use Rattle.scc_common.specs.Contents.{entries};
+ghost use Rattle.scc_common.specs.Pairs.{find, FindsInstead};
 
 use scc_common::Version;
 use scc_index::Owned;

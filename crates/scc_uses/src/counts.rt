@@ -1,8 +1,8 @@
 //! Counting by entries: one search for each word.
 ghost use Rattle.std.specs.Prelude.{◌≡◌, nat_eq, Some, OnOk, OnErr, MatchOption};
-ghost use Rattle.scc_contents.specs.Contents.{entries};
-ghost use Rattle.scc_contents.specs.Pairs.{find, FindsInstead};
-ghost use Rattle.scc_contents.specs.Steps.{Rests};
+ghost use Rattle.scc_common.specs.Contents.{entries};
+ghost use Rattle.scc_common.specs.Pairs.{find, FindsInstead};
+ghost use Rattle.scc_common.specs.Steps.{Rests};
 ghost use Rattle.scc_uses.specs.Counts.{one_more};
 
 use scc_common::InsertError;

@@ -1,6 +1,6 @@
 //! The difference of two sets.
 ghost use Rattle.std.specs.Prelude.{◌≡◌, cond, None, is_some};
-ghost use Rattle.scc_contents.specs.Contents.{entries};
+ghost use Rattle.scc_common.specs.Contents.{entries};
 ghost use Rattle.scc_set.specs.Keys.{find};
 
 use scc_set::Owned;

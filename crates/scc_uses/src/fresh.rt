@@ -1,6 +1,6 @@
 //! A map that is made with room and is filled within it.
 ghost use Rattle.std.specs.Prelude.{◌≡◌, ◌<◌, ◌≤◌, IfSome};
-ghost use Rattle.scc_contents.specs.Contents.{bucket_count, pending_of};
+ghost use Rattle.scc_common.specs.Contents.{bucket_count, pending_of};
 
 use scc_map::Owned;
 use std::alloc::Global;

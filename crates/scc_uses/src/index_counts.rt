@@ -1,8 +1,8 @@
 //! Counting by entries of an index: one search for each word, and a version of its own for each new count.
 ghost use Rattle.std.specs.Prelude.{◌≡◌, nat_eq, Some, IfErr, OnOk, OnErr};
-ghost use Rattle.scc_contents.specs.Contents.{entries};
-ghost use Rattle.scc_contents.specs.Pairs.{find, FindsInstead};
-ghost use Rattle.scc_contents.specs.Steps.{IsUnchanged};
+ghost use Rattle.scc_common.specs.Contents.{entries};
+ghost use Rattle.scc_common.specs.Pairs.{find, FindsInstead};
+ghost use Rattle.scc_common.specs.Steps.{IsUnchanged};
 ghost use Rattle.scc_index.specs.Entries.{Memory};
 ghost use Rattle.scc_uses.specs.Counts.{one_more};
 

@@ -1,6 +1,6 @@
 //! Keys that were seen, marked in a set.
 ghost use Rattle.std.specs.Prelude.{◌≡◌, ◌↔◌, nat_eq, None, IfOk, OnOk, IsSome, IsTrue};
-ghost use Rattle.scc_contents.specs.Contents.{entries};
+ghost use Rattle.scc_common.specs.Contents.{entries};
 ghost use Rattle.scc_set.specs.Keys.{find};
 
 use scc_common::KeyError;

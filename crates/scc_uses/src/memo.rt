@@ -1,7 +1,7 @@
 //! A memo: a value is stored once, and then returned.
 ghost use Rattle.std.specs.Prelude.{◌≡◌, nat_eq, None, Some, OnErr, IfOk};
-ghost use Rattle.scc_contents.specs.Contents.{entries};
-ghost use Rattle.scc_contents.specs.Pairs.{find, FindsInstead};
+ghost use Rattle.scc_common.specs.Contents.{entries};
+ghost use Rattle.scc_common.specs.Pairs.{find, FindsInstead};
 ghost use Rattle.scc_uses.specs.Memo.{stored_or};
 
 use scc_common::InsertError;

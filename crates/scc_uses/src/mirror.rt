@@ -1,6 +1,6 @@
 //! The same calls on two maps with different hashers and sizes.
 ghost use Rattle.std.specs.List.Sorted.{IsPermutation};
-ghost use Rattle.scc_contents.specs.Contents.{entries};
+ghost use Rattle.scc_common.specs.Contents.{entries};
 ghost use Rattle.scc_calls.specs.MapCalls.{MapMoves};
 ghost use Rattle.scc_calls.specs.Copies.{ClonesEqual};
 ghost use Rattle.scc_uses.specs.Alikeness.{FindsAlike, RepliesAlike};

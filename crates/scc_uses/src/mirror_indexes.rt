@@ -1,5 +1,5 @@
 //! The same calls on two indexes with different hashers and sizes.
-ghost use Rattle.scc_contents.specs.Contents.{entries};
+ghost use Rattle.scc_common.specs.Contents.{entries};
 ghost use Rattle.scc_calls.specs.IndexCalls.{IndexMoves};
 ghost use Rattle.scc_calls.specs.Copies.{ClonesEqual};
 ghost use Rattle.scc_uses.specs.Alikeness.{FindsAlike, FindsSame, RepliesAlike};

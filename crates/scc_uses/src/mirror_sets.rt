@@ -1,7 +1,7 @@
 //! The same calls on two sets with different hashers and sizes.
 ghost use Rattle.std.specs.Prelude.{true};
 ghost use Rattle.std.specs.List.Sorted.{IsPermutation};
-ghost use Rattle.scc_contents.specs.Contents.{entries};
+ghost use Rattle.scc_common.specs.Contents.{entries};
 ghost use Rattle.scc_calls.specs.SetCalls.{SetMoves};
 ghost use Rattle.scc_calls.specs.Copies.{ClonesEqual};
 ghost use Rattle.scc_uses.specs.Alikeness.{HaveEqual, RepliesAlike};

@@ -1,7 +1,7 @@
 //! Two parts that share one hasher.
 ghost use Rattle.std.specs.Prelude.{◌≡◌, ◌<◌, true, IfOk};
 ghost use Rattle.std.specs.Arc.{arc_value};
-ghost use Rattle.scc_contents.specs.Contents.{settings_of, bucket_count, key_hash, bucket_of};
+ghost use Rattle.scc_common.specs.Contents.{settings_of, bucket_count, key_hash, bucket_of};
 
 use scc_calls::{MapCall, Refused, Reply, route, run};
 use scc_common::{MakeError, Shared};

@@ -1,7 +1,7 @@
 //! Counts of the words that came last: a cache forgets words that didn't come for long.
 ghost use Rattle.std.specs.Prelude.{◌≡◌, ℕ, nat_eq, None, Some, Ok, OnErr, IfOk};
 ghost use Rattle.std.specs.Hash as fed;
-ghost use Rattle.scc_contents.specs.Contents.{key_hash};
+ghost use Rattle.scc_common.specs.Contents.{key_hash};
 ghost use Rattle.scc_cache.specs.CacheSteps.{ChangesLists, IsAbsent, IsPresent, PutsNew, list_number};
 ghost use Rattle.scc_cache.specs.ListSteps.{RefreshesAs};
 ghost use Rattle.scc_uses.specs.Counts.{one_more};

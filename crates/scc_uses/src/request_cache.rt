@@ -1,8 +1,8 @@
 //! A cache of answers to requests, which counts its hits and its misses.
 ghost use Rattle.std.specs.Prelude.{◌≡◌, ℕ, ◌≤◌, [], nat_eq, length, IfOk};
 ghost use Rattle.std.specs.Hash as fed;
-ghost use Rattle.scc_contents.specs.Contents.{entries, key_hash};
-ghost use Rattle.scc_contents.specs.Sizes.{IsArraySize};
+ghost use Rattle.scc_common.specs.Contents.{entries, key_hash};
+ghost use Rattle.scc_common.specs.Sizes.{IsArraySize};
 ghost use Rattle.scc_cache.specs.CacheSteps.{IsAbsent, IsPresent};
 
 use scc_cache::Owned;

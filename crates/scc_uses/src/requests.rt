@@ -1,8 +1,8 @@
 //! Requests counted by user, in windows of time.
 ghost use Rattle.std.specs.Prelude.{ℕ, ◌≡◌, List, ◌++◌, [], All, Some, OnOk, OnErr, IfOk, nat_eq, None};
 ghost use Rattle.std.specs.List.Sorted.{IsPermutation};
-ghost use Rattle.scc_contents.specs.Contents.{entries};
-ghost use Rattle.scc_contents.specs.Pairs.{find, FindsInstead};
+ghost use Rattle.scc_common.specs.Contents.{entries};
+ghost use Rattle.scc_common.specs.Pairs.{find, FindsInstead};
 
 use scc_common::{InsertError, Verdict, WalkError};
 use scc_map::Owned;

@@ -24,7 +24,7 @@ impl Model for Routes {
     ghost use Rattle.std.specs.Prelude.{ℕ};
     ghost use Rattle.std.specs.declared.hash.BuildHasherDefault.{BuildHasherDefault};
     ghost use Rattle.std.specs.declared.hash.FoldHasher.{FoldHasher};
-    ghost use Rattle.scc_contents.specs.Contents.{Contents};
+    ghost use Rattle.scc_common.specs.Contents.{Contents};
     ghost use Rattle.scc_uses.specs.declared.routing.Route.{Route};
 
     ghost Value = { Contents (ℕ × Route) (BuildHasherDefault FoldHasher) };

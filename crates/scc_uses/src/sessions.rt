@@ -17,7 +17,7 @@ impl Model for Sessions {
     ghost use Rattle.std.specs.Prelude.{ℕ};
     ghost use Rattle.std.specs.declared.hash.BuildHasherDefault.{BuildHasherDefault};
     ghost use Rattle.std.specs.declared.hash.FoldHasher.{FoldHasher};
-    ghost use Rattle.scc_contents.specs.Contents.{Contents};
+    ghost use Rattle.scc_common.specs.Contents.{Contents};
 
     ghost Value = { Contents (ℕ × ℕ) (BuildHasherDefault FoldHasher) };
 

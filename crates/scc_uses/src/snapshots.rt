@@ -1,6 +1,6 @@
 //! Sums over snapshots of an index, whatever changed afterwards.
 ghost use Rattle.std.specs.Prelude.{◌≡◌, [], IfOk};
-ghost use Rattle.scc_contents.specs.Contents.{entries};
+ghost use Rattle.scc_common.specs.Contents.{entries};
 ghost use Rattle.scc_uses.specs.Sums.{sum_from};
 
 use scc_common::MakeError;

@@ -1,7 +1,7 @@
 // Calls as values: a caller of a run that knows its clauses alone, and runs of other containers.
 ghost use Rattle.std.specs.Prelude.{◌≡◌, ℕ, [], ◌∷◌, length, OnOk};
 ghost use Rattle.scc_calls.specs.Copies.{AreSame, ClonesEqual};
-ghost use Rattle.scc_contents.specs.Contents.{entries};
+ghost use Rattle.scc_common.specs.Contents.{entries};
 
 use crate::expect::{expect, expect_eq};
 use scc::MakeError;

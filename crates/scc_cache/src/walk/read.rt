@@ -3,16 +3,16 @@ ghost use Rattle.scc_cache.specs.CacheSteps.{Clears};
 ghost use Rattle.scc_cache.specs.Caches.{IsCacheState};
 ghost use Rattle.scc_cache.specs.Relocations.{RelocatesNoneWithin};
 ghost use Rattle.scc_cache.specs.TakingWalks.{TakesOutWithNext};
-ghost use Rattle.scc_contents.specs.Contents.{entries, refused_of, waiting_of, hash_in};
-ghost use Rattle.scc_contents.specs.Steps.{HoldsExactly};
-ghost use Rattle.scc_contents.specs.Walks.{CalledOn, CallableWhile, Walks};
+ghost use Rattle.scc_common.specs.Contents.{entries, refused_of, waiting_of, hash_in};
+ghost use Rattle.scc_common.specs.Steps.{HoldsExactly};
+ghost use Rattle.scc_common.specs.Walks.{CalledOn, CallableWhile, Walks};
 ghost use Rattle.scc_table.specs.Places.{IsPlace, StandsAt, index_of};
 ghost use Rattle.std.specs.List.Sorted.{IsPermutation};
 ghost use Rattle.std.specs.Prelude.{◌≡◌, suc, List, [], length, true, Some, MatchOption};
 
 use crate::Owned;
 use scc_buckets::Place;
-use scc_contents::Hashes;
+use scc_common::Hashes;
 use std::hash::{BuildHasher, Hash};
 
 impl<K: Eq + Hash, V, H: BuildHasher> Owned<K, V, H> {

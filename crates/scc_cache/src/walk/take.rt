@@ -2,9 +2,9 @@
 ghost use Rattle.scc_cache.specs.CacheWalks.{GoesOver, LeavesPairs, ShrinksIfTaken};
 ghost use Rattle.scc_cache.specs.Caches.{Cached};
 ghost use Rattle.scc_cache.specs.TakingWalks.{MovesOut, TakesByRule, TakesInOrder};
-ghost use Rattle.scc_contents.specs.Contents.{entries, hash_in};
-ghost use Rattle.scc_contents.specs.PairWalks.{CallableToWrite, CalledToWrite, GoesOn, Takes};
-ghost use Rattle.scc_contents.specs.Steps.{HoldsExactly};
+ghost use Rattle.scc_common.specs.Contents.{entries, hash_in};
+ghost use Rattle.scc_common.specs.PairWalks.{CallableToWrite, CalledToWrite, GoesOn, Takes};
+ghost use Rattle.scc_common.specs.Steps.{HoldsExactly};
 ghost use Rattle.scc_table.specs.Places.{IsPlace};
 ghost use Rattle.std.specs.List.Sorted.{IsPermutation};
 ghost use Rattle.std.specs.Prelude.{◌≡◌, ◌<◌, ◌++◌, List, Some};
@@ -12,8 +12,7 @@ ghost use Rattle.std.specs.Vec.{vec_len, vec_capacity};
 
 use crate::Owned;
 use scc_buckets::Place;
-use scc_common::{Verdict, WalkError};
-use scc_contents::Hashes;
+use scc_common::{Hashes, Verdict, WalkError};
 use std::hash::{BuildHasher, Hash};
 
 impl<K: Eq + Hash, V, H: BuildHasher> Owned<K, V, H> {

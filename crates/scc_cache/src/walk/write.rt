@@ -4,17 +4,17 @@ ghost use Rattle.scc_cache.specs.CacheWalks.{GoesOver, LeavesPairs};
 ghost use Rattle.scc_cache.specs.Caches.{Cached, IsCacheState};
 ghost use Rattle.scc_cache.specs.Lends.{with_value_at};
 ghost use Rattle.scc_cache.specs.Relocations.{RelocatesNoneWithin};
-ghost use Rattle.scc_contents.specs.Contents.{entries, hash_in, refused_of, waiting_of};
-ghost use Rattle.scc_contents.specs.PairWalks.{CallableToWrite, CalledToWrite, Retains, TakesToWrite};
-ghost use Rattle.scc_contents.specs.Pairs.{IsUnique};
-ghost use Rattle.scc_contents.specs.Steps.{HoldsExactly};
+ghost use Rattle.scc_common.specs.Contents.{entries, hash_in, refused_of, waiting_of};
+ghost use Rattle.scc_common.specs.PairWalks.{CallableToWrite, CalledToWrite, Retains, TakesToWrite};
+ghost use Rattle.scc_common.specs.Pairs.{IsUnique};
+ghost use Rattle.scc_common.specs.Steps.{HoldsExactly};
 ghost use Rattle.scc_table.specs.Places.{IsPlace, index_of};
 ghost use Rattle.std.specs.List.Sorted.{IsPermutation};
 ghost use Rattle.std.specs.Prelude.{◌≡◌, List, Some, slice_get, ⊤};
 
 use crate::Owned;
 use scc_buckets::Place;
-use scc_contents::Hashes;
+use scc_common::Hashes;
 use std::hash::{BuildHasher, Hash};
 
 impl<K: Eq + Hash, V, H: BuildHasher> Owned<K, V, H> {

@@ -9,8 +9,7 @@ ghost use Rattle.std.specs.Prelude.{◌≡◌};
 use crate::Owned;
 use crate::borrowed::OccupiedEntry;
 use crate::held::{HeldEntry, HeldOccupied, HeldVacant};
-use scc_common::InsertError;
-use scc_contents::Hashes;
+use scc_common::{Hashes, InsertError};
 use std::hash::{BuildHasher, Hash};
 use std::marker::PhantomData;
 

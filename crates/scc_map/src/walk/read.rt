@@ -1,8 +1,8 @@
 //! Walks over the pairs of a map, from place to place.
-ghost use Rattle.scc_contents.specs.Contents.{entries};
-ghost use Rattle.scc_contents.specs.PairWalks.{Declines, PassesFirst};
-ghost use Rattle.scc_contents.specs.Pairs.{IsUnique};
-ghost use Rattle.scc_contents.specs.Walks.{CalledOn, CallableWhile, Walks};
+ghost use Rattle.scc_common.specs.Contents.{entries};
+ghost use Rattle.scc_common.specs.PairWalks.{Declines, PassesFirst};
+ghost use Rattle.scc_common.specs.Pairs.{IsUnique};
+ghost use Rattle.scc_common.specs.Walks.{CalledOn, CallableWhile, Walks};
 ghost use Rattle.scc_map.specs.Shrinking.{TakesWithNextByRule};
 ghost use Rattle.scc_table.specs.Places.{IsPlace, index_of, StandsAt};
 ghost use Rattle.std.specs.Prelude.{◌≡◌, [], suc, length, Some, MatchOption, false, true};

@@ -1,8 +1,8 @@
 //! The walk that takes pairs out of a map into a list.
-ghost use Rattle.scc_contents.specs.Contents.{entries, refused_of, waiting_of};
-ghost use Rattle.scc_contents.specs.PairWalks.{CallableToWrite, CalledToWrite, GoesOn, Takes};
-ghost use Rattle.scc_contents.specs.Pairs.{IsUnique};
-ghost use Rattle.scc_contents.specs.Steps.{Holds, HoldsExactly};
+ghost use Rattle.scc_common.specs.Contents.{entries, refused_of, waiting_of};
+ghost use Rattle.scc_common.specs.PairWalks.{CallableToWrite, CalledToWrite, GoesOn, Takes};
+ghost use Rattle.scc_common.specs.Pairs.{IsUnique};
+ghost use Rattle.scc_common.specs.Steps.{Holds, HoldsExactly};
 ghost use Rattle.scc_map.specs.Shrinking.{TakesByRule, TakesIntoByRule};
 ghost use Rattle.scc_table.specs.Places.{IsPlace};
 ghost use Rattle.std.specs.List.Sorted.{IsPermutation};

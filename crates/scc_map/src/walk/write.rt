@@ -1,8 +1,8 @@
 //! Walks that write into the pairs of a map, and take pairs out of it.
-ghost use Rattle.scc_contents.specs.Contents.{entries, refused_of, waiting_of};
-ghost use Rattle.scc_contents.specs.PairWalks.{CallableToWrite, CalledToWrite, Retains, TakesToWrite};
-ghost use Rattle.scc_contents.specs.Pairs.{IsUnique, with_pair_value};
-ghost use Rattle.scc_contents.specs.Steps.{Holds, HoldsExactly};
+ghost use Rattle.scc_common.specs.Contents.{entries, refused_of, waiting_of};
+ghost use Rattle.scc_common.specs.PairWalks.{CallableToWrite, CalledToWrite, Retains, TakesToWrite};
+ghost use Rattle.scc_common.specs.Pairs.{IsUnique, with_pair_value};
+ghost use Rattle.scc_common.specs.Steps.{Holds, HoldsExactly};
 ghost use Rattle.scc_map.specs.Shrinking.{ClearsByRule, RetainsByRule};
 ghost use Rattle.scc_table.specs.Places.{IsPlace, index_of, with_write_at};
 ghost use Rattle.std.specs.List.Sorted.{IsPermutation};

@@ -1,5 +1,5 @@
 use Rattle.std.proofs.Common.{◌∙◌, ap, refl, rules}
-use Rattle.scc_contents.specs.Contents.{key_hash}
+use Rattle.scc_common.specs.Contents.{key_hash}
 use Rattle.scc_cache.specs.Entries.{occupied_pair}
 use Rattle.scc_memo.specs.Memos.{HasValues, refreshed}
 use Rattle.scc_memo.proofs.Values.{remembers-as, remembers-through, value-there, values-remembered}

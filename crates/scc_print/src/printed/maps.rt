@@ -13,7 +13,7 @@ impl<H: BuildHasher> Printed for Owned<u64, u64, H> {
     type Item = (u64, u64);
 
     ghost use Rattle.scc_print.specs.Output.{content_line, reply_line};
-    ghost use Rattle.scc_contents.specs.Contents.{entries};
+    ghost use Rattle.scc_common.specs.Contents.{entries};
     ghost use Rattle.scc_calls.specs.declared.replies.Reply.TheVariants.{Count};
 
     ghost shown = { entries };

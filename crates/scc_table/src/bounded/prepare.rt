@@ -1,6 +1,6 @@
 //! The preparation of a put.
 ghost use Rattle.scc_buckets.specs.Bounded.{IsListed};
-ghost use Rattle.scc_contents.specs.Contents.{bucket_count, key_hash};
+ghost use Rattle.scc_common.specs.Contents.{bucket_count, key_hash};
 ghost use Rattle.scc_table.specs.Growths.{DropsMarkWithin, PreparesWithin};
 ghost use Rattle.std.specs.Prelude.{◌≤◌, ◌<◌, ◌^◌, false};
 

@@ -1,7 +1,7 @@
 //! Puts of entries at the end of a list of at most 32, and moves to its end. None of these calls allocates.
 ghost use Rattle.scc_buckets.specs.Bounded.{IsListed, IsBounded};
-ghost use Rattle.scc_contents.specs.Contents.{entries, bucket_count, key_hash, settings_of, waiting_of, IsUniqueBy, list_of};
-ghost use Rattle.scc_contents.specs.Routing.{bucket_number};
+ghost use Rattle.scc_common.specs.Contents.{entries, bucket_count, key_hash, settings_of, waiting_of, IsUniqueBy, list_of};
+ghost use Rattle.scc_common.specs.Routing.{bucket_number};
 ghost use Rattle.scc_table.specs.Puts.{PutsWithin, MovesToEnd, PutsAtEnd};
 ghost use Rattle.scc_table.specs.Relocates.{left_after};
 ghost use Rattle.scc_table.specs.TwoArrays.{IsRelocated, IsWaiting, pending_targets, waits_at};

@@ -1,8 +1,8 @@
 //! Growths and shrinks after which no list holds more than 32 entries.
 ghost use Rattle.scc_buckets.specs.Bounded.{IsListed, MayShrinkWithin, ShrinksBounded};
 ghost use Rattle.scc_buckets.specs.Pour.{bound_for};
-ghost use Rattle.scc_contents.specs.Contents.{entries, bucket_count, key_hash, settings_of, IsUniqueBy};
-ghost use Rattle.scc_contents.specs.Sizes.{IsBucketCount};
+ghost use Rattle.scc_common.specs.Contents.{entries, bucket_count, key_hash, settings_of, IsUniqueBy};
+ghost use Rattle.scc_common.specs.Sizes.{IsBucketCount};
 ghost use Rattle.scc_table.specs.Growths.{DoublesWithin, FindsBucketWithin};
 ghost use Rattle.scc_table.specs.Relocates.{Spreads};
 ghost use Rattle.std.specs.List.Sorted.{IsPermutation};

@@ -1,7 +1,7 @@
 //! Searches in the list of one bucket, and its first entry.
 ghost use Rattle.scc_buckets.specs.Bounded.{IsUnlisted};
-ghost use Rattle.scc_contents.specs.Contents.{entries, bucket_count, list_of, settings_of, key_hash};
-ghost use Rattle.scc_contents.specs.Routing.{bucket_number};
+ghost use Rattle.scc_common.specs.Contents.{entries, bucket_count, list_of, settings_of, key_hash};
+ghost use Rattle.scc_common.specs.Routing.{bucket_number};
 ghost use Rattle.scc_table.specs.Bounded.{IsListedAt};
 ghost use Rattle.scc_table.specs.TwoArrays.{IsWaiting};
 ghost use Rattle.std.specs.List.{position};

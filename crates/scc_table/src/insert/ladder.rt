@@ -1,6 +1,6 @@
 //! The insertion of an entry whose key is new, from the check for a growth down to the bucket.
-ghost use Rattle.scc_contents.specs.Contents.{entries, bucket_count, key_hash, settings_of, waiting_of, HasRoomBy};
-ghost use Rattle.scc_contents.specs.Routing.{bucket_number};
+ghost use Rattle.scc_common.specs.Contents.{entries, bucket_count, key_hash, settings_of, waiting_of, HasRoomBy};
+ghost use Rattle.scc_common.specs.Routing.{bucket_number};
 ghost use Rattle.scc_table.specs.Insertions.{InsertsAndRelocates, InsertsThenRelocates, InsertsNew};
 ghost use Rattle.scc_table.specs.Puts.{InsertsIn};
 ghost use Rattle.scc_table.specs.TwoArrays.{IsWaiting, pending_targets, waits_at};

@@ -1,6 +1,6 @@
 //! The preparation of an insertion.
-ghost use Rattle.scc_contents.specs.Contents.{bucket_count, key_hash, lists_of, refused_of, settings_of, waiting_of, IsUniqueBy};
-ghost use Rattle.scc_contents.specs.Steps.{IsUnchanged, Prepares};
+ghost use Rattle.scc_common.specs.Contents.{bucket_count, key_hash, lists_of, refused_of, settings_of, waiting_of, IsUniqueBy};
+ghost use Rattle.scc_common.specs.Steps.{IsUnchanged, Prepares};
 ghost use Rattle.scc_table.specs.Marks.{MarksPreparation};
 ghost use Rattle.std.specs.Prelude.{◌≡◌, ◌<◌, false, OnOk, OnErr};
 

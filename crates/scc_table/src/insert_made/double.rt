@@ -1,9 +1,9 @@
 //! The insertion of an entry that is made, into an array that doubles.
 ghost use Rattle.scc_array.specs.Shelf.{empty_shelf};
 ghost use Rattle.scc_buckets.specs.Pour.{bound_for};
-ghost use Rattle.scc_contents.specs.Contents.{entries, bucket_count, key_hash, list_of, pending_of, settings_of, waiting_of};
-ghost use Rattle.scc_contents.specs.Routing.{bucket_number};
-ghost use Rattle.scc_contents.specs.Sizes.{IsBucketCount};
+ghost use Rattle.scc_common.specs.Contents.{entries, bucket_count, key_hash, list_of, pending_of, settings_of, waiting_of};
+ghost use Rattle.scc_common.specs.Routing.{bucket_number};
+ghost use Rattle.scc_common.specs.Sizes.{IsBucketCount};
 ghost use Rattle.scc_table.specs.Growths.{DoublesAround, InsertsGrown};
 ghost use Rattle.scc_table.specs.MadeInsertions.{InsertsMadeCrowded, InsertsMadeGrown};
 ghost use Rattle.scc_table.specs.TwoArrays.{waits_at};

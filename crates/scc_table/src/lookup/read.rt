@@ -1,6 +1,6 @@
 //! Reads: the entry at a place, sizes, settings, and the bucket of a key.
-ghost use Rattle.scc_contents.specs.Contents.{entries, bucket_count, bucket_of, key_hash, list_of, minimum_of, settings_of, HasRoomBy, IsRouted, IsUniqueBy};
-ghost use Rattle.scc_contents.specs.Routing.{bucket_number};
+ghost use Rattle.scc_common.specs.Contents.{entries, bucket_count, bucket_of, key_hash, list_of, minimum_of, settings_of, HasRoomBy, IsRouted, IsUniqueBy};
+ghost use Rattle.scc_common.specs.Routing.{bucket_number};
 ghost use Rattle.scc_table.specs.Places.{IsPlace, index_of};
 ghost use Rattle.std.specs.Prelude.{◌≡◌, ◌≤◌, ◌<◌, ◌^◌, ◌↔◌, length, Some, IsTrue, slice_get};
 

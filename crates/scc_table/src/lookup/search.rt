@@ -1,5 +1,5 @@
 //! The search for a key: its place, or the entry itself, also by a hint.
-ghost use Rattle.scc_contents.specs.Contents.{entries, key_hash, pending_of, IsRouted, IsUniqueBy};
+ghost use Rattle.scc_common.specs.Contents.{entries, key_hash, pending_of, IsRouted, IsUniqueBy};
 ghost use Rattle.scc_table.specs.Places.{IsFoundAt};
 ghost use Rattle.std.specs.List.{position, find};
 ghost use Rattle.std.specs.Option.{option_copied};

@@ -1,6 +1,6 @@
 //! Writes to the entries of two arrays. No write changes a place, and none allocates.
 ghost use Rattle.scc_array.specs.ShelfWrites.{put_whole};
-ghost use Rattle.scc_contents.specs.Contents.{entries, key_hash, IsUniqueBy};
+ghost use Rattle.scc_common.specs.Contents.{entries, key_hash, IsUniqueBy};
 ghost use Rattle.scc_table.specs.LendsTable.{lends_value};
 ghost use Rattle.scc_table.specs.Places.{IsPlace, index_of, with_write_at};
 ghost use Rattle.scc_table.specs.Updates.{UpdatesFirst};

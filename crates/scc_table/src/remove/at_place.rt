@@ -1,6 +1,6 @@
 //! Removals without a resize. They relocate nothing: the waiting buckets stay.
 ghost use Rattle.scc_buckets.specs.OneList.{IsTakenFrom};
-ghost use Rattle.scc_contents.specs.Contents.{entries, bucket_count, waiting_of, owed_of, IsUniqueBy};
+ghost use Rattle.scc_common.specs.Contents.{entries, bucket_count, waiting_of, owed_of, IsUniqueBy};
 ghost use Rattle.scc_table.specs.Places.{IsPlace, index_of, spot_of};
 ghost use Rattle.scc_table.specs.Removals.{SwapTakesAt, TakesWithNext, TakesIn};
 ghost use Rattle.scc_table.specs.Takes.{owed_taken};

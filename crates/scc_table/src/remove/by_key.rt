@@ -1,5 +1,5 @@
 //! Removals after which the array may shrink. The order of the other entries may change.
-ghost use Rattle.scc_contents.specs.Contents.{key_hash, pending_of, waiting_of, IsUniqueBy};
+ghost use Rattle.scc_common.specs.Contents.{key_hash, pending_of, waiting_of, IsUniqueBy};
 ghost use Rattle.scc_table.specs.Places.{IsPlace};
 ghost use Rattle.scc_table.specs.Removals.{RemovesAt, RemovesFirst, SwapTakesFirst};
 ghost use Rattle.std.specs.Prelude.{◌≡◌, ◌<◌, []};

@@ -1,5 +1,5 @@
 //! The first array, and growths for a new key.
-ghost use Rattle.scc_contents.specs.Contents.{bucket_count, key_hash, pending_of};
+ghost use Rattle.scc_common.specs.Contents.{bucket_count, key_hash, pending_of};
 ghost use Rattle.scc_table.specs.Growths.{FindsBucketForNew, GrowsHalfFull};
 ghost use Rattle.scc_table.specs.Installations.{InstallsFirst};
 ghost use Rattle.std.specs.Prelude.{◌≡◌, ◌<◌};

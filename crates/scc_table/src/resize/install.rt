@@ -1,7 +1,7 @@
 //! Installs a new array in the place of the current one, which becomes the old array.
 ghost use Rattle.scc_array.specs.Shelf.{empty_shelf};
-ghost use Rattle.scc_contents.specs.Contents.{bucket_count, key_hash, pending_of};
-ghost use Rattle.scc_contents.specs.Sizes.{IsBucketCount};
+ghost use Rattle.scc_common.specs.Contents.{bucket_count, key_hash, pending_of};
+ghost use Rattle.scc_common.specs.Sizes.{IsBucketCount};
 ghost use Rattle.scc_table.specs.Installations.{Installs, Notes, ResizesArray, InstallsFresh, InstallsRelocating};
 ghost use Rattle.std.specs.Prelude.{◌≡◌, ◌≢◌, ◌<◌, true, false, replicate};
 

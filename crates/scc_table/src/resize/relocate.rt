@@ -1,6 +1,6 @@
 //! Relocations: waiting buckets get their entries out of the old array.
 ghost use Rattle.scc_buckets.specs.Bounded.{IsBounded};
-ghost use Rattle.scc_contents.specs.Contents.{entries, list_of, pending_of};
+ghost use Rattle.scc_common.specs.Contents.{entries, list_of, pending_of};
 ghost use Rattle.scc_table.specs.Relocates.{AreShort};
 ghost use Rattle.scc_table.specs.Relocations.{RelocatesUpTo, RelocatesAll};
 ghost use Rattle.scc_table.specs.TwoArrays.{IsWaiting, IsFirstWaiting, IsRelocated};

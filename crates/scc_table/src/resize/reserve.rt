@@ -1,5 +1,5 @@
 //! The minimum of a table of two arrays, and the tokens of reserved slots.
-ghost use Rattle.scc_contents.specs.Contents.{bucket_count, settings_of};
+ghost use Rattle.scc_common.specs.Contents.{bucket_count, settings_of};
 ghost use Rattle.scc_table.specs.Minimums.{GrowsToMinimum, LowersMinimum, RaisesMinimum, ReservesSlots};
 ghost use Rattle.scc_table.specs.Installations.{SetsReserved};
 ghost use Rattle.std.specs.Prelude.{◌≡◌, ◌≤◌, ◌<◌, ◌+◌, ◌^◌};

@@ -1,6 +1,6 @@
 //! Shrinks of a table of two arrays.
-ghost use Rattle.scc_contents.specs.Contents.{entries, bucket_count, minimum_of, IsUniqueBy};
-ghost use Rattle.scc_contents.specs.Steps.{Resizes, Shrinks, ShrinksWhenDue};
+ghost use Rattle.scc_common.specs.Contents.{entries, bucket_count, minimum_of, IsUniqueBy};
+ghost use Rattle.scc_common.specs.Steps.{Resizes, Shrinks, ShrinksWhenDue};
 ghost use Rattle.scc_table.specs.Relocates.{IsShrinkDue, Spreads};
 ghost use Rattle.std.specs.Prelude.{◌≤◌, ◌*◌, length};
 

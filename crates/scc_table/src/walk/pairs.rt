@@ -1,6 +1,6 @@
 //! Walks over pairs, which call a closure with a key and a value.
-ghost use Rattle.scc_contents.specs.Contents.{entries};
-ghost use Rattle.scc_contents.specs.Walks.{CalledOn, CallableWhile, Walks};
+ghost use Rattle.scc_common.specs.Contents.{entries};
+ghost use Rattle.scc_common.specs.Walks.{CalledOn, CallableWhile, Walks};
 ghost use Rattle.std.specs.Prelude.{true};
 
 use crate::Table;

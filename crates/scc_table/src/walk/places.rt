@@ -1,6 +1,6 @@
 //! Steps from place to place, in the order of the entries.
 ghost use Rattle.scc_buckets.specs.Places as spots;
-ghost use Rattle.scc_contents.specs.Contents.{entries, bucket_count, owed_of, list_of};
+ghost use Rattle.scc_common.specs.Contents.{entries, bucket_count, owed_of, list_of};
 ghost use Rattle.scc_table.specs.Places.{IsPlace, index_of, spot_of, StandsAt};
 ghost use Rattle.scc_table.specs.NextPlaces.{index_on, rank_on, IsStart};
 ghost use Rattle.scc_table.specs.TwoArrays.{IsWaiting};

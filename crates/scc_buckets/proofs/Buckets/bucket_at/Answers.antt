@@ -1,6 +1,6 @@
 use Rattle.std.proofs.Common.{◌≡◌, ap, ◌∙◌, length, rules}
-use Rattle.scc_contents.specs.Hashing.{hash_of}
-use Rattle.scc_contents.specs.Routing.{bucket_number}
+use Rattle.scc_common.specs.Hashing.{hash_of}
+use Rattle.scc_common.specs.Routing.{bucket_number}
 use Rattle.scc_buckets.proofs.Bounds.{routed-view}
 use Rattle.scc_buckets.proofs.Views.{count-view, entries-view, settings-view}
 use Rattle.scc_buckets.proofs.Buckets.bucket_at.Goals as goal

@@ -1,5 +1,5 @@
 use Rattle.std.proofs.Common.{◌∙◌, refl, sym}
-use Rattle.scc_contents.specs.Contents.{bucket_count, entries, settings_of}
+use Rattle.scc_common.specs.Contents.{bucket_count, entries, settings_of}
 use Rattle.scc_buckets.proofs.Bare.{all-bare}
 use Rattle.scc_buckets.proofs.MakingLemmas.{kept-none}
 use Rattle.scc_buckets.proofs.Views.{entries-view, refused-view, settings-view}

@@ -1,6 +1,6 @@
 use Rattle.std.proofs.Common.{◌≡◌, ◌∙◌, sym, ap, rules, length, refl}
 use Rattle.std.specs.List.{find}
-use Rattle.scc_contents.specs.Hashing.{hash_of}
+use Rattle.scc_common.specs.Hashing.{hash_of}
 use Rattle.scc_buckets.proofs.FindingLemmas.{HashOf, has_tag, no-entries}
 use Rattle.scc_buckets.proofs.Finds.{find-own}
 use Rattle.scc_buckets.proofs.Views.{entries-view, settings-view}

@@ -3,7 +3,7 @@ use Rattle.std.specs.List.{find}
 use Rattle.scc_array.proofs.Hinted.{passing-flat}
 use Rattle.scc_array.specs.Shelf.{shelf_entries, empty_shelf, HasTag}
 use Rattle.scc_array.specs.Shelves.{shelf_of}
-use Rattle.scc_contents.specs.Hashing.{hash_of}
+use Rattle.scc_common.specs.Hashing.{hash_of}
 use Rattle.scc_buckets.proofs.Arrays.{shelf-at}
 use Rattle.scc_buckets.proofs.FindingLemmas.{HashOf, has_tag, no-entries}
 use Rattle.scc_buckets.proofs.Finds.{find-own}

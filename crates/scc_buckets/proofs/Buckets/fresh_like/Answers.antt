@@ -1,5 +1,5 @@
 use Rattle.std.proofs.Common.{◌≡◌, length, refl, sym, ◌∙◌, arith, rules}
-use Rattle.scc_contents.specs.Contents.{refused_of, waiting_of}
+use Rattle.scc_common.specs.Contents.{refused_of, waiting_of}
 use Rattle.scc_buckets.proofs.CloningLemmas.{array-of_some}
 use Rattle.scc_buckets.proofs.MakingLemmas.{kept-fresh, entries-fresh}
 use Rattle.scc_buckets.proofs.Views.{count-view, settings-view}

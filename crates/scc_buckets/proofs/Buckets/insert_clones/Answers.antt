@@ -2,7 +2,7 @@ use Rattle.std.proofs.Common.{◌<◌, ◌≤◌, length, rules, subst}
 use Rattle.scc_array.specs.Shelves.{shelf_of}
 use Rattle.scc_array.specs.Shelf.{shelf_entries}
 use Rattle.scc_array.proofs.ListsLemmas.{get-is}
-use Rattle.scc_contents.specs.Clones.{AddsClones}
+use Rattle.scc_common.specs.Clones.{AddsClones}
 use Rattle.scc_array.proofs.Totals.{take-whole}
 use Rattle.scc_buckets.proofs.CloningLemmas.{adds-none, adds-next}
 use Rattle.scc_buckets.proofs.Buckets.insert_clones.Goals as goal

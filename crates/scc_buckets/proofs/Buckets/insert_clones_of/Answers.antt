@@ -2,7 +2,7 @@ use Rattle.std.proofs.Common.{◌<◌, ◌≤◌, length, take, rules, sym, ap, 
 use Rattle.std.specs.List.{flat_map}
 use Rattle.scc_array.specs.Shelves.{shelf_of}
 use Rattle.scc_array.specs.Shelf.{shelf_entries}
-use Rattle.scc_contents.specs.Clones.{AddsClones}
+use Rattle.scc_common.specs.Clones.{AddsClones}
 use Rattle.scc_array.proofs.Totals.{take-whole}
 use Rattle.scc_buckets.proofs.Arrays.{flat-next}
 use Rattle.scc_buckets.proofs.CloningLemmas.{adds-none, adds-more}

@@ -1,6 +1,6 @@
 use Rattle.std.proofs.Common.{take}
 use Rattle.std.specs.List.{flat_map}
-use Rattle.scc_contents.specs.Clones.{AddsClones}
+use Rattle.scc_common.specs.Clones.{AddsClones}
 use Rattle.scc_array.specs.Shelf.{shelf_entries}
 use Rattle.scc_buckets.proofs.Buckets.insert_clones_of.Given as goal
 

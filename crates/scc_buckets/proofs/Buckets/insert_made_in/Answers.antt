@@ -1,8 +1,8 @@
 use Rattle.std.proofs.Common.{◌≡◌, ◌+◌, ◌-◌, ◌^◌, ◌<◌, ◌≤◌, ◌∙◌, sym, ap, rules, arith, length, refl, set, length-set}
-use Rattle.scc_contents.specs.Hashing.{hash_of}
-use Rattle.scc_contents.specs.Routing.{bucket_number, tag_of}
+use Rattle.scc_common.specs.Hashing.{hash_of}
+use Rattle.scc_common.specs.Routing.{bucket_number, tag_of}
 use Rattle.scc_array.specs.Shelf.{Shelf, with_entry}
-use Rattle.scc_contents.specs.Contents.{entries}
+use Rattle.scc_common.specs.Contents.{entries}
 use Rattle.scc_buckets.proofs.Inserts.{inserted-at, inserted-table, inserted-holds, overflow-after, overflow-full, refused-unchanged, refused-entries, refused-table, unique-inserted, table-bound, bucket-bound, read-again}
 use native.Mathlib.Decide.{dec_lt}
 use Rattle.scc_buckets.proofs.OneList.{put-in-list, same-in-lists}

@@ -1,7 +1,7 @@
 use Rattle.std.proofs.Common.{refl, sym, ◌∙◌, ap, subst, map, List}
 use Rattle.std.specs.List.{flat_map, IsDistinct}
 use Rattle.scc_array.specs.Shelf.{Shelf, shelf_entries}
-use Rattle.scc_contents.specs.Hashing.{hash_of}
+use Rattle.scc_common.specs.Hashing.{hash_of}
 use Rattle.scc_buckets.specs.Tables.{IsBuckets, overflow_in}
 use Rattle.scc_buckets.proofs.Views.{settings-view, refused-view, spilled-view, lists-view, waiting-view, owed-view}
 use Rattle.scc_buckets.proofs.Buckets.install.Goals as goal

@@ -1,5 +1,5 @@
 use Rattle.std.proofs.Common.{rules, ◌∙◌, length, refl, sym, ap, arith}
-use Rattle.scc_contents.specs.Contents.{settings_of}
+use Rattle.scc_common.specs.Contents.{settings_of}
 use Rattle.scc_buckets.specs.Tables.{AllEmpty}
 use Rattle.scc_buckets.proofs.Bounds.{resized-fresh}
 use Rattle.scc_buckets.proofs.FindingLemmas.{no-entries}

@@ -1,4 +1,4 @@
-use Rattle.scc_contents.specs.Hashing.{hash_of}
+use Rattle.scc_common.specs.Hashing.{hash_of}
 use Rattle.scc_buckets.proofs.Bounds.{listed-view, routed-view}
 use Rattle.scc_buckets.proofs.Views.{entries-view, settings-view}
 use Rattle.scc_buckets.proofs.Buckets.list_facts.Goals as goal

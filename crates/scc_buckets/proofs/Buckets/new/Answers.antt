@@ -1,6 +1,6 @@
 use Rattle.std.proofs.Common.{refl, arith, inl, []}
-use Rattle.scc_contents.specs.Contents.{entries, bucket_count, refused_of, settings_of, waiting_of}
-use Rattle.scc_contents.specs.Hashing.{hash_of}
+use Rattle.scc_common.specs.Contents.{entries, bucket_count, refused_of, settings_of, waiting_of}
+use Rattle.scc_common.specs.Hashing.{hash_of}
 use Rattle.scc_buckets.proofs.Bounds.{bounded-fresh, listed-view}
 use Rattle.scc_buckets.proofs.MakingLemmas.{kept-none, none-empty, table-empty}
 use Rattle.scc_buckets.proofs.Buckets.new.Goals as goal

@@ -1,5 +1,5 @@
 use Rattle.std.proofs.Common.{◌<◌, length, refl, ap, ◌∙◌, rules}
-use Rattle.scc_contents.specs.Hashing.{hash_of}
+use Rattle.scc_common.specs.Hashing.{hash_of}
 use Rattle.scc_buckets.proofs.Spots.{place-get}
 use Rattle.scc_buckets.proofs.Views.{count-view, list-view}
 use Rattle.scc_buckets.proofs.WritingTables.{written-table, written-view, written-unique}
@@ -15,8 +15,8 @@ parts_mut_at-requires-clause-bucket g c =
     let l : c.args.place.bucket < length bs = rw count at c.requires.bucket in
     search rules
 
-pub parts_mut_at-requires-clause-place : goal.parts_mut_at-requires-clause-place
-parts_mut_at-requires-clause-place g c =
+pub parts_mut_at-requires-clause-slot : goal.parts_mut_at-requires-clause-slot
+parts_mut_at-requires-clause-slot g c =
     let t = c.self.inside in
     let bs = t.buckets in
     let count = count-view bs _ c.args.self.now c.self.view_is in

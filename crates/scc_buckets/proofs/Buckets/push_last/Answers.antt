@@ -1,8 +1,8 @@
 use Rattle.std.proofs.Common.{◌≡◌, ℕ, ◌<◌, ◌+◌, ◌∙◌, sym, ap, rules, arith, length, refl, set}
 use Rattle.scc_array.specs.Shelf.{with_slot}
-use Rattle.scc_contents.specs.Contents.{entries}
-use Rattle.scc_contents.specs.Hashing.{hash_of}
-use Rattle.scc_contents.specs.Routing.{bucket_number, tag_of}
+use Rattle.scc_common.specs.Contents.{entries}
+use Rattle.scc_common.specs.Hashing.{hash_of}
+use Rattle.scc_common.specs.Routing.{bucket_number, tag_of}
 use Rattle.scc_buckets.proofs.Bounds.{slots-are, slot-entry, stored-slot, has-list, listed-view, pushed-list}
 use Rattle.scc_buckets.proofs.Inserts.{inserted-table, inserted-holds, unique-inserted, table-bound}
 use Rattle.scc_buckets.proofs.Views.{entries-view, count-view, list-view, settings-view}

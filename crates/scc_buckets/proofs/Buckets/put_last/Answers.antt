@@ -1,7 +1,7 @@
 use Rattle.std.proofs.Common.{◌∙◌, Bool, ◌≤◌, ◌++◌, [], ◌∷◌, rules, ap, length, subst}
 use Rattle.std.specs.List.{remove, position}
 use Rattle.scc_buckets.specs.Bounded.{HasList}
-use Rattle.scc_contents.specs.Contents.{entries, list_of}
+use Rattle.scc_common.specs.Contents.{entries, list_of}
 use Rattle.scc_buckets.proofs.Bounds.{absent-removed, first-is, has-list-of, has-list-then}
 use Rattle.scc_buckets.proofs.Buckets.put_last.Goals as goal
 

@@ -1,5 +1,5 @@
 use Rattle.std.proofs.Common.{◌≡◌, ◌∙◌, sym, ap, rules, length, refl}
-use Rattle.scc_contents.specs.Hashing.{hash_of}
+use Rattle.scc_common.specs.Hashing.{hash_of}
 use Rattle.scc_buckets.proofs.FindingLemmas.{has_tag, found_at, missed_at, no-entries}
 use Rattle.scc_buckets.proofs.Views.{entries-view, settings-view}
 use Rattle.scc_array.specs.Shelves.{shelf_of}

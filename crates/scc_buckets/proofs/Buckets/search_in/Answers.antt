@@ -1,5 +1,5 @@
 use Rattle.std.proofs.Common.{◌<◌, ◌∙◌, sym, ap, rules, length}
-use Rattle.scc_contents.specs.Hashing.{hash_of}
+use Rattle.scc_common.specs.Hashing.{hash_of}
 use Rattle.scc_buckets.proofs.FindingLemmas.{has_tag, missed_at}
 use Rattle.scc_buckets.proofs.Views.{count-view, list-view, settings-view}
 use Rattle.scc_array.specs.Shelves.{shelf_of}

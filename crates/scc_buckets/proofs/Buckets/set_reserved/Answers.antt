@@ -1,5 +1,5 @@
 use Rattle.std.proofs.Common.{sym, ◌∙◌, refl}
-use Rattle.scc_contents.specs.Contents.{settings_of}
+use Rattle.scc_common.specs.Contents.{settings_of}
 use Rattle.scc_buckets.proofs.Views.{entries-view, count-view, lists-view, refused-view, settings-view, spilled-view}
 use Rattle.scc_buckets.proofs.Buckets.set_reserved.Goals as goal
 

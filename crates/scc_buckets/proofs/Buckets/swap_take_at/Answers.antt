@@ -1,5 +1,5 @@
 use Rattle.std.proofs.Common.{refl, sym, ◌∙◌, ◌≡◌, ◌<◌, ◌≤◌, ap, rules, arith, length}
-use Rattle.scc_contents.specs.Hashing.{hash_of}
+use Rattle.scc_common.specs.Hashing.{hash_of}
 use Rattle.scc_array.specs.Shelf.{shelf_entries, without_slot}
 use Rattle.scc_buckets.proofs.Inserts.{read-again}
 use Rattle.scc_buckets.proofs.Removes.{at-least-one}
@@ -19,8 +19,8 @@ is_overflow-in_overflow-requires-clause-bucket g c =
     let l : c.args.place.bucket < length bs = rw count at c.requires.bucket in
     search rules
 
-pub is_overflow-in_overflow-requires-clause-place : goal.is_overflow-in_overflow-requires-clause-place
-is_overflow-in_overflow-requires-clause-place g c =
+pub is_overflow-in_overflow-requires-clause-slot : goal.is_overflow-in_overflow-requires-clause-slot
+is_overflow-in_overflow-requires-clause-slot g c =
     let t = c.self.inside in
     let bs = t.buckets in
     let count = count-view bs _ c.args.self.now c.self.view_is in
@@ -37,8 +37,8 @@ swap_remove_at-entry-requires-clause-bucket g c =
     let l : c.args.place.bucket < length bs = rw count at c.requires.bucket in
     search rules
 
-pub swap_remove_at-entry-requires-clause-place : goal.swap_remove_at-entry-requires-clause-place
-swap_remove_at-entry-requires-clause-place g c =
+pub swap_remove_at-entry-requires-clause-slot : goal.swap_remove_at-entry-requires-clause-slot
+swap_remove_at-entry-requires-clause-slot g c =
     let t = c.self.inside in
     let bs = t.buckets in
     let count = count-view bs _ c.args.self.now c.self.view_is in

@@ -3,7 +3,7 @@ use Rattle.std.specs.List.{position}
 use Rattle.scc_array.specs.Shelves.{shelf_of}
 use Rattle.scc_array.specs.Shelf.{Shelf, shelf_entries}
 use Rattle.scc_array.specs.Takes.{IsTakenOut}
-use Rattle.scc_contents.specs.Hashing.{hash_of}
+use Rattle.scc_common.specs.Hashing.{hash_of}
 use Rattle.scc_buckets.proofs.Arrays.{shelf-at}
 use Rattle.scc_buckets.proofs.FindingLemmas.{HashOf, has_tag, no-entries}
 use Rattle.scc_buckets.proofs.TakenFirst.{missed-all, missed-places, taken-near, taken-far, taken-unique, taken-first}

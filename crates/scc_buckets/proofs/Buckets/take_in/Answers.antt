@@ -1,6 +1,6 @@
 use Rattle.std.proofs.Common.{◌≡◌, ◌<◌, ◌≤◌, ap, rules, arith, length, refl, sym, ◌∙◌}
-use Rattle.scc_contents.specs.Contents.{entries}
-use Rattle.scc_contents.specs.Hashing.{hash_of}
+use Rattle.scc_common.specs.Contents.{entries}
+use Rattle.scc_common.specs.Hashing.{hash_of}
 use Rattle.scc_array.specs.Shelf.{shelf_entries}
 use Rattle.scc_buckets.proofs.Bounds.{gone, removed-list, removed-short}
 use Rattle.scc_buckets.proofs.Inserts.{read-again}
@@ -21,8 +21,8 @@ is_overflow-in_overflow-requires-clause-bucket g c =
     let l : c.args.place.bucket < length bs = rw count at c.requires.bucket in
     search rules
 
-pub is_overflow-in_overflow-requires-clause-place : goal.is_overflow-in_overflow-requires-clause-place
-is_overflow-in_overflow-requires-clause-place g c =
+pub is_overflow-in_overflow-requires-clause-slot : goal.is_overflow-in_overflow-requires-clause-slot
+is_overflow-in_overflow-requires-clause-slot g c =
     let t = c.self.inside in
     let bs = t.buckets in
     let count = count-view bs _ c.args.self.now c.self.view_is in
@@ -39,8 +39,8 @@ remove_at-entry-requires-clause-bucket g c =
     let l : c.args.place.bucket < length bs = rw count at c.requires.bucket in
     search rules
 
-pub remove_at-entry-requires-clause-place : goal.remove_at-entry-requires-clause-place
-remove_at-entry-requires-clause-place g c =
+pub remove_at-entry-requires-clause-slot : goal.remove_at-entry-requires-clause-slot
+remove_at-entry-requires-clause-slot g c =
     let t = c.self.inside in
     let bs = t.buckets in
     let count = count-view bs _ c.args.self.now c.self.view_is in

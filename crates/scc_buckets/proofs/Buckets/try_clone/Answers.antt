@@ -1,5 +1,5 @@
 use Rattle.std.proofs.Common.{◌∙◌, refl}
-use Rattle.scc_contents.specs.Contents.{entries}
+use Rattle.scc_common.specs.Contents.{entries}
 use Rattle.scc_buckets.proofs.CloningLemmas.{adds-whole}
 use Rattle.scc_buckets.proofs.Views.{settings-view, waiting-view}
 use Rattle.scc_buckets.proofs.Buckets.try_clone.Goals as goal

@@ -1,7 +1,7 @@
 use Rattle.std.proofs.Common.{◌≡◌, ◌∙◌, sym, ap, rules, length, refl}
 use Rattle.std.specs.List.{find, position}
 use Rattle.scc_array.specs.Shelves.{shelf_of}
-use Rattle.scc_contents.specs.Hashing.{hash_of}
+use Rattle.scc_common.specs.Hashing.{hash_of}
 use Rattle.scc_buckets.proofs.Arrays.{shelf-at}
 use Rattle.scc_buckets.proofs.FindingLemmas.{HashOf, has_tag, no-entries}
 use Rattle.scc_buckets.proofs.Finds.{find-own}

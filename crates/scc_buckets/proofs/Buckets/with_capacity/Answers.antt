@@ -1,7 +1,7 @@
 use Rattle.std.proofs.Common.{rules, refl, arith, inr, length}
-use Rattle.scc_contents.specs.Hashing.{hash_of}
-use Rattle.scc_contents.specs.Sizes.{IsLawful}
-use Rattle.scc_contents.specs.Contents.{refused_of, settings_of, waiting_of}
+use Rattle.scc_common.specs.Hashing.{hash_of}
+use Rattle.scc_common.specs.Sizes.{IsLawful}
+use Rattle.scc_common.specs.Contents.{refused_of, settings_of, waiting_of}
 use Rattle.scc_buckets.proofs.Bounds.{bounded-fresh, listed-view}
 use Rattle.scc_buckets.proofs.MakingLemmas.{kept-fresh, entries-fresh, table-empty}
 use Rattle.scc_buckets.proofs.Views.{count-view}

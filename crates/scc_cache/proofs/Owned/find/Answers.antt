@@ -1,7 +1,7 @@
 use Rattle.std.proofs.Common.{ap}
-use Rattle.scc_contents.specs.Contents.{bucket_count, settings_of}
-use Rattle.scc_contents.specs.Hashing.{hash_of}
-use Rattle.scc_contents.specs.Routing.{bucket_number}
+use Rattle.scc_common.specs.Contents.{bucket_count, settings_of}
+use Rattle.scc_common.specs.Hashing.{hash_of}
+use Rattle.scc_common.specs.Routing.{bucket_number}
 use Rattle.scc_cache.proofs.Caching.{found-or-lacking}
 use Rattle.scc_cache.proofs.Owned.find.Goals as goal
 

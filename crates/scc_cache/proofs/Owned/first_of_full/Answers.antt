@@ -1,8 +1,8 @@
 use Rattle.std.proofs.Common.{◌≡◌, ◌∙◌, ◌<◌, ◌≤◌, Some, [], length, sym, subst, arith}
 use Rattle.std.specs.List.{slice_get}
 use Rattle.std.proofs.lemmas.List.{get_or_past}
-use Rattle.scc_contents.specs.Contents.{bucket_count, list_of, lists_of, settings_of}
-use Rattle.scc_contents.specs.Routing.{bucket_number}
+use Rattle.scc_common.specs.Contents.{bucket_count, list_of, lists_of, settings_of}
+use Rattle.scc_common.specs.Routing.{bucket_number}
 use Rattle.scc_table.proofs.Relocated.{count-is, list-is}
 use Rattle.scc_cache.proofs.Owned.first_of_full.Goals as goal
 

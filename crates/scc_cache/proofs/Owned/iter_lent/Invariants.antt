@@ -1,7 +1,7 @@
 use Rattle.std.proofs.Common.{◌-◌, Bool, length, drop, IfSome, true}
-use Rattle.scc_contents.specs.Contents.{entries}
+use Rattle.scc_common.specs.Contents.{entries}
 use Rattle.scc_table.specs.Places.{IsPlace}
-use Rattle.scc_contents.specs.Walks.{CalledOn, CallableWhile, Walks}
+use Rattle.scc_common.specs.Walks.{CalledOn, CallableWhile, Walks}
 use Rattle.scc_table.proofs.Reached.{reached}
 use Rattle.scc_cache.proofs.Owned.iter_lent.Given as goal
 

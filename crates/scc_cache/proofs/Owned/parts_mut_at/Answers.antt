@@ -1,6 +1,6 @@
 use Rattle.std.proofs.Common.{refl, sym, ap, subst}
 use Rattle.scc_table.specs.Places.{IsPlace}
-use Rattle.scc_contents.specs.Hashing.{hash_of}
+use Rattle.scc_common.specs.Hashing.{hash_of}
 use Rattle.scc_cache.specs.Lends.{with_value_at}
 use Rattle.scc_cache.proofs.Writing.{value-state-by}
 use Rattle.scc_cache.proofs.Owned.parts_mut_at.Goals as goal

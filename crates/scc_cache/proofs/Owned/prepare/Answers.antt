@@ -1,9 +1,9 @@
 use Rattle.std.proofs.Common.{◌∙◌, ℕ, ◌≤◌, ◌*◌, refl, sym, ap, subst, rules}
 use Rattle.std.specs.List.{count_by}
 use Rattle.scc_buckets.specs.Bounded.{IsListed}
-use Rattle.scc_contents.specs.Contents.{bucket_count, settings_of}
-use Rattle.scc_contents.specs.Hashing.{hash_of}
-use Rattle.scc_contents.specs.Routing.{bucket_number}
+use Rattle.scc_common.specs.Contents.{bucket_count, settings_of}
+use Rattle.scc_common.specs.Hashing.{hash_of}
+use Rattle.scc_common.specs.Routing.{bucket_number}
 use Rattle.scc_table.specs.Bounded.{GrowsBelow, IsPreparedBelow}
 use Rattle.scc_table.proofs.Finishing.{pending-is}
 use Rattle.scc_cache.proofs.Caching.{grown-within, state-after}

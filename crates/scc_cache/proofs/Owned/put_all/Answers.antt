@@ -1,5 +1,5 @@
 use Rattle.std.proofs.lemmas.Fn.{FoldsTo-push}
-use Rattle.scc_contents.specs.Contents.{key_hash}
+use Rattle.scc_common.specs.Contents.{key_hash}
 use Rattle.scc_cache.specs.Collections.{PutsOne}
 use Rattle.scc_cache.proofs.Owned.put_all.Goals as goal
 

@@ -1,4 +1,4 @@
-use Rattle.scc_contents.specs.Contents.{key_hash}
+use Rattle.scc_common.specs.Contents.{key_hash}
 use Rattle.scc_cache.specs.Collections.{PutsAll}
 use Rattle.scc_cache.proofs.Owned.put_all.Given as goal
 

@@ -5,9 +5,9 @@ use Rattle.scc_table.specs.Bounded.{GrowsBelow}
 use Rattle.scc_table.specs.Relocates.{left_after}
 use Rattle.scc_table.proofs.Same.{count-same, entries-same, pending-same}
 use Rattle.scc_table.proofs.Targets.{targets-same}
-use Rattle.scc_contents.specs.Contents.{entries, bucket_count, lists_of, pending_of, settings_of}
-use Rattle.scc_contents.specs.Hashing.{hash_of}
-use Rattle.scc_contents.specs.Routing.{bucket_number}
+use Rattle.scc_common.specs.Contents.{entries, bucket_count, lists_of, pending_of, settings_of}
+use Rattle.scc_common.specs.Hashing.{hash_of}
+use Rattle.scc_common.specs.Routing.{bucket_number}
 use Rattle.scc_buckets.proofs.Resizes.{absent-permuted}
 use Rattle.scc_cache.proofs.Caching.{at-spot, grown-within, missing-grown, once-grown, put-length, put-place, puts-count, puts-pair, puts-refused, state-after}
 use Rattle.scc_cache.specs.Caches.{Cached, IsCacheState}

@@ -1,8 +1,8 @@
 use Rattle.std.proofs.Common.{◌≡◌, ◌∙◌, None, Some, refl, sym, ap, arith}
 use Rattle.std.specs.List.{position}
-use Rattle.scc_contents.specs.Contents.{bucket_count, settings_of}
-use Rattle.scc_contents.specs.Hashing.{hash_of}
-use Rattle.scc_contents.specs.Routing.{bucket_number}
+use Rattle.scc_common.specs.Contents.{bucket_count, settings_of}
+use Rattle.scc_common.specs.Hashing.{hash_of}
+use Rattle.scc_common.specs.Routing.{bucket_number}
 use Rattle.scc_table.proofs.Listing.{absent-list}
 use Rattle.scc_table.proofs.Same.{count-same, entries-same}
 use Rattle.scc_cache.proofs.Caching.{is-lacking, state-after}

@@ -1,8 +1,8 @@
 use Rattle.std.proofs.Common.{◌≡◌, ◌∙◌, ◌++◌, ◌+◌, ◌-◌, [], ◌∷◌, ℕ, false, length, refl, sym, ap, subst, arith}
 use Rattle.std.specs.List.{remove}
-use Rattle.scc_contents.specs.Contents.{bucket_count, owed_of, list_of, settings_of, waiting_of}
-use Rattle.scc_contents.specs.Hashing.{hash_of}
-use Rattle.scc_contents.specs.Routing.{bucket_number}
+use Rattle.scc_common.specs.Contents.{bucket_count, owed_of, list_of, settings_of, waiting_of}
+use Rattle.scc_common.specs.Hashing.{hash_of}
+use Rattle.scc_common.specs.Routing.{bucket_number}
 use Rattle.scc_buckets.specs.declared.place.Place.{Place}
 use Rattle.scc_table.specs.Places.{spot_of}
 use Rattle.scc_table.specs.TwoArrays.{waits_at}

@@ -1,7 +1,7 @@
 use Rattle.std.proofs.Common.{◌∙◌, ℕ, refl, sym, subst, arith}
 use Rattle.std.specs.List.{remove}
 use Rattle.scc_buckets.specs.Bounded.{MayShrinkWithin, ShrinksBounded}
-use Rattle.scc_contents.specs.Hashing.{hash_of}
+use Rattle.scc_common.specs.Hashing.{hash_of}
 use Rattle.scc_table.specs.Places.{IsPlace, spot_of}
 use Rattle.scc_table.specs.Relocates.{Spreads}
 use Rattle.scc_table.proofs.Listing.{listed-removed}

@@ -1,6 +1,6 @@
 use Rattle.std.proofs.Common.{Some, refl, ap, subst, ◌∙◌}
-use Rattle.scc_contents.specs.Hashing.{hash_of}
-use Rattle.scc_contents.specs.Pairs.{with_pair_value}
+use Rattle.scc_common.specs.Hashing.{hash_of}
+use Rattle.scc_common.specs.Pairs.{with_pair_value}
 use Rattle.scc_table.specs.Placed.{IsPlace-with_write_at}
 use Rattle.scc_table.specs.Places.{spot_of}
 use Rattle.scc_cache.specs.Lends.{with_value_at}

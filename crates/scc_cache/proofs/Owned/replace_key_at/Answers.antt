@@ -1,9 +1,9 @@
 use Rattle.std.proofs.Common.{◌∙◌, ap, sym, subst}
 use Rattle.scc_table.specs.Places.{IsPlace, spot_of}
 use Rattle.scc_table.specs.Placed.{IsPlace-with_write_at}
-use Rattle.scc_contents.specs.Contents.{settings_of}
-use Rattle.scc_contents.specs.Hashing.{hash_of}
-use Rattle.scc_contents.specs.Pairs.{with_pair_key}
+use Rattle.scc_common.specs.Contents.{settings_of}
+use Rattle.scc_common.specs.Hashing.{hash_of}
+use Rattle.scc_common.specs.Pairs.{with_pair_key}
 use Rattle.scc_cache.proofs.Entries.{alike-keyed}
 use Rattle.scc_cache.proofs.Writing.{get-listed, key-state-by}
 use Rattle.scc_cache.proofs.Owned.replace_key_at.Goals as goal

@@ -1,6 +1,6 @@
 use Rattle.std.proofs.Common.{◌≡◌, ◌∙◌, ◌++◌, [], refl, length, drop, take, subst, append-nil}
-use Rattle.scc_contents.specs.Contents.{entries}
-use Rattle.scc_contents.specs.PairWalks.{CalledToWrite, Retains, ended}
+use Rattle.scc_common.specs.Contents.{entries}
+use Rattle.scc_common.specs.PairWalks.{CalledToWrite, Retains, ended}
 use Rattle.scc_buckets.proofs.Placed.{drop-all}
 use Rattle.scc_table.proofs.WalkReached.{take-all}
 use Rattle.scc_table.specs.Places.{spot_of}

@@ -1,8 +1,8 @@
 use Rattle.std.proofs.Common.{ℕ, refl, subst, arith}
 use Rattle.std.proofs.lemmas.List.Sorted.{IsPermutation-refl}
 use Rattle.scc_buckets.specs.Bounded.{MayShrinkWithin, ShrinksBounded}
-use Rattle.scc_contents.specs.Contents.{entries}
-use Rattle.scc_contents.specs.Hashing.{hash_of}
+use Rattle.scc_common.specs.Contents.{entries}
+use Rattle.scc_common.specs.Hashing.{hash_of}
 use Rattle.scc_table.specs.Relocates.{Spreads}
 use Rattle.scc_cache.proofs.Relocations.{shrunk-none}
 use Rattle.scc_cache.proofs.Caching.{shrunk-within, state-after}

@@ -1,5 +1,5 @@
 use Rattle.std.proofs.Common.{◌≡◌, ◌+◌, ◌∙◌, ◌*◌, ◌≤◌, ap, arith}
-use Rattle.scc_contents.specs.Contents.{bucket_count, minimum_of}
+use Rattle.scc_common.specs.Contents.{bucket_count, minimum_of}
 use Rattle.scc_cache.proofs.Caching.{state-empty}
 use Rattle.scc_cache.proofs.Owned.skipping.Goals as goal
 

@@ -1,9 +1,9 @@
 use Rattle.std.proofs.Common.{◌≡◌, ◌≤◌, ◌-◌, ◌++◌, List, Bool, Result, length, take, drop, IfSome}
 use Rattle.std.specs.Vec.{vec_capacity}
-use Rattle.scc_contents.specs.Contents.{entries, bucket_count, settings_of, refused_of, waiting_of}
+use Rattle.scc_common.specs.Contents.{entries, bucket_count, settings_of, refused_of, waiting_of}
 use Rattle.scc_table.specs.Places.{IsPlace}
 use Rattle.scc_common.specs.declared.errors.WalkError.{WalkError}
-use Rattle.scc_contents.specs.PairWalks.{CallableToWrite, CalledToWrite, GoesOn, Takes}
+use Rattle.scc_common.specs.PairWalks.{CallableToWrite, CalledToWrite, GoesOn, Takes}
 use Rattle.scc_table.proofs.WalkReached.{reached}
 use Rattle.scc_table.proofs.Reached.{walk_spot}
 use Rattle.scc_cache.proofs.Owned.take_walk.Given as goal

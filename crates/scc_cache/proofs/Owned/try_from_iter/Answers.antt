@@ -1,5 +1,5 @@
 use Rattle.std.proofs.Common.{◌≡◌, length, ap, ◌∙◌}
-use Rattle.scc_contents.specs.Contents.{key_hash}
+use Rattle.scc_common.specs.Contents.{key_hash}
 use Rattle.scc_cache.proofs.Collecting.{collected-maximum, collected-settings}
 use Rattle.scc_cache.proofs.Owned.try_from_iter.Goals as goal
 

@@ -1,7 +1,7 @@
 use Rattle.std.proofs.Common.{refl, sym, ap, subst}
 use Rattle.scc_table.specs.Places.{IsPlace, spot_of}
-use Rattle.scc_contents.specs.Hashing.{hash_of}
-use Rattle.scc_contents.specs.Pairs.{with_pair_value}
+use Rattle.scc_common.specs.Hashing.{hash_of}
+use Rattle.scc_common.specs.Pairs.{with_pair_value}
 use Rattle.scc_cache.specs.Lends.{with_value_at}
 use Rattle.scc_cache.proofs.Writing.{get-listed, value-state-by}
 use Rattle.scc_cache.proofs.Owned.value_mut_at.Goals as goal

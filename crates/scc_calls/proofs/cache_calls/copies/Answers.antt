@@ -1,4 +1,4 @@
-use Rattle.scc_contents.specs.Contents.{key_hash, lists_of}
+use Rattle.scc_common.specs.Contents.{key_hash, lists_of}
 use Rattle.scc_cache.specs.CacheSteps.{list_number}
 use Rattle.scc_calls.specs.CacheCalls.{cache_answer}
 use Rattle.scc_calls.proofs.cache_calls.copies.Goals as goal

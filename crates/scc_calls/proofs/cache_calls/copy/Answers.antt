@@ -1,6 +1,6 @@
 use Rattle.std.proofs.Common.{◌∙◌, Some, refl, sym, arith, rules}
 use Rattle.std.proofs.lemmas.Bool.Decides.{nat_tests}
-use Rattle.scc_contents.specs.Contents.{key_hash}
+use Rattle.scc_common.specs.Contents.{key_hash}
 use Rattle.scc_buckets.proofs.PairSplits.{by_answer}
 use Rattle.scc_cache.specs.CacheSteps.{pair_of}
 use Rattle.scc_table.proofs.Same.{on-err}

@@ -1,5 +1,5 @@
 use Rattle.std.proofs.Common.{Some}
-use Rattle.scc_contents.specs.Contents.{key_hash}
+use Rattle.scc_common.specs.Contents.{key_hash}
 use Rattle.scc_calls.specs.declared.replies.Reply.TheVariants.{Evicted}
 use Rattle.scc_calls.proofs.CacheReplies.{drives-out}
 use Rattle.scc_calls.proofs.cache_calls.copy_evicted.Goals as goal

@@ -1,4 +1,4 @@
-use Rattle.scc_contents.specs.Contents.{entries}
+use Rattle.scc_common.specs.Contents.{entries}
 use Rattle.scc_calls.specs.IndexCalls.{index_answer}
 use Rattle.scc_calls.proofs.index_calls.copies.Goals as goal
 

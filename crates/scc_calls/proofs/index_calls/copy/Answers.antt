@@ -1,8 +1,8 @@
 use Rattle.std.proofs.Common.{rules, Some, refl, arith}
 use Rattle.std.specs.Prelude.{IsSome}
 use Rattle.std.proofs.lemmas.Bool.Decides.{nat_tests}
-use Rattle.scc_contents.specs.Contents.{entries}
-use Rattle.scc_contents.specs.Pairs.{find}
+use Rattle.scc_common.specs.Contents.{entries}
+use Rattle.scc_common.specs.Pairs.{find}
 use Rattle.scc_calls.specs.declared.replies.Reply.TheVariants.{Exists, Value}
 use Rattle.scc_calls.proofs.Copying.{copied}
 use Rattle.scc_calls.proofs.index_calls.copy.Goals as goal

@@ -1,4 +1,4 @@
-use Rattle.scc_contents.specs.Routing.{stripe_of}
+use Rattle.scc_common.specs.Routing.{stripe_of}
 use Rattle.scc_calls.specs.Parted.{parted_call, parted_resize}
 use Rattle.scc_calls.proofs.law.every_kind_has_parts.Goals as goal
 

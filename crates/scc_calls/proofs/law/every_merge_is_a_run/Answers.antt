@@ -1,4 +1,4 @@
-use Rattle.scc_contents.specs.Routing.{stripe_of}
+use Rattle.scc_common.specs.Routing.{stripe_of}
 use Rattle.scc_calls.proofs.Merges.{merges}
 use Rattle.scc_calls.proofs.law.every_merge_is_a_run.Goals as goal
 

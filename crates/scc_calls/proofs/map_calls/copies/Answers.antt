@@ -1,4 +1,4 @@
-use Rattle.scc_contents.specs.Contents.{entries}
+use Rattle.scc_common.specs.Contents.{entries}
 use Rattle.scc_calls.specs.MapCalls.{map_answer}
 use Rattle.scc_calls.proofs.map_calls.copies.Goals as goal
 

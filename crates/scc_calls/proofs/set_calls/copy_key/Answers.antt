@@ -1,5 +1,5 @@
 use Rattle.std.proofs.Common.{Some, refl}
-use Rattle.scc_contents.specs.Contents.{entries}
+use Rattle.scc_common.specs.Contents.{entries}
 use Rattle.scc_set.specs.Keys.{find}
 use Rattle.scc_calls.specs.declared.replies.Reply.TheVariants.{Key}
 use Rattle.scc_calls.proofs.Copying.{copied_whole}

@@ -1,6 +1,6 @@
 use Rattle.std.proofs.Common.{◌<◌, ◌+◌, ◌∙◌, sym, ap, arith, length, take, length-take}
-use Rattle.scc_contents.specs.Contents.{key_hash, list_of}
-use Rattle.scc_contents.specs.Routing.{bucket_number}
+use Rattle.scc_common.specs.Contents.{key_hash, list_of}
+use Rattle.scc_common.specs.Routing.{bucket_number}
 use Rattle.scc_draining.proofs.Counted.{bound-le, counts-one, counts-none}
 use Rattle.scc_draining.proofs.count.count_bound.Goals as goal
 use Rattle.scc_draining.proofs.count.count_bound.Goals.{then-bucket_index-target, else-bucket_index-target}

@@ -1,5 +1,5 @@
 use Rattle.std.proofs.Common.{◌≡◌, length, take}
-use Rattle.scc_contents.specs.Contents.{key_hash, list_of}
+use Rattle.scc_common.specs.Contents.{key_hash, list_of}
 use Rattle.scc_buckets.specs.Pour.{bound_for}
 use Rattle.scc_draining.proofs.count.count_bound.Given as goal
 

@@ -2,7 +2,7 @@ use Rattle.std.proofs.Common.{◌≡◌, ◌<◌, ◌∙◌, sym, ap, arith, len
 use Rattle.std.specs.List.{flat_map}
 use Rattle.scc_array.specs.Shelves.{shelf_of}
 use Rattle.scc_array.specs.Shelf.{shelf_entries}
-use Rattle.scc_contents.specs.Contents.{key_hash}
+use Rattle.scc_common.specs.Contents.{key_hash}
 use Rattle.scc_buckets.specs.Pour.{bound_for}
 use Rattle.scc_draining.proofs.Counted.{bound-le, total-start, total-end, total-more, part-le}
 use Rattle.scc_draining.proofs.relocate.count_all.Goals as goal

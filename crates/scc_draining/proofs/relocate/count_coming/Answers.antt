@@ -1,6 +1,6 @@
 use Rattle.std.proofs.Common.{◌≡◌, ◌+◌, arith, length-append}
 use Rattle.scc_array.specs.Shelves.{shelf_of}
-use Rattle.scc_contents.specs.Contents.{key_hash}
+use Rattle.scc_common.specs.Contents.{key_hash}
 use Rattle.scc_draining.proofs.Counted.{one-source}
 use Rattle.scc_draining.proofs.Joined.{total-row}
 use Rattle.scc_draining.proofs.relocate.count_coming.Goals as goal

@@ -1,8 +1,8 @@
 use Rattle.std.proofs.Common.{◌<◌, ◌+◌, ◌∙◌, sym, ap, arith, length, take, length-take}
 use Rattle.scc_array.specs.Shelves.{shelf_of}
 use Rattle.scc_array.specs.Shelf.{shelf_entries}
-use Rattle.scc_contents.specs.Contents.{key_hash}
-use Rattle.scc_contents.specs.Routing.{bucket_number}
+use Rattle.scc_common.specs.Contents.{key_hash}
+use Rattle.scc_common.specs.Routing.{bucket_number}
 use Rattle.scc_draining.proofs.Counted.{bound-le, counts-one, counts-none}
 use Rattle.scc_draining.proofs.relocate.count_in.Goals as goal
 use Rattle.scc_draining.proofs.relocate.count_in.Goals.{then-bucket_index-target, else-bucket_index-target}

@@ -1,6 +1,6 @@
 use Rattle.std.proofs.Common.{◌≡◌, set}
 use Rattle.scc_array.specs.Shelves.{shelf_of}
-use Rattle.scc_contents.specs.Contents.{key_hash}
+use Rattle.scc_common.specs.Contents.{key_hash}
 use Rattle.scc_draining.proofs.Draining.{DrainsUntil}
 use Rattle.scc_draining.proofs.relocate.drain.Given as goal
 

@@ -6,8 +6,8 @@ use Rattle.scc_array.proofs.Gets.{get-set, get-set_other, get-within}
 use Rattle.scc_array.proofs.Windows.{same_or_not}
 use Rattle.scc_array.specs.Shelves.{shelf_of}
 use Rattle.scc_array.proofs.ListsLemmas.{get-left}
-use Rattle.scc_contents.specs.Contents.{key_hash}
-use Rattle.scc_contents.specs.Routing.{bucket_number}
+use Rattle.scc_common.specs.Contents.{key_hash}
+use Rattle.scc_common.specs.Routing.{bucket_number}
 use Rattle.scc_draining.proofs.relocate.flags_of.Goals as goal
 use Rattle.scc_array.specs.Sifts.{ups}
 

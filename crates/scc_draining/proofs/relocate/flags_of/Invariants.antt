@@ -2,8 +2,8 @@ use Rattle.std.proofs.Common.{◌≡◌, ◌==◌, ◌<◌, ℕ, Some, length, s
 use Rattle.scc_array.specs.Shelves.{shelf_of}
 use Rattle.scc_array.specs.Sifts.{ups}
 use Rattle.scc_draining.proofs.relocate.flags_of.Given as goal
-use Rattle.scc_contents.specs.Contents.{key_hash}
-use Rattle.scc_contents.specs.Routing.{bucket_number}
+use Rattle.scc_common.specs.Contents.{key_hash}
+use Rattle.scc_common.specs.Routing.{bucket_number}
 
 abbrev pub invariant-loop-place : goal.invariant-loop-place
 invariant-loop-place g l = (length l.flags ≡ 32) × ((j : ℕ) (e : g.row.E.Denot) → j < l.place → slice_get (shelf_of l.old l.source).slots j ≡ Some e

@@ -1,6 +1,6 @@
 use Rattle.std.proofs.Common.{◌^◌, ◌<◌, ◌∙◌, sym, arith, rules}
 use Rattle.std.proofs.lemmas.Result.{on_ok_weaker, on_err_weaker}
-use Rattle.scc_contents.specs.Contents.{bucket_count, key_hash}
+use Rattle.scc_common.specs.Contents.{bucket_count, key_hash}
 use Rattle.scc_buckets.specs.Tables.{overflow_in}
 use Rattle.scc_draining.proofs.Counted.{short-counted}
 use Rattle.scc_draining.proofs.FromBuckets.{within-sources, few-each, most-entry_count}

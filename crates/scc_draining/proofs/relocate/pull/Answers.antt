@@ -6,8 +6,8 @@ use Rattle.scc_array.proofs.Gets.{get-within}
 use Rattle.scc_array.specs.Sifts.{all_up, ups}
 use Rattle.scc_array.specs.Shelves.{shelf_of}
 use Rattle.scc_buckets.proofs.Arrays.{put-is}
-use Rattle.scc_contents.specs.Contents.{key_hash}
-use Rattle.scc_contents.specs.Routing.{bucket_number}
+use Rattle.scc_common.specs.Contents.{key_hash}
+use Rattle.scc_common.specs.Routing.{bucket_number}
 use Rattle.scc_draining.proofs.Joined.{joined-flag}
 use Rattle.scc_draining.proofs.Parted.{no-elements, parted-pulls}
 use Rattle.scc_draining.proofs.relocate.pull.Goals as goal

@@ -1,8 +1,8 @@
 use Rattle.std.proofs.Common.{◌≡◌, ◌<◌, ◌∙◌, Some, ap, sym, arith, length}
 use Rattle.scc_array.specs.Shelves.{shelf_of}
 use Rattle.scc_array.specs.Shelf.{Shelf, shelf_entries, with_entry}
-use Rattle.scc_contents.specs.Contents.{key_hash}
-use Rattle.scc_contents.specs.Routing.{bucket_number, tag_of}
+use Rattle.scc_common.specs.Contents.{key_hash}
+use Rattle.scc_common.specs.Routing.{bucket_number, tag_of}
 use Rattle.scc_draining.proofs.Buckets.{still-within, later-is, later-own}
 use Rattle.scc_draining.proofs.Pulling.{pull-below, pull-room, pull-move, pull-skip}
 use Rattle.scc_draining.proofs.relocate.pull_each.Goals as goal

@@ -1,5 +1,5 @@
 use Rattle.std.proofs.Common.{◌≡◌, ◌≤◌}
-use Rattle.scc_contents.specs.Contents.{key_hash}
+use Rattle.scc_common.specs.Contents.{key_hash}
 use Rattle.scc_buckets.specs.Pour.{bound_for}
 use Rattle.scc_draining.specs.Stepping.{entries_before}
 use Rattle.scc_draining.proofs.walk.slot_from.Given as goal

@@ -1,5 +1,5 @@
 use Rattle.std.proofs.Common.{◌≡◌, ◌∙◌, ◌↔◌, Bool, IsTrue, arith, rules}
-use Rattle.scc_contents.specs.Contents.{minimum_of}
+use Rattle.scc_common.specs.Contents.{minimum_of}
 use Rattle.scc_index.proofs.Owned.change_minimum.Goals as goal
 
 taken : {A B C : Type 0} {b : Bool} → (IsTrue b ↔ A) → (IsTrue b → B) → (IsTrue b → C) → A → B × C

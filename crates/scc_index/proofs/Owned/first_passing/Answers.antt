@@ -1,8 +1,8 @@
 use Rattle.std.proofs.Common.{refl, length, take, suc}
-use Rattle.scc_contents.specs.Contents.{entries}
+use Rattle.scc_common.specs.Contents.{entries}
 use Rattle.scc_table.specs.Places.{IsPlace, index_of}
-use Rattle.scc_contents.proofs.WalkLemmas.{turn-first, turn-others}
-use Rattle.scc_contents.specs.PairWalks.{ended}
+use Rattle.scc_common.proofs.WalkLemmas.{turn-first, turn-others}
+use Rattle.scc_common.specs.PairWalks.{ended}
 use Rattle.scc_buckets.proofs.Placed.{drop-here, take-more}
 use Rattle.scc_table.proofs.WalkReached.{declines-more, take-all}
 use Rattle.scc_table.proofs.Reached.{nearer, reached-at, reached-first}

@@ -1,7 +1,7 @@
 use Rattle.std.proofs.Common.{Result, Ok, Err, subst, rules}
 use Rattle.std.specs.Prelude.{IfErr}
 use Rattle.std.specs.Result.{OnOk, OnErr}
-use Rattle.scc_contents.specs.Contents.{entries}
+use Rattle.scc_common.specs.Contents.{entries}
 use Rattle.scc_table.specs.Relocations.{RelocatesTwo}
 use Rattle.scc_buckets.proofs.Lookups.{position-find_none}
 use Rattle.scc_index.proofs.Owned.insert_new.Goals as goal

@@ -1,7 +1,7 @@
 use Rattle.std.proofs.Common.{◌∙◌, ◌++◌, suc, length, map, ap, sym, refl, append-nil, append_assoc}
 use Rattle.std.specs.Arc.{arc_value}
 use Rattle.std.proofs.lemmas.List.{map-append}
-use Rattle.scc_contents.specs.Contents.{entries}
+use Rattle.scc_common.specs.Contents.{entries}
 use Rattle.scc_table.specs.Places.{index_of}
 use Rattle.scc_buckets.proofs.Placed.{take-more}
 use Rattle.scc_table.proofs.WalkReached.{take-all}

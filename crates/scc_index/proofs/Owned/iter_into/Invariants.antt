@@ -1,6 +1,6 @@
 use Rattle.std.proofs.Common.{◌≡◌, ◌-◌, ◌++◌, length, map, take, IfSome}
 use Rattle.std.specs.Arc.{arc_value}
-use Rattle.scc_contents.specs.Contents.{entries}
+use Rattle.scc_common.specs.Contents.{entries}
 use Rattle.scc_table.specs.Places.{IsPlace}
 use Rattle.scc_table.proofs.Reached.{reached}
 use Rattle.scc_index.proofs.Owned.iter_into.Given as goal

@@ -1,8 +1,8 @@
 use Rattle.std.proofs.Common.{refl, true, false, length, suc}
-use Rattle.scc_contents.specs.Contents.{entries}
+use Rattle.scc_common.specs.Contents.{entries}
 use Rattle.scc_table.specs.Places.{IsPlace, index_of}
-use Rattle.scc_contents.specs.Walks.{ended, stopped, went_on}
-use Rattle.scc_contents.proofs.WalkLemmas.{turn-first, turn-others}
+use Rattle.scc_common.specs.Walks.{ended, stopped, went_on}
+use Rattle.scc_common.proofs.WalkLemmas.{turn-first, turn-others}
 use Rattle.scc_buckets.proofs.Placed.{drop-here, drop-all}
 use Rattle.scc_table.proofs.Reached.{nearer, reached-at, reached-first}
 use Rattle.scc_index.proofs.Owned.iter_lent.Goals as goal

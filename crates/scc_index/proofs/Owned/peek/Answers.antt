@@ -1,5 +1,5 @@
 use Rattle.std.proofs.Common.{Some, sym, ap, ◌∙◌}
-use Rattle.scc_contents.specs.Contents.{entries}
+use Rattle.scc_common.specs.Contents.{entries}
 use Rattle.scc_buckets.proofs.Finds.{lookup-find}
 use Rattle.scc_index.proofs.Owned.peek.Goals as goal
 

@@ -1,6 +1,6 @@
 use Rattle.std.proofs.Common.{rules, ◌≡◌, Some, refl, sym, ◌∙◌}
-use Rattle.scc_contents.specs.Contents.{entries}
-use Rattle.scc_contents.specs.Pairs.{find}
+use Rattle.scc_common.specs.Contents.{entries}
+use Rattle.scc_common.specs.Pairs.{find}
 use Rattle.scc_buckets.proofs.Lookups.{find-position, find-position_none, finds-removed}
 use Rattle.scc_buckets.proofs.PairSplits.{without-at}
 use Rattle.scc_index.proofs.Owned.remove_if_sync.Goals as goal

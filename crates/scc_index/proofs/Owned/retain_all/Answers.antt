@@ -1,7 +1,7 @@
 use Rattle.std.proofs.Common.{◌≡◌, ◌∙◌, ◌++◌, [], refl, length, drop, take, subst, append-nil, suc}
-use Rattle.scc_contents.specs.Contents.{entries}
+use Rattle.scc_common.specs.Contents.{entries}
 use Rattle.scc_table.specs.Places.{index_of}
-use Rattle.scc_contents.specs.Walks.{CalledOn}
+use Rattle.scc_common.specs.Walks.{CalledOn}
 use Rattle.scc_index.specs.IndexWalks.{Retains, ended}
 use Rattle.scc_buckets.proofs.Placed.{drop-all}
 use Rattle.scc_table.proofs.WalkReached.{take-all}

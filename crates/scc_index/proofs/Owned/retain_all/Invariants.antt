@@ -1,7 +1,7 @@
 use Rattle.std.proofs.Common.{◌≡◌, ◌-◌, ◌++◌, List, length, take, drop, IfSome}
-use Rattle.scc_contents.specs.Contents.{entries, bucket_count, settings_of, refused_of, waiting_of}
+use Rattle.scc_common.specs.Contents.{entries, bucket_count, settings_of, refused_of, waiting_of}
 use Rattle.scc_table.specs.Places.{IsPlace}
-use Rattle.scc_contents.specs.Walks.{CalledOn}
+use Rattle.scc_common.specs.Walks.{CalledOn}
 use Rattle.scc_index.specs.IndexWalks.{CallableOnAll, Retains}
 use Rattle.scc_table.proofs.Reached.{reached}
 use Rattle.scc_index.proofs.Owned.retain_all.Given as goal

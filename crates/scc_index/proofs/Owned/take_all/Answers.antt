@@ -1,6 +1,6 @@
 use Rattle.std.proofs.Common.{◌≡◌, refl, ap, length, arith}
 use Rattle.std.specs.List.{remove}
-use Rattle.scc_contents.specs.Contents.{entries}
+use Rattle.scc_common.specs.Contents.{entries}
 use Rattle.scc_table.specs.Places.{index_of, spot_of}
 use Rattle.scc_buckets.proofs.Standing.{index-below}
 use Rattle.scc_table.proofs.Visits.{shorter}

@@ -1,6 +1,6 @@
 use Rattle.std.proofs.Common.{◌≡◌, ◌+◌, ◌∙◌, [], length, rules, subst, sym, ap}
-use Rattle.scc_contents.specs.Contents.{entries, bucket_count, minimum_of}
-use Rattle.scc_contents.specs.Sizes.{IsSmaller}
+use Rattle.scc_common.specs.Contents.{entries, bucket_count, minimum_of}
+use Rattle.scc_common.specs.Sizes.{IsSmaller}
 use Rattle.std.proofs.lemmas.List.Sorted.{length_permutation}
 use Rattle.scc_buckets.proofs.Standing.{length-zero}
 use Rattle.scc_buckets.proofs.Resizes.{smaller-by, shrinks-after}

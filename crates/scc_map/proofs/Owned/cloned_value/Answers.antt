@@ -1,6 +1,6 @@
 use Rattle.std.proofs.Common.{◌≡◌, Some, None, sym, ◌∙◌}
-use Rattle.scc_contents.specs.Contents.{entries}
-use Rattle.scc_contents.specs.Pairs.{find}
+use Rattle.scc_common.specs.Contents.{entries}
+use Rattle.scc_common.specs.Pairs.{find}
 use Rattle.scc_buckets.proofs.Finds.{lookup-find}
 use Rattle.scc_table.proofs.Same.{any-err}
 use Rattle.scc_map.proofs.Owned.cloned_value.Goals as goal

@@ -1,4 +1,4 @@
-use Rattle.scc_contents.specs.Contents.{entries}
+use Rattle.scc_common.specs.Contents.{entries}
 use Rattle.scc_map.proofs.Entries.{occupied-at}
 use Rattle.scc_buckets.proofs.Lookups.{find-position_none}
 use Rattle.scc_map.proofs.Owned.entry_sync.Goals as goal

@@ -1,8 +1,8 @@
 use Rattle.std.proofs.Common.{◌-◌, length, take, drop, IfSome, false}
-use Rattle.scc_contents.specs.Contents.{entries}
+use Rattle.scc_common.specs.Contents.{entries}
 use Rattle.scc_table.specs.Places.{IsPlace}
-use Rattle.scc_contents.specs.Walks.{CalledOn, CallableWhile}
-use Rattle.scc_contents.specs.PairWalks.{Declines}
+use Rattle.scc_common.specs.Walks.{CalledOn, CallableWhile}
+use Rattle.scc_common.specs.PairWalks.{Declines}
 use Rattle.scc_table.proofs.Reached.{reached}
 use Rattle.scc_map.proofs.Owned.first_passing.Given as goal
 

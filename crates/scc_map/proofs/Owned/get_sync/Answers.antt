@@ -1,5 +1,5 @@
 use Rattle.std.proofs.Common.{refl}
-use Rattle.scc_contents.specs.Contents.{entries}
+use Rattle.scc_common.specs.Contents.{entries}
 use Rattle.scc_map.proofs.Entries.{occupied-at}
 use Rattle.scc_buckets.proofs.Lookups.{find-position_none}
 use Rattle.scc_map.proofs.Owned.get_sync.Goals as goal

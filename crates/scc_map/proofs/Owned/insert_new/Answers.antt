@@ -1,6 +1,6 @@
 use Rattle.std.proofs.Common.{Result, Ok, Err, rules, subst}
 use Rattle.std.specs.Result.{OnOk}
-use Rattle.scc_contents.specs.Contents.{entries}
+use Rattle.scc_common.specs.Contents.{entries}
 use Rattle.scc_table.specs.Relocations.{RelocatesTwo}
 use Rattle.scc_buckets.proofs.Lookups.{position-find_none}
 use Rattle.scc_map.proofs.Owned.insert_new.Goals as goal

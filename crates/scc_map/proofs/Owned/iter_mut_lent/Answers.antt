@@ -1,6 +1,6 @@
 use Rattle.std.proofs.Common.{◌+◌, ◌<◌, ◌≤◌, length, ap, arith, rules}
 use Rattle.std.proofs.lemmas.List.Sorted.{IsPermutation-refl}
-use Rattle.scc_contents.specs.Contents.{entries, bucket_count, minimum_of}
+use Rattle.scc_common.specs.Contents.{entries, bucket_count, minimum_of}
 use Rattle.scc_buckets.proofs.Resizes.{smaller-by, shrinks-after}
 use Rattle.scc_table.proofs.Takings.{appended-none, appended-some, holds-after, takes-count}
 use Rattle.scc_table.proofs.Relocations.{shrunk-after, kept-after}

@@ -1,6 +1,6 @@
 use Rattle.std.proofs.Common.{refl, ap}
 use Rattle.scc_table.specs.Places.{with_write_at}
-use Rattle.scc_contents.specs.Pairs.{with_pair_value}
+use Rattle.scc_common.specs.Pairs.{with_pair_value}
 use Rattle.scc_map.proofs.Owned.parts_mut_at.Goals as goal
 
 pub returns : goal.returns

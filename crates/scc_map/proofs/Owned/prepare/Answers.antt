@@ -1,6 +1,6 @@
 use Rattle.std.proofs.Common.{rules, subst, ℕ, ◌≡◌}
-use Rattle.scc_contents.specs.Contents.{Contents, entries}
-use Rattle.scc_contents.specs.Steps.{Prepares}
+use Rattle.scc_common.specs.Contents.{Contents, entries}
+use Rattle.scc_common.specs.Steps.{Prepares}
 use Rattle.scc_table.specs.Marks.{MarksPreparation}
 use Rattle.scc_buckets.proofs.Lookups.{find-position, find-position_none}
 use Rattle.scc_map.proofs.Owned.prepare.Goals as goal

@@ -1,8 +1,8 @@
 use Rattle.std.proofs.Common.{◌≡◌, Some, refl, sym, ap, ◌∙◌, rules, true, false, ◌+◌}
-use Rattle.scc_contents.specs.Contents.{entries}
-use Rattle.scc_contents.specs.Pairs.{find}
+use Rattle.scc_common.specs.Contents.{entries}
+use Rattle.scc_common.specs.Pairs.{find}
 use Rattle.scc_table.specs.Placed.{IsPlace-with_write_at}
-use Rattle.scc_contents.specs.Pairs.{with_pair_value}
+use Rattle.scc_common.specs.Pairs.{with_pair_value}
 use Rattle.scc_map.proofs.CallerLemmas.{finds-without}
 use Rattle.scc_buckets.proofs.Lookups.{find-position_none}
 use Rattle.scc_table.proofs.AtPlaces.{place-found, value-written, value-unique, written-taken_out, written-pair, noted-write}

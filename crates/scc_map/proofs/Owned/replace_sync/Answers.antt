@@ -1,10 +1,10 @@
 use Rattle.std.proofs.Common.{◌≡◌, ◌∙◌, sym, ap, Some}
-use Rattle.scc_contents.specs.Contents.{entries, refused_of, waiting_of}
+use Rattle.scc_common.specs.Contents.{entries, refused_of, waiting_of}
 use Rattle.std.specs.List.{slice_get}
-use Rattle.scc_contents.specs.Pairs.{find}
+use Rattle.scc_common.specs.Pairs.{find}
 use Rattle.scc_table.specs.Places.{index_of}
 use Rattle.scc_table.specs.Placed.{IsPlace-with_write_at}
-use Rattle.scc_contents.specs.Pairs.{with_pair_key}
+use Rattle.scc_common.specs.Pairs.{with_pair_key}
 use Rattle.scc_table.proofs.AtPlaces.{entry_of-is}
 use Rattle.scc_buckets.proofs.Lookups.{find-position_none}
 use Rattle.scc_table.proofs.AtPlaces.{place-found, key-written, key-unique, key-got, noted-write}

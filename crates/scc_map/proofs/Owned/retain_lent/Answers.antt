@@ -1,6 +1,6 @@
 use Rattle.std.proofs.Common.{◌+◌, ap, rules}
 use Rattle.std.proofs.lemmas.List.Sorted.{IsPermutation-refl}
-use Rattle.scc_contents.specs.Contents.{entries, bucket_count, minimum_of}
+use Rattle.scc_common.specs.Contents.{entries, bucket_count, minimum_of}
 use Rattle.scc_buckets.proofs.Resizes.{smaller-by, shrinks-after}
 use Rattle.scc_table.proofs.Takings.{holds-after}
 use Rattle.scc_table.proofs.Relocations.{shrunk-after}

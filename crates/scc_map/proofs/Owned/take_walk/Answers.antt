@@ -1,7 +1,7 @@
 use Rattle.std.proofs.Common.{◌≡◌, ◌∙◌, ◌++◌, ◌∷◌, [], sym, ap, refl, length, drop, take, subst, append-nil, append_assoc, arith, true, Ok}
-use Rattle.scc_contents.specs.Contents.{entries, waiting_of}
-use Rattle.scc_contents.specs.Pairs.{with_pair_value}
-use Rattle.scc_contents.specs.PairWalks.{CalledToWrite, Takes, ended}
+use Rattle.scc_common.specs.Contents.{entries, waiting_of}
+use Rattle.scc_common.specs.Pairs.{with_pair_value}
+use Rattle.scc_common.specs.PairWalks.{CalledToWrite, Takes, ended}
 use Rattle.scc_buckets.proofs.Placed.{drop-all}
 use Rattle.scc_table.proofs.WalkReached.{take-all}
 use Rattle.scc_table.specs.Places.{spot_of}

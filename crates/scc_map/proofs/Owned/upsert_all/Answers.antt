@@ -1,5 +1,5 @@
 use Rattle.std.proofs.lemmas.Fn.{FoldsTo-push}
-use Rattle.scc_contents.specs.Contents.{key_hash}
+use Rattle.scc_common.specs.Contents.{key_hash}
 use Rattle.scc_map.specs.Collections.{UpsertsOne}
 use Rattle.scc_map.proofs.Collecting.{upsert-any_hash}
 use Rattle.scc_map.proofs.Owned.upsert_all.Goals as goal

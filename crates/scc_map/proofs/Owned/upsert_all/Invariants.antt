@@ -1,4 +1,4 @@
-use Rattle.scc_contents.specs.Contents.{key_hash}
+use Rattle.scc_common.specs.Contents.{key_hash}
 use Rattle.scc_map.specs.Collections.{UpsertsAll}
 use Rattle.scc_map.proofs.Owned.upsert_all.Given as goal
 

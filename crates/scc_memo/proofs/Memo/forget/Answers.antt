@@ -1,5 +1,5 @@
 use Rattle.std.proofs.Common.{rules}
-use Rattle.scc_contents.specs.Contents.{key_hash}
+use Rattle.scc_common.specs.Contents.{key_hash}
 use Rattle.scc_memo.proofs.Values.{was-there, values-removed}
 use Rattle.scc_memo.proofs.Memo.forget.Goals as goal
 

@@ -1,5 +1,5 @@
 use Rattle.std.proofs.Common.{rules}
-use Rattle.scc_contents.specs.Contents.{key_hash}
+use Rattle.scc_common.specs.Contents.{key_hash}
 use Rattle.scc_memo.proofs.Values.{values-known}
 use Rattle.scc_memo.proofs.Memo.known.Goals as goal
 

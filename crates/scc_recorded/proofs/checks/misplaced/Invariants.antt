@@ -1,7 +1,7 @@
 use Rattle.std.proofs.Common.{take}
 use Rattle.std.specs.List.{AllByRecursion}
 use Rattle.scc_calls.specs.Histories.{StepRouted}
-use Rattle.scc_contents.specs.Routing.{stripe_of}
+use Rattle.scc_common.specs.Routing.{stripe_of}
 use Rattle.scc_recorded.proofs.checks.misplaced.Given as goal
 
 abbrev pub invariant-loop-j : goal.invariant-loop-j

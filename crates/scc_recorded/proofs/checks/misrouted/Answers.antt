@@ -1,6 +1,6 @@
 use Rattle.std.proofs.Common.{◌≡◌, ◌+◌, Some, length, arith, sym, ap, ◌∙◌}
 use Rattle.scc_history.proofs.Ordering.{history_at}
-use Rattle.scc_contents.specs.Routing.{stripe_of}
+use Rattle.scc_common.specs.Routing.{stripe_of}
 use Rattle.scc_recorded.proofs.Placed.{calls_take_more}
 use Rattle.scc_recorded.proofs.checks.misrouted.Goals as goal
 

@@ -1,6 +1,6 @@
 use Rattle.std.proofs.Common.{take, map, length}
 use Rattle.scc_calls.specs.Histories.{CallsRouted}
-use Rattle.scc_contents.specs.Routing.{stripe_of}
+use Rattle.scc_common.specs.Routing.{stripe_of}
 use Rattle.scc_recorded.proofs.checks.misrouted.Given as goal
 
 abbrev pub invariant-loop-i : goal.invariant-loop-i

@@ -1,7 +1,7 @@
 use Rattle.std.proofs.Common.{refl, sym, length, take, suc, false, ◌∙◌}
-use Rattle.scc_contents.specs.Contents.{entries}
+use Rattle.scc_common.specs.Contents.{entries}
 use Rattle.scc_buckets.proofs.Placed.{drop-here, take-more}
-use Rattle.scc_contents.proofs.WalkLemmas.{turn-first, turn-others}
+use Rattle.scc_common.proofs.WalkLemmas.{turn-first, turn-others}
 use Rattle.scc_table.specs.Places.{IsPlace, index_of}
 use Rattle.scc_table.proofs.Reached.{all-taken, nearer, reached-at, reached-first}
 use Rattle.scc_set.specs.SetWalks.{declined_none}

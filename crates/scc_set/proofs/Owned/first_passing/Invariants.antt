@@ -1,6 +1,6 @@
 use Rattle.std.proofs.Common.{◌≡◌, ◌-◌, length, take, drop, IfSome, false}
 use Rattle.std.specs.Fn.{CalledAt}
-use Rattle.scc_contents.specs.Contents.{entries}
+use Rattle.scc_common.specs.Contents.{entries}
 use Rattle.scc_table.specs.Places.{IsPlace}
 use Rattle.scc_table.proofs.Reached.{reached}
 use Rattle.scc_set.specs.SetWalks.{CallableWhile, Declines}

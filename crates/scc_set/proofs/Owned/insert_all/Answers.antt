@@ -1,7 +1,7 @@
 use Rattle.std.proofs.Common.{◌≡◌, ◌∷◌, [], inl, inr, ◌∙◌, append_assoc, sym}
 use Rattle.std.specs.Vec.Iter.{into_iter_items}
 use Rattle.std.proofs.lemmas.Fn.{FoldsTo-push}
-use Rattle.scc_contents.specs.Contents.{entries}
+use Rattle.scc_common.specs.Contents.{entries}
 use Rattle.scc_set.specs.Collections.{InsertsOne}
 use Rattle.scc_set.proofs.Collecting.{finds-new, finds-old}
 use Rattle.scc_set.proofs.Owned.insert_all.Goals as goal

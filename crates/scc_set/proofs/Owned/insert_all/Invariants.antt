@@ -1,7 +1,7 @@
 use Rattle.std.proofs.Common.{◌≡◌, ◌++◌}
 use Rattle.std.specs.Option.{option_or}
 use Rattle.std.specs.Vec.Iter.{into_iter_items}
-use Rattle.scc_contents.specs.Contents.{entries, settings_of}
+use Rattle.scc_common.specs.Contents.{entries, settings_of}
 use Rattle.scc_set.specs.Collections.{InsertsAll}
 use Rattle.scc_set.specs.Keys.{find}
 use Rattle.scc_set.proofs.Owned.insert_all.Given as goal

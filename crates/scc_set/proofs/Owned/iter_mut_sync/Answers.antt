@@ -1,6 +1,6 @@
 use Rattle.std.proofs.Common.{arith, ap, sym, ◌∙◌}
 use Rattle.std.proofs.lemmas.List.{length-map}
-use Rattle.scc_contents.specs.PairWalks.{GoesOn}
+use Rattle.scc_common.specs.PairWalks.{GoesOn}
 use Rattle.scc_map.specs.Sinks.{with_units}
 use Rattle.scc_buckets.proofs.Mapped.{Holds-mapped, ShrinksWhenDue-mapped}
 use Rattle.scc_table.proofs.MappedRelocations.{RelocatesNone-mapped}

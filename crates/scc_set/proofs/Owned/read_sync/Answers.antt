@@ -1,5 +1,5 @@
-use Rattle.scc_contents.specs.Pairs.{find as find_pair}
-use Rattle.scc_contents.specs.Contents.{entries}
+use Rattle.scc_common.specs.Pairs.{find as find_pair}
+use Rattle.scc_common.specs.Contents.{entries}
 use Rattle.scc_set.proofs.Sets.{found, found-some, Reads-keys}
 use Rattle.scc_set.proofs.Owned.read_sync.Goals as goal
 

@@ -1,7 +1,7 @@
 use Rattle.std.proofs.Common.{refl}
 use Rattle.scc_buckets.proofs.Mapped.{ShrinksWhenDue-mapped}
-use Rattle.scc_contents.specs.Pairs.{find as find_pair}
-use Rattle.scc_contents.specs.Contents.{entries}
+use Rattle.scc_common.specs.Pairs.{find as find_pair}
+use Rattle.scc_common.specs.Contents.{entries}
 use Rattle.scc_table.proofs.MappedRelocations.{RelocatesNone-mapped}
 use Rattle.scc_set.proofs.Sets.{waiting-keys, found, is-found, noted-keys, on-key, on-no_key, RemovesIf-keys, finds-keys, smaller-keys, unique-keys}
 use Rattle.scc_set.proofs.Owned.remove_if_sync.Goals as goal

@@ -1,6 +1,6 @@
 use Rattle.std.proofs.Common.{◌≡◌, ◌≤◌, ◌++◌, List, true, Ok}
 use Rattle.std.specs.Vec.{vec_capacity}
-use Rattle.scc_contents.specs.PairWalks.{CalledToWrite, Takes}
+use Rattle.scc_common.specs.PairWalks.{CalledToWrite, Takes}
 use Rattle.scc_shared_cache.proofs.HashCache.iter_mut_sync.Given as goal
 
 abbrev pub invariant-loop-stripe : goal.invariant-loop-stripe

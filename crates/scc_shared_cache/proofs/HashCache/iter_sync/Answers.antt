@@ -1,6 +1,6 @@
 use Rattle.std.proofs.Common.{[]}
-use Rattle.scc_contents.specs.Walks.{ended}
-use Rattle.scc_contents.proofs.WalkLemmas.{CallableWhile-always, walk-append}
+use Rattle.scc_common.specs.Walks.{ended}
+use Rattle.scc_common.proofs.WalkLemmas.{CallableWhile-always, walk-append}
 use Rattle.scc_table.proofs.Joined.{walks-always}
 use Rattle.scc_shared_cache.proofs.HashCache.iter_sync.Goals as goal
 

@@ -1,5 +1,5 @@
 use Rattle.std.proofs.Common.{List, true}
-use Rattle.scc_contents.specs.Walks.{CalledOn, Walks}
+use Rattle.scc_common.specs.Walks.{CalledOn, Walks}
 use Rattle.scc_shared_cache.proofs.HashCache.iter_sync.Given as goal
 
 abbrev pub invariant-loop-stripe : goal.invariant-loop-stripe

@@ -1,4 +1,4 @@
-use Rattle.scc_contents.specs.Contents.{key_hash}
+use Rattle.scc_common.specs.Contents.{key_hash}
 use Rattle.scc_cache.proofs.Replies.{removes-key}
 use Rattle.scc_shared_cache.proofs.HashCache.remove_sync.Goals as goal
 

@@ -1,5 +1,5 @@
 use Rattle.std.proofs.Common.{List}
-use Rattle.scc_contents.specs.PairWalks.{CalledToWrite, Retains}
+use Rattle.scc_common.specs.PairWalks.{CalledToWrite, Retains}
 use Rattle.scc_shared_cache.proofs.HashCache.retain_sync.Given as goal
 
 abbrev pub invariant-loop-stripe : goal.invariant-loop-stripe

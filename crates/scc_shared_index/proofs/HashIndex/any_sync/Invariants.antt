@@ -1,6 +1,6 @@
 use Rattle.std.proofs.Common.{List}
-use Rattle.scc_contents.specs.Walks.{CalledOn}
-use Rattle.scc_contents.specs.PairWalks.{Declines}
+use Rattle.scc_common.specs.Walks.{CalledOn}
+use Rattle.scc_common.specs.PairWalks.{Declines}
 use Rattle.scc_shared_index.proofs.HashIndex.any_sync.Given as goal
 
 abbrev pub invariant-loop-stripe : goal.invariant-loop-stripe

@@ -1,5 +1,5 @@
 use Rattle.std.specs.Arc.{arc_value}
-use Rattle.scc_contents.specs.Contents.{entries}
+use Rattle.scc_common.specs.Contents.{entries}
 use Rattle.scc_shared_index.proofs.Replies.{peeks-key}
 use Rattle.scc_shared_index.proofs.HashIndex.peek.Goals as goal
 

@@ -1,5 +1,5 @@
 use Rattle.scc_table.proofs.Replies.{reads-equal}
-use Rattle.scc_contents.specs.Contents.{entries}
+use Rattle.scc_common.specs.Contents.{entries}
 use Rattle.scc_shared_index.proofs.HashIndex.peek_with.Goals as goal
 
 pub returns : goal.returns

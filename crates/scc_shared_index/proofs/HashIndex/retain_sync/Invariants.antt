@@ -1,5 +1,5 @@
 use Rattle.std.proofs.Common.{List}
-use Rattle.scc_contents.specs.Walks.{CalledOn}
+use Rattle.scc_common.specs.Walks.{CalledOn}
 use Rattle.scc_index.specs.IndexWalks.{Retains}
 use Rattle.scc_shared_index.proofs.HashIndex.retain_sync.Given as goal
 

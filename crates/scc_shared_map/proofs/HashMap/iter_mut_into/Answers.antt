@@ -1,5 +1,5 @@
 use Rattle.std.proofs.Common.{arith, rules, [], ◌++◌, ◌∙◌, ap, sym, append-nil, append_assoc}
-use Rattle.scc_contents.specs.PairWalks.{ended}
+use Rattle.scc_common.specs.PairWalks.{ended}
 use Rattle.scc_table.proofs.WalkReached.{CallableToWrite-always}
 use Rattle.scc_table.proofs.Joined.{takes-always, takes-join}
 use Rattle.scc_shared_map.proofs.HashMap.iter_mut_into.Goals as goal

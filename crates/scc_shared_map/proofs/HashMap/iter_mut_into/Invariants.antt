@@ -1,5 +1,5 @@
 use Rattle.std.proofs.Common.{◌≡◌, ◌≤◌, ◌++◌, List, true, Ok}
-use Rattle.scc_contents.specs.PairWalks.{CalledToWrite, Takes}
+use Rattle.scc_common.specs.PairWalks.{CalledToWrite, Takes}
 use Rattle.scc_shared_map.proofs.HashMap.iter_mut_into.Given as goal
 
 abbrev pub invariant-loop-stripe : goal.invariant-loop-stripe

@@ -1,4 +1,4 @@
-use Rattle.scc_contents.specs.Contents.{entries}
+use Rattle.scc_common.specs.Contents.{entries}
 use Rattle.scc_map.proofs.Replies.{reads-equal}
 use Rattle.scc_shared_map.proofs.HashMap.read_sync.Goals as goal
 

@@ -1,5 +1,5 @@
 use Rattle.std.proofs.Common.{[]}
-use Rattle.scc_contents.specs.PairWalks.{ended}
+use Rattle.scc_common.specs.PairWalks.{ended}
 use Rattle.scc_table.proofs.WalkReached.{CallableToWrite-always}
 use Rattle.scc_table.proofs.Joined.{retains-always, retains-join}
 use Rattle.scc_shared_map.proofs.HashMap.retain_sync.Goals as goal

@@ -1,4 +1,4 @@
-use Rattle.scc_contents.specs.Contents.{entries}
+use Rattle.scc_common.specs.Contents.{entries}
 use Rattle.scc_table.proofs.Replies.{find-key}
 use Rattle.scc_shared_set.proofs.HashSet.replace_sync.Goals as goal
 

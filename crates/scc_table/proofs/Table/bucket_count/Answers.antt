@@ -1,5 +1,5 @@
 use Rattle.std.proofs.Common.{sym, ap, ◌∙◌}
-use Rattle.scc_contents.specs.Contents.{bucket_count}
+use Rattle.scc_common.specs.Contents.{bucket_count}
 use Rattle.scc_table.proofs.Joining.{count-together}
 use Rattle.scc_table.proofs.Table.bucket_count.Goals as goal
 

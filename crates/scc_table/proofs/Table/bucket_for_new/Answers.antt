@@ -1,7 +1,7 @@
 use Rattle.std.proofs.Common.{◌≡◌, ◌==◌, ◌∙◌, ◌<◌, length, sym, ap, arith, rules}
 use Rattle.std.specs.List.{count_by}
-use Rattle.scc_contents.specs.Contents.{HasRoomAt, bucket_count, entries, key_hash, list_of, pending_of, settings_of}
-use Rattle.scc_contents.specs.Routing.{bucket_number}
+use Rattle.scc_common.specs.Contents.{HasRoomAt, bucket_count, entries, key_hash, list_of, pending_of, settings_of}
+use Rattle.scc_common.specs.Routing.{bucket_number}
 use Rattle.scc_table.proofs.Listed.{count-listed}
 use Rattle.scc_table.proofs.Table.bucket_for_new.Goals as goal
 

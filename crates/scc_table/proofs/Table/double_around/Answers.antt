@@ -2,10 +2,10 @@ use Rattle.std.proofs.Common.{◌≡◌, ◌∙◌, ℕ, ◌*◌, ◌<◌, inl, 
 use Rattle.std.specs.List.{range_with_len, slice_get}
 use Rattle.std.specs.List.Sorted.{IsPermutation}
 use Rattle.scc_array.proofs.Gets.{get-some}
-use Rattle.scc_contents.specs.Contents.{bucket_count, entries, key_hash, list_of, lists_of, settings_of, waiting_of, Settings}
-use Rattle.scc_contents.specs.Hashing.{hash_of}
+use Rattle.scc_common.specs.Contents.{bucket_count, entries, key_hash, list_of, lists_of, settings_of, waiting_of, Settings}
+use Rattle.scc_common.specs.Hashing.{hash_of}
 use Rattle.scc_buckets.specs.Pour.{bound_for, IsRegrouped}
-use Rattle.scc_contents.specs.Routing.{bucket_number}
+use Rattle.scc_common.specs.Routing.{bucket_number}
 use Rattle.scc_buckets.proofs.PairSplits.{by_answer}
 use Rattle.scc_buckets.proofs.Powers.{double-array}
 use Rattle.scc_buckets.proofs.Resizes.{regrouped-resizes}

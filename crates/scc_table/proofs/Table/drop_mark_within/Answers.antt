@@ -1,5 +1,5 @@
 use Rattle.std.proofs.Common.{◌∙◌, rules}
-use Rattle.scc_contents.specs.Hashing.{hash_of}
+use Rattle.scc_common.specs.Hashing.{hash_of}
 use Rattle.scc_table.proofs.Short.{listed-later}
 use Rattle.scc_table.proofs.Table.drop_mark_within.Goals as goal
 

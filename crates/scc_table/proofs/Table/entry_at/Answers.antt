@@ -1,5 +1,5 @@
 use Rattle.std.proofs.Common.{◌≡◌, ◌-◌, Some, slice_get, subst, arith}
-use Rattle.scc_contents.specs.Contents.{entries, key_hash}
+use Rattle.scc_common.specs.Contents.{entries, key_hash}
 use Rattle.scc_table.specs.Places.{index_of}
 use Rattle.scc_table.proofs.OldSpots.{own-get, old-get}
 use Rattle.scc_table.proofs.OneBucket.{old-here, own-here}
@@ -23,8 +23,8 @@ pub entry_at-requires-clause-bucket : goal.entry_at-requires-clause-bucket
 entry_at-requires-clause-bucket g c =
     (old-here c.self.invariant c.args.place c.self.view_is c.requires c.bucket_count-count.result c.bucket_count-count.ensures.count c.if-place-count.false).1
 
-pub entry_at-requires-clause-place : goal.entry_at-requires-clause-place
-entry_at-requires-clause-place g c =
+pub entry_at-requires-clause-slot : goal.entry_at-requires-clause-slot
+entry_at-requires-clause-slot g c =
     (old-here c.self.invariant c.args.place c.self.view_is c.requires c.bucket_count-count.result c.bucket_count-count.ensures.count c.if-place-count.false).2
 
 pub returns : goal.returns

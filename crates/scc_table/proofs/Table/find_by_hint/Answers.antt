@@ -1,7 +1,7 @@
 use Rattle.std.proofs.Common.{◌∙◌, sym, ap, arith}
 use Rattle.std.specs.List.{find}
-use Rattle.scc_contents.specs.Contents.{entries, key_hash, pending_of}
-use Rattle.scc_contents.specs.Hashing.{hash_of}
+use Rattle.scc_common.specs.Contents.{entries, key_hash, pending_of}
+use Rattle.scc_common.specs.Hashing.{hash_of}
 use Rattle.scc_table.proofs.Joining.{pending-together}
 use Rattle.scc_table.proofs.Seen.{settings-seen}
 use Rattle.scc_table.proofs.SearchingLemmas.{entries-not_waiting}

@@ -1,6 +1,6 @@
 use Rattle.std.proofs.Common.{◌≡◌, ◌≤◌, ◌∙◌, drop, refl, sym, subst, ap, arith, rules}
 use Rattle.scc_table.specs.Relocates.{AreMovedFrom}
-use Rattle.scc_contents.specs.Contents.{pending_of, waiting_of}
+use Rattle.scc_common.specs.Contents.{pending_of, waiting_of}
 use Rattle.scc_table.proofs.Finishing.{finish-start, finish-step}
 use Rattle.scc_table.specs.TwoArrays.{pending_targets}
 use Rattle.scc_table.proofs.Joining.{waiting-together, pending-together}

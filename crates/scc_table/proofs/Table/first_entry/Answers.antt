@@ -1,6 +1,6 @@
 use Rattle.std.proofs.Common.{◌∙◌, sym, ap}
 use Rattle.std.specs.List.{slice_get}
-use Rattle.scc_contents.specs.Contents.{entries, list_of}
+use Rattle.scc_common.specs.Contents.{entries, list_of}
 use Rattle.scc_buckets.specs.Placed.{at-get}
 use Rattle.scc_buckets.specs.Places as spots
 use Rattle.scc_buckets.specs.declared.place.Place.{Place}

@@ -1,5 +1,5 @@
 use Rattle.std.proofs.Common.{◌∙◌, sym}
-use Rattle.scc_contents.specs.Contents.{entries}
+use Rattle.scc_common.specs.Contents.{entries}
 use Rattle.scc_buckets.proofs.Standing.{along, index-start, length-zero}
 use Rattle.scc_table.proofs.Table.first_place.Goals as goal
 

@@ -1,7 +1,7 @@
 use Rattle.std.proofs.Common.{◌≡◌, ◌<◌, ◌∙◌, false, sym, ap, arith, length}
 use native.Mathlib.Decide.{dec_lt}
 use Rattle.std.proofs.lemmas.List.{get_or_read}
-use Rattle.scc_contents.specs.Contents.{pending_of, waiting_of}
+use Rattle.scc_common.specs.Contents.{pending_of, waiting_of}
 use Rattle.scc_table.specs.TwoArrays.{waits_at}
 use Rattle.scc_table.proofs.Joining.{waiting-together, pending-together}
 use Rattle.scc_table.proofs.RelocatingLemmas.{all-down}

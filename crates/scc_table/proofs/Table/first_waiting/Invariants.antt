@@ -1,5 +1,5 @@
 use Rattle.std.proofs.Common.{◌≡◌, ◌<◌, ℕ, false}
-use Rattle.scc_contents.specs.Contents.{waiting_of}
+use Rattle.scc_common.specs.Contents.{waiting_of}
 use Rattle.scc_table.specs.TwoArrays.{waits_at}
 use Rattle.scc_table.proofs.Table.first_waiting.Given as goal
 

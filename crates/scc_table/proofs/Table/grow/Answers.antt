@@ -1,5 +1,5 @@
 use Rattle.std.proofs.Common.{◌∙◌, ◌*◌, inl, inr, replicate, true, sym, ap, subst, arith, rules}
-use Rattle.scc_contents.specs.Contents.{key_hash}
+use Rattle.scc_common.specs.Contents.{key_hash}
 use Rattle.scc_buckets.specs.Pour.{IsRegrouped}
 use Rattle.scc_buckets.proofs.Powers.{double-array}
 use Rattle.scc_buckets.proofs.Resizes.{regrouped-resizes}

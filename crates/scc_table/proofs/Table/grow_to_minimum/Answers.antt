@@ -1,6 +1,6 @@
 use Rattle.std.proofs.Common.{◌∙◌, ◌<◌, refl, sym, arith, rules}
 use Rattle.std.proofs.lemmas.Bool.{true≢false}
-use Rattle.scc_contents.specs.Contents.{bucket_count}
+use Rattle.scc_common.specs.Contents.{bucket_count}
 use Rattle.scc_buckets.proofs.Resizes.{reaches-due}
 use Rattle.scc_table.proofs.Spreading.{growth-due, spreads-all, spreads-less}
 use Rattle.scc_table.proofs.Table.grow_to_minimum.Goals as goal

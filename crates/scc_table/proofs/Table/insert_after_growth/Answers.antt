@@ -1,8 +1,8 @@
 use Rattle.std.proofs.Common.{◌≡◌, ◌∙◌, ◌-◌, ◌≤◌, length, replicate, true, sym, ap, subst, arith, Bool, rules}
 use Rattle.std.specs.List.{count_by, range_with_len}
-use Rattle.scc_contents.specs.Contents.{HasRoomAt, bucket_count, entries, key_hash, settings_of, waiting_of}
+use Rattle.scc_common.specs.Contents.{HasRoomAt, bucket_count, entries, key_hash, settings_of, waiting_of}
 use Rattle.scc_buckets.specs.Pour.{IsRegrouped}
-use Rattle.scc_contents.specs.Routing.{bucket_number}
+use Rattle.scc_common.specs.Routing.{bucket_number}
 use Rattle.scc_buckets.proofs.Resizes.{absent-permuted, rests-resizes, rests-inserted}
 use Rattle.scc_table.specs.Places.{spot_of}
 use Rattle.scc_table.specs.Relocates.{AreMovedBeside, AreShort, left_after}

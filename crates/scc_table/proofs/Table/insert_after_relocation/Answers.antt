@@ -1,7 +1,7 @@
 use Rattle.std.proofs.Common.{◌≡◌, ◌∙◌, ◌≤◌, ℕ, None, length, sym, ap, subst, arith, rules}
 use Rattle.std.specs.List.{position}
-use Rattle.scc_contents.specs.Contents.{HasRoomBy, bucket_count, key_hash, list_of, settings_of}
-use Rattle.scc_contents.specs.Routing.{bucket_number}
+use Rattle.scc_common.specs.Contents.{HasRoomBy, bucket_count, key_hash, list_of, settings_of}
+use Rattle.scc_common.specs.Routing.{bucket_number}
 use Rattle.scc_table.specs.TwoArrays.{pending_targets}
 use Rattle.scc_table.proofs.Placing.{long-none, moved-relocated, relocated-fewer, relocated-inserted, relocated-left, relocated-short, room-same}
 use Rattle.scc_table.proofs.Same.{count-same, entries-same, hash-same, if-err, if-ok, on-err, on-ok}

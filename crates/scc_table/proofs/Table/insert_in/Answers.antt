@@ -1,8 +1,8 @@
 use Rattle.std.proofs.Common.{◌≡◌, ◌∙◌, ◌<◌, ◌≤◌, ℕ, ◌+◌, ◌^◌, true, false, inl, inr, length, map, sym, ap, subst, arith, rules}
 use Rattle.std.specs.List.{IsDistinct}
-use Rattle.scc_contents.specs.Contents.{entries, HasRoomBy, bucket_count, owed_of, key_hash, list_of, settings_of, overflow_of}
+use Rattle.scc_common.specs.Contents.{entries, HasRoomBy, bucket_count, owed_of, key_hash, list_of, settings_of, overflow_of}
 use Rattle.scc_buckets.specs.OneList.{HasSameLists, IsPutIn}
-use Rattle.scc_contents.specs.Routing.{bucket_number}
+use Rattle.scc_common.specs.Routing.{bucket_number}
 use Rattle.scc_table.specs.TwoArrays.{draining_of, IsTable, together}
 use Rattle.scc_table.proofs.Joining.{waiting-together}
 use Rattle.scc_table.proofs.Noting.{fields-less, owed-kept}

@@ -1,8 +1,8 @@
 use Rattle.std.proofs.Common.{◌≡◌, ◌==◌, ◌∙◌, ◌<◌, inl, inr, true, false, length, sym, ap, subst, arith, Bool, rules}
 use Rattle.std.specs.List.{count_by}
 use Rattle.std.proofs.lemmas.List.{nil_from_length}
-use Rattle.scc_contents.specs.Contents.{HasRoomAt, bucket_count, entries, key_hash, list_of, pending_of, settings_of}
-use Rattle.scc_contents.specs.Routing.{bucket_number}
+use Rattle.scc_common.specs.Contents.{HasRoomAt, bucket_count, entries, key_hash, list_of, pending_of, settings_of}
+use Rattle.scc_common.specs.Routing.{bucket_number}
 use Rattle.scc_table.specs.Relocates.{AreMovedBeside}
 use Rattle.scc_table.specs.TwoArrays.{pending_targets}
 use Rattle.scc_draining.proofs.Arriving.{any-ok}

@@ -1,7 +1,7 @@
 use Rattle.std.proofs.Common.{◌≡◌, ◌∙◌, ◌*◌, ℕ, Bool, true, false, Some, sym, ap, subst, arith, rules}
 use Rattle.std.specs.List.{range_with_len}
-use Rattle.scc_contents.specs.Contents.{bucket_count, key_hash, settings_of, waiting_of}
-use Rattle.scc_contents.specs.Routing.{bucket_number}
+use Rattle.scc_common.specs.Contents.{bucket_count, key_hash, settings_of, waiting_of}
+use Rattle.scc_common.specs.Routing.{bucket_number}
 use Rattle.scc_table.specs.Relocates.{left_after, AreMovedBeside, AreShortBut}
 use Rattle.scc_table.specs.TwoArrays.{waits_at}
 use Rattle.scc_table.proofs.Grown.{around-inserted, around-short}

@@ -1,6 +1,6 @@
 use Rattle.std.proofs.Common.{◌≡◌, ◌∙◌, ℕ, None, List, map, sym, ap, subst, arith}
 use Rattle.std.specs.List.{position, IsDistinct}
-use Rattle.scc_contents.specs.Contents.{bucket_count, key_hash, settings_of}
+use Rattle.scc_common.specs.Contents.{bucket_count, key_hash, settings_of}
 use Rattle.scc_table.specs.TwoArrays.{draining_of, IsTable, together}
 use Rattle.scc_table.proofs.Alone.{entries-alone, lists-alone}
 use Rattle.scc_table.proofs.Firsts.{no-flags}

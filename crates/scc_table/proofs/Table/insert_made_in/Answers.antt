@@ -1,6 +1,6 @@
 use Rattle.std.proofs.Common.{◌≡◌, ◌∙◌, ◌<◌, ℕ, ◌+◌, ◌^◌, true, false, inl, inr, map, sym, ap, subst, arith, rules}
 use Rattle.std.specs.List.{IsDistinct}
-use Rattle.scc_contents.specs.Contents.{entries, owed_of, key_hash, settings_of, overflow_of}
+use Rattle.scc_common.specs.Contents.{entries, owed_of, key_hash, settings_of, overflow_of}
 use Rattle.scc_buckets.specs.OneList.{HasSameLists, IsPutIn}
 use Rattle.scc_table.specs.TwoArrays.{draining_of, IsTable, together}
 use Rattle.scc_table.proofs.Joining.{waiting-together}

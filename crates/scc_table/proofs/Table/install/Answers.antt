@@ -1,11 +1,11 @@
-use Rattle.scc_contents.specs.Hashing.{hash_of}
+use Rattle.scc_common.specs.Hashing.{hash_of}
 use Rattle.std.proofs.Common.{◌≡◌, ◌∙◌, ◌+◌, ℕ, List, length, replicate, true, inr, sym, ap, subst, arith}
 use Rattle.std.proofs.lemmas.List.{length-replicate}
 use Rattle.std.specs.List.{count_by}
 use Rattle.scc_array.specs.Shelf.{Shelf, empty_shelf}
-use Rattle.scc_contents.specs.Contents.{Settings, key_hash, overflow_of}
+use Rattle.scc_common.specs.Contents.{Settings, key_hash, overflow_of}
 use Rattle.scc_buckets.specs.Pour.{IsRegrouped}
-use Rattle.scc_contents.specs.Sizes.{IsBucketCount, IsLawful}
+use Rattle.scc_common.specs.Sizes.{IsBucketCount, IsLawful}
 use Rattle.scc_buckets.specs.Tables.{overflow_in}
 use Rattle.scc_buckets.proofs.Fresh.{empty-replicate}
 use Rattle.scc_buckets.proofs.MakingLemmas.{flat-empty, table-empty}

@@ -1,7 +1,7 @@
 use Rattle.std.specs.List.{IsDistinct}
 use Rattle.std.proofs.Common.{◌≡◌, ◌∙◌, ◌+◌, ◌*◌, ℕ, List, map, inl, sym, ap, subst, arith, rules}
-use Rattle.scc_contents.specs.Contents.{bucket_count, entries, key_hash, minimum_of, overflow_of, refused_of}
-use Rattle.scc_contents.specs.Sizes.{IsBucketCount, IsArraySize}
+use Rattle.scc_common.specs.Contents.{bucket_count, entries, key_hash, minimum_of, overflow_of, refused_of}
+use Rattle.scc_common.specs.Sizes.{IsBucketCount, IsArraySize}
 use Rattle.scc_buckets.specs.Tables.{overflow_in}
 use Rattle.scc_table.specs.TwoArrays.{draining_of, IsTable, together}
 use Rattle.scc_table.proofs.Alone.{count-alone, entries-alone, nothing-owed, spilled-bare, spilled-together}

@@ -1,9 +1,9 @@
-use Rattle.scc_contents.specs.Hashing.{hash_of}
+use Rattle.scc_common.specs.Hashing.{hash_of}
 use Rattle.std.proofs.Common.{◌≡◌, ◌∙◌, ℕ, ◌-◌, Bool, List, length, get_or, map, set, replicate, true, false, sym, ap, subst, arith, rules}
 use Rattle.std.proofs.lemmas.List.{get_or-replicate, length-replicate}
 use Rattle.std.specs.List.Sorted.{IsPermutation}
 use Rattle.scc_array.specs.Shelf.{empty_shelf, shelf_entries}
-use Rattle.scc_contents.specs.Contents.{Settings, entries, owed_of, key_hash, lists_of, refused_of, settings_of, waiting_of}
+use Rattle.scc_common.specs.Contents.{Settings, entries, owed_of, key_hash, lists_of, refused_of, settings_of, waiting_of}
 use Rattle.scc_buckets.specs.Pour.{IsRegrouped}
 use Rattle.scc_buckets.specs.Tables.{IsBuckets}
 use Rattle.scc_buckets.proofs.Fresh.{empty-replicate}

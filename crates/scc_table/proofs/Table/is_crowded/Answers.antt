@@ -1,9 +1,9 @@
 use Rattle.std.proofs.Common.{◌≡◌, ◌∙◌, ℕ, ◌*◌, ◌<◌, false, length, take, sym, ap, arith, rules}
 use Rattle.std.proofs.lemmas.List.{take_all}
-use Rattle.scc_contents.specs.Contents.{bucket_count, key_hash, list_of, settings_of, Settings}
-use Rattle.scc_contents.specs.Hashing.{hash_of}
+use Rattle.scc_common.specs.Contents.{bucket_count, key_hash, list_of, settings_of, Settings}
+use Rattle.scc_common.specs.Hashing.{hash_of}
 use Rattle.scc_buckets.specs.Pour.{bound_for}
-use Rattle.scc_contents.specs.Routing.{bucket_number}
+use Rattle.scc_common.specs.Routing.{bucket_number}
 use Rattle.scc_table.specs.TwoArrays.{waits_at}
 use Rattle.scc_table.proofs.DoublingLemmas.{bound-few}
 use Rattle.scc_table.proofs.OldSpots.{own-list}

@@ -1,6 +1,6 @@
 use Rattle.std.proofs.Common.{◌≡◌, ◌∙◌, ◌*◌, ◌/◌, ◌<◌, ◌≤◌, length, ap, subst, sym, mul_comm, arith}
 use native.Mathlib.Decide.{dec_lt}
-use Rattle.scc_contents.specs.Contents.{bucket_count, entries, key_hash, settings_of}
+use Rattle.scc_common.specs.Contents.{bucket_count, entries, key_hash, settings_of}
 use Rattle.scc_buckets.specs.Pour.{bound_for}
 use Rattle.scc_table.proofs.Short.{even-parts}
 use Rattle.scc_table.proofs.Table.is_short_in.Goals as goal

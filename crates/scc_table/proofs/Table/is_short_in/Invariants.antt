@@ -1,5 +1,5 @@
 use Rattle.std.proofs.Common.{ℕ, ◌<◌, ◌≤◌, length}
-use Rattle.scc_contents.specs.Contents.{entries, key_hash, settings_of}
+use Rattle.scc_common.specs.Contents.{entries, key_hash, settings_of}
 use Rattle.scc_buckets.specs.Pour.{bound_for}
 use Rattle.scc_table.proofs.Table.is_short_in.Given as goal
 

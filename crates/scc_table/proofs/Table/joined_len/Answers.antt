@@ -1,5 +1,5 @@
 use Rattle.std.proofs.Common.{◌≡◌, ◌∙◌, ◌+◌, ◌*◌, ◌^◌, ◌<◌, ◌≤◌, inl, inr, ap, sym, length, arith}
-use Rattle.scc_contents.specs.Contents.{bucket_count, key_hash, settings_of}
+use Rattle.scc_common.specs.Contents.{bucket_count, key_hash, settings_of}
 use Rattle.scc_buckets.specs.Pour.{bound_for}
 use Rattle.scc_table.proofs.Short.{entries_until, joined-start, joined-more, joined-end, row-within}
 use Rattle.scc_table.proofs.Table.joined_len.Goals as goal

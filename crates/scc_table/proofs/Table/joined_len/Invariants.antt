@@ -1,5 +1,5 @@
 use Rattle.std.proofs.Common.{◌≡◌, ◌*◌, ◌≤◌, length}
-use Rattle.scc_contents.specs.Contents.{key_hash, settings_of}
+use Rattle.scc_common.specs.Contents.{key_hash, settings_of}
 use Rattle.scc_buckets.specs.Pour.{bound_for}
 use Rattle.scc_table.proofs.Short.{entries_until}
 use Rattle.scc_table.proofs.Table.joined_len.Given as goal

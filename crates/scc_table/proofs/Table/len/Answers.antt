@@ -1,7 +1,7 @@
 use Rattle.std.proofs.Common.{◌≡◌, ℕ, ◌⊎◌, inl, inr, ◌≤◌, ◌+◌, ◌*◌, ◌^◌, ◌∙◌, sym, ap, arith, rules, length}
 use Rattle.std.specs.List.{sum_by}
 use Rattle.scc_array.specs.Shelf.{Shelf, shelf_entries}
-use Rattle.scc_contents.specs.Contents.{entries, bucket_count, key_hash, overflow_of}
+use Rattle.scc_common.specs.Contents.{entries, bucket_count, key_hash, overflow_of}
 use Rattle.scc_buckets.specs.Tables.{overflow_in}
 use Rattle.scc_draining.specs.Moves.{AreMultiples}
 use Rattle.scc_table.proofs.Gathered.{owed-most, len-fits, length-together, none-owed}

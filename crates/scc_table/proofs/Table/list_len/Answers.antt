@@ -2,7 +2,7 @@ use Rattle.std.proofs.Common.{◌≡◌, ◌∙◌, ◌^◌, ◌<◌, true, fals
 use Rattle.std.specs.List.{flat_map}
 use Rattle.scc_array.specs.Shelf.{shelf_entries}
 use Rattle.scc_buckets.specs.Pour.{bound_for}
-use Rattle.scc_contents.specs.Contents.{bucket_count, key_hash, list_of, settings_of}
+use Rattle.scc_common.specs.Contents.{bucket_count, key_hash, list_of, settings_of}
 use Rattle.scc_table.specs.TwoArrays.{waits_at}
 use Rattle.scc_table.proofs.OldSpots.{own-list}
 use Rattle.scc_draining.proofs.FromBuckets.{most-entry_count, within-sources}

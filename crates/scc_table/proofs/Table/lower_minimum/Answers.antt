@@ -1,5 +1,5 @@
 use Rattle.std.proofs.Common.{◌≡◌, ◌+◌, ◌-◌, ◌∙◌, rules, ap, sym, arith}
-use Rattle.scc_contents.specs.Contents.{Settings, bucket_count, key_hash, settings_of, minimum_of}
+use Rattle.scc_common.specs.Contents.{Settings, bucket_count, key_hash, settings_of, minimum_of}
 use Rattle.scc_table.proofs.Seen.{settings-seen}
 use Rattle.scc_buckets.proofs.Resizes.{smaller-by, shrinks-after}
 use Rattle.scc_table.proofs.Spreading.{shrink-due_after, spreads-after}

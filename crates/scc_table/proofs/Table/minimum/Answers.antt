@@ -1,5 +1,5 @@
 use Rattle.std.proofs.Common.{◌∙◌, ◌+◌, ap}
-use Rattle.scc_contents.specs.Contents.{key_hash}
+use Rattle.scc_common.specs.Contents.{key_hash}
 use Rattle.scc_table.proofs.Seen.{settings-seen}
 use Rattle.scc_table.proofs.Table.minimum.Goals as goal
 

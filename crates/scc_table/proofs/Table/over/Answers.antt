@@ -1,5 +1,5 @@
 use Rattle.std.proofs.Common.{◌∙◌, arith}
-use Rattle.scc_contents.specs.Contents.{key_hash}
+use Rattle.scc_common.specs.Contents.{key_hash}
 use Rattle.scc_table.proofs.Alone.{fields-alone, lists-alone, spilled-alone}
 use Rattle.scc_table.proofs.Joining.{settings-together, refused-together, waiting-together}
 use Rattle.scc_table.proofs.Table.over.Goals as goal

@@ -1,5 +1,5 @@
 use Rattle.std.proofs.Common.{◌≡◌, ◌∙◌, ◌+◌, ◌-◌, ◌^◌, ◌<◌, ◌≤◌, false, length, sym, ap, subst, rules, arith, add-one}
-use Rattle.scc_contents.specs.Contents.{bucket_count, key_hash, list_of}
+use Rattle.scc_common.specs.Contents.{bucket_count, key_hash, list_of}
 use Rattle.scc_buckets.specs.Places as spots
 use Rattle.scc_buckets.specs.declared.place.Place.{Place}
 use Rattle.scc_buckets.proofs.Standing.{along, index-skip}

@@ -1,5 +1,5 @@
 use Rattle.std.proofs.Common.{◌∙◌, Bool, inr, sym, ap, arith, rules}
-use Rattle.scc_contents.specs.Hashing.{hash_of}
+use Rattle.scc_common.specs.Hashing.{hash_of}
 use Rattle.scc_buckets.proofs.Bounds.{keeps-count}
 use Rattle.scc_table.proofs.Same.{count-same}
 use Rattle.scc_table.proofs.Short.{listed-later, listed-none}

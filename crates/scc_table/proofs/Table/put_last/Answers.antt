@@ -1,8 +1,8 @@
 use Rattle.std.proofs.Common.{◌≡◌, ℕ, ◌+◌, ◌^◌, ◌<◌, Bool, None, map, sym, ap, ◌∙◌, subst, arith}
 use Rattle.std.specs.List.{position, IsDistinct}
 use Rattle.scc_buckets.specs.Bounded.{IsBounded, IsListed, PutsLast}
-use Rattle.scc_contents.specs.Contents.{Contents, bucket_count, entries, owed_of, key_hash, settings_of, overflow_of}
-use Rattle.scc_contents.specs.Hashing.{hash_of}
+use Rattle.scc_common.specs.Contents.{Contents, bucket_count, entries, owed_of, key_hash, settings_of, overflow_of}
+use Rattle.scc_common.specs.Hashing.{hash_of}
 use Rattle.scc_buckets.proofs.FindingLemmas.{HashOf}
 use Rattle.scc_table.specs.TwoArrays.{draining_of, together, IsTable}
 use Rattle.scc_table.proofs.CurrentChanges.{own-fields, own-owed, own-list}

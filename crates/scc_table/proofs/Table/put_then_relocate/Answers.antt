@@ -1,7 +1,7 @@
 use Rattle.std.proofs.Common.{◌≡◌, ◌∙◌, true, false, drop, length, sym, ap, arith}
 use Rattle.std.proofs.lemmas.List.{length-drop}
-use Rattle.scc_contents.specs.Contents.{waiting_of}
-use Rattle.scc_contents.specs.Hashing.{hash_of}
+use Rattle.scc_common.specs.Contents.{waiting_of}
+use Rattle.scc_common.specs.Hashing.{hash_of}
 use Rattle.scc_buckets.proofs.PairSplits.{by_answer}
 use Rattle.scc_table.specs.TwoArrays.{pending_targets, waits_at}
 use Rattle.scc_table.proofs.Short.{listed-later, puts-later, short-listed}

@@ -1,8 +1,8 @@
 use Rattle.std.proofs.Common.{◌≡◌, ◌∙◌, ℕ, ◌+◌, ◌-◌, ◌<◌, false, [], length, set, refl, sym, ap, subst, arith, rules}
 use Rattle.std.specs.List.{count_by}
-use Rattle.scc_contents.specs.Contents.{key_hash, overflow_of}
+use Rattle.scc_common.specs.Contents.{key_hash, overflow_of}
 use Rattle.scc_buckets.specs.Tables.{overflow_in}
-use Rattle.scc_contents.specs.Hashing.{hash_of}
+use Rattle.scc_common.specs.Hashing.{hash_of}
 use Rattle.scc_table.specs.TwoArrays.{draining_of, together, IsTable, IsRelocated}
 use Rattle.scc_buckets.proofs.Bare.{all-bare}
 use Rattle.scc_table.proofs.Alone.{bare-together, spilled-alone, spilled-together}

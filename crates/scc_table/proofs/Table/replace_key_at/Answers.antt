@@ -3,8 +3,8 @@ use Rattle.std.specs.List.{slice_get}
 use Rattle.scc_array.specs.Shelves.{shelf_of}
 use Rattle.scc_array.specs.Shelf.{Shelf, shelf_entries}
 use Rattle.scc_array.specs.ShelfWrites.{shelf_write_at}
-use Rattle.scc_contents.specs.Contents.{Contents, bucket_count, entries, key_hash, settings_of}
-use Rattle.scc_contents.specs.Hashing.{hash_of}
+use Rattle.scc_common.specs.Contents.{Contents, bucket_count, entries, key_hash, settings_of}
+use Rattle.scc_common.specs.Hashing.{hash_of}
 use Rattle.scc_buckets.specs.Writes as writes
 use Rattle.scc_table.specs.Places.{index_of, with_write_at}
 use Rattle.scc_table.specs.TwoArrays.{draining_of, together, IsTable}

@@ -1,8 +1,8 @@
 use Rattle.std.proofs.Common.{◌≡◌, ◌∙◌, ◌+◌, true, false, length, sym, ap, subst, rules, arith}
 use Rattle.std.specs.List.{position}
 use Rattle.scc_array.specs.Shelves.{shelf_of}
-use Rattle.scc_contents.specs.Contents.{entries, key_hash, list_of, settings_of}
-use Rattle.scc_contents.specs.Hashing.{hash_of}
+use Rattle.scc_common.specs.Contents.{entries, key_hash, list_of, settings_of}
+use Rattle.scc_common.specs.Hashing.{hash_of}
 use Rattle.scc_buckets.specs.declared.place.Place.{Place}
 use Rattle.scc_buckets.proofs.FindingLemmas.{HashOf, has_tag}
 use Rattle.scc_table.specs.Places.{IsFoundAt}

@@ -1,8 +1,8 @@
 use Rattle.std.proofs.Common.{◌≡◌, ◌<◌, Bool, None, sym, ap, ◌∙◌, subst, arith}
 use Rattle.std.specs.List.{position}
-use Rattle.scc_contents.specs.Contents.{Contents, bucket_count, entries, key_hash, list_of, settings_of}
-use Rattle.scc_contents.specs.Hashing.{hash_of}
-use Rattle.scc_contents.specs.Routing.{bucket_number}
+use Rattle.scc_common.specs.Contents.{Contents, bucket_count, entries, key_hash, list_of, settings_of}
+use Rattle.scc_common.specs.Hashing.{hash_of}
+use Rattle.scc_common.specs.Routing.{bucket_number}
 use Rattle.scc_buckets.proofs.FindingLemmas.{HashOf}
 use Rattle.scc_table.proofs.CurrentChanges.{own-list}
 use Rattle.scc_table.proofs.SearchingLemmas.{missed-own}

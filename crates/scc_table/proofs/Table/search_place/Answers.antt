@@ -1,7 +1,7 @@
 use Rattle.std.proofs.Common.{ℕ, ◌<◌, ◌∙◌, Bool, refl, sym, ap, arith}
-use Rattle.scc_contents.specs.Contents.{bucket_count, key_hash, settings_of}
-use Rattle.scc_contents.specs.Hashing.{hash_of}
-use Rattle.scc_contents.specs.Routing.{bucket_number}
+use Rattle.scc_common.specs.Contents.{bucket_count, key_hash, settings_of}
+use Rattle.scc_common.specs.Hashing.{hash_of}
+use Rattle.scc_common.specs.Routing.{bucket_number}
 use Rattle.scc_buckets.proofs.FindingLemmas.{HashOf}
 use Rattle.scc_buckets.proofs.Standing.{along}
 use Rattle.scc_table.specs.Places.{spot_of}

@@ -1,5 +1,5 @@
 use Rattle.std.proofs.Common.{◌∙◌, ℕ, sym, ap, subst}
-use Rattle.scc_contents.specs.Contents.{Settings, key_hash, lists_of, owed_of}
+use Rattle.scc_common.specs.Contents.{Settings, key_hash, lists_of, owed_of}
 use Rattle.scc_table.specs.TwoArrays.{draining_of, IsTable, together}
 use Rattle.scc_table.proofs.Joining.{settings-together, refused-together, waiting-together}
 use Rattle.scc_table.proofs.Noting.{fields-kept, lists-kept, owed-kept}

@@ -1,9 +1,9 @@
 use Rattle.std.proofs.Common.{◌≡◌, ◌∙◌, ℕ, ◌≤◌, ◌<◌, length, refl, sym, subst, arith, rules}
 use Rattle.scc_buckets.specs.Bounded.{IsResized, MayShrinkWithin, stays_wide, denied_narrow, narrows}
-use Rattle.scc_contents.specs.Contents.{bucket_count, entries, key_hash, minimum_of, settings_of}
-use Rattle.scc_contents.specs.Hashing.{hash_of}
+use Rattle.scc_common.specs.Contents.{bucket_count, entries, key_hash, minimum_of, settings_of}
+use Rattle.scc_common.specs.Hashing.{hash_of}
 use Rattle.scc_buckets.specs.Pour.{IsRegrouped, bound_for}
-use Rattle.scc_contents.specs.Sizes.{IsBucketCount, IsSmaller}
+use Rattle.scc_common.specs.Sizes.{IsBucketCount, IsSmaller}
 use Rattle.scc_buckets.proofs.Powers.{max-array, smaller-to, smaller-only}
 use Rattle.scc_table.proofs.Same.{count-same}
 use Rattle.scc_table.proofs.Short.{listed-anew, listed-later, listed-resized, routed-before, short-listed}

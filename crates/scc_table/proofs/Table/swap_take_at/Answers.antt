@@ -1,7 +1,7 @@
 use Rattle.std.proofs.Common.{◌≡◌, ℕ, ◌<◌, Some, map, sym, ap, ◌∙◌, subst, arith, rules}
 use Rattle.std.specs.List.{slice_get, IsDistinct}
-use Rattle.scc_contents.specs.Contents.{Contents, bucket_count, entries, key_hash, waiting_of, owed_of}
-use Rattle.scc_contents.specs.Hashing.{hash_of}
+use Rattle.scc_common.specs.Contents.{Contents, bucket_count, entries, key_hash, waiting_of, owed_of}
+use Rattle.scc_common.specs.Hashing.{hash_of}
 use Rattle.scc_buckets.specs.OneList.{IsSwappedOutOf}
 use Rattle.scc_table.specs.Places.{index_of, spot_of}
 use Rattle.scc_table.specs.Takes.{owed_taken}

@@ -1,6 +1,6 @@
 use Rattle.std.proofs.Common.{◌∙◌, sym, ap, subst}
-use Rattle.scc_contents.specs.Contents.{Contents, Settings, key_hash, waiting_of}
-use Rattle.scc_contents.specs.Hashing.{hash_of}
+use Rattle.scc_common.specs.Contents.{Contents, Settings, key_hash, waiting_of}
+use Rattle.scc_common.specs.Hashing.{hash_of}
 use Rattle.scc_table.specs.Removals.{SwapTakesFirst}
 use Rattle.scc_table.specs.TwoArrays.{draining_of, together}
 use Rattle.scc_table.proofs.Joining.{waiting-together}

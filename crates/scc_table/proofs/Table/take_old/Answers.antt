@@ -2,7 +2,7 @@ use Rattle.std.proofs.Common.{◌≡◌, ◌-◌, ◌≤◌, Some, List, map, se
 use Rattle.std.specs.List.{slice_get, IsDistinct}
 use Rattle.scc_array.specs.Shelves.{shelf_of}
 use Rattle.scc_array.specs.Shelf.{Shelf, shelf_entries, without_slot}
-use Rattle.scc_contents.specs.Contents.{Contents, bucket_count, entries, key_hash, waiting_of, owed_of}
+use Rattle.scc_common.specs.Contents.{Contents, bucket_count, entries, key_hash, waiting_of, owed_of}
 use Rattle.scc_buckets.specs.OneList.{IsTakenFrom}
 use Rattle.scc_table.specs.Places.{index_of, spot_of}
 use Rattle.scc_table.specs.Takes.{owed_taken}
@@ -30,8 +30,8 @@ remove_at-entry-requires-clause-bucket g c =
     let far : bucket_count cur ≤ p.bucket = omega (arith, count-seen (λ e. hk (key e)) cur ws olds c.args.self.now view inv.arrays.flags, c.requires.old) in
     rw count (old-is laws inv c.args.place within far).0
 
-pub remove_at-entry-requires-clause-place : goal.remove_at-entry-requires-clause-place
-remove_at-entry-requires-clause-place g c =
+pub remove_at-entry-requires-clause-slot : goal.remove_at-entry-requires-clause-slot
+remove_at-entry-requires-clause-slot g c =
     let t = c.self.inside in
     let cur = t.current in
     let ws = t.draining.waiting.items in

@@ -2,8 +2,8 @@ use Rattle.std.proofs.Common.{rules}
 use Rattle.scc_table.proofs.TakeSteps.{step-next, step-start}
 use Rattle.scc_table.proofs.Table.take_with_next.Goals as goal
 
-pub place_on-next-requires-clause-install_fresh : goal.place_on-next-requires-clause-install_fresh
-place_on-next-requires-clause-install_fresh g c =
+pub place_on-next-requires-clause-start : goal.place_on-next-requires-clause-start
+place_on-next-requires-clause-start g c =
     let took = c.take_in-entry.ensures in
     let target = c.target_of-target in
     step-start c.args.self.now c.take_in-entry.new.self c.args.place c.requires took.exact took.waiting took.owed target.result target.ensures.value target.ensures.within target.ensures.next

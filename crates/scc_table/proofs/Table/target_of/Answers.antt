@@ -1,8 +1,8 @@
 use Rattle.std.proofs.Common.{◌∙◌, ◌-◌, ◌<◌, length, sym, ap, subst, arith}
 use Rattle.scc_array.specs.Shelves.{shelf_of}
 use Rattle.scc_array.specs.Shelf.{shelf_entries}
-use Rattle.scc_contents.specs.Contents.{bucket_count, key_hash, settings_of}
-use Rattle.scc_contents.specs.Routing.{bucket_number}
+use Rattle.scc_common.specs.Contents.{bucket_count, key_hash, settings_of}
+use Rattle.scc_common.specs.Routing.{bucket_number}
 use Rattle.scc_table.specs.Places.{spot_of}
 use Rattle.scc_table.proofs.Nexts.{NextStart, old-next, own-next, slot-below, few-entries}
 use Rattle.scc_table.proofs.OldSpots.{old-within, old-spot, own-spot}
@@ -74,8 +74,8 @@ entry_at-entry-requires-clause-bucket g c =
     let at = old-here c.self.invariant c.args.place c.self.view_is c.requires c.bucket_count-count.result c.bucket_count-count.ensures.count c.if-place-count.false in
     at.1
 
-pub entry_at-entry-requires-clause-place : goal.entry_at-entry-requires-clause-place
-entry_at-entry-requires-clause-place g c =
+pub entry_at-entry-requires-clause-slot : goal.entry_at-entry-requires-clause-slot
+entry_at-entry-requires-clause-slot g c =
     let at = old-here c.self.invariant c.args.place c.self.view_is c.requires c.bucket_count-count.result c.bucket_count-count.ensures.count c.if-place-count.false in
     at.2
 

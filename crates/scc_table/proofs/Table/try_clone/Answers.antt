@@ -1,6 +1,6 @@
 use Rattle.std.proofs.Common.{◌∙◌, subst, arith}
-use Rattle.scc_contents.specs.Clones.{HasClones}
-use Rattle.scc_contents.specs.Contents.{key_hash}
+use Rattle.scc_common.specs.Clones.{HasClones}
+use Rattle.scc_common.specs.Contents.{key_hash}
 use Rattle.scc_table.specs.TwoArrays.{together}
 use Rattle.scc_table.proofs.Cloned.{clones-together, old-short}
 use Rattle.scc_table.proofs.Gathered.{gathered}

@@ -1,8 +1,8 @@
 use Rattle.std.proofs.Common.{◌≡◌, ◌∙◌, refl, sym, ap, subst, arith}
 use Rattle.std.specs.List.{find}
 use Rattle.scc_array.proofs.Finds.{find-position}
-use Rattle.scc_contents.specs.Contents.{Contents, Settings, entries, key_hash, pending_of}
-use Rattle.scc_contents.specs.Hashing.{hash_of}
+use Rattle.scc_common.specs.Contents.{Contents, Settings, entries, key_hash, pending_of}
+use Rattle.scc_common.specs.Hashing.{hash_of}
 use Rattle.scc_table.specs.Places.{IsFoundAt, index_of}
 use Rattle.scc_table.specs.TwoArrays.{draining_of, together}
 use Rattle.scc_table.specs.Updates.{UpdatesFirst}

@@ -5,7 +5,7 @@ use Rattle.std.specs.Set.{is_member}
 use Rattle.std.proofs.Math.Seq.{take-suc}
 use Rattle.std.proofs.lemmas.List.{take_all}
 use Rattle.std.proofs.lemmas.Map.Keys.{IsDistinct-push}
-use Rattle.scc_contents.specs.Contents.{entries}
+use Rattle.scc_common.specs.Contents.{entries}
 use Rattle.scc_uses.proofs.KeyLemmas.{none-distinct, one-more, listed-more, no-more, not-there, same-members, is-there}
 use Rattle.scc_uses.proofs.distinct.distinct.Goals as goal
 use Rattle.scc_uses.proofs.distinct.distinct.Goals.{in-Ok+else-is_err, in-Err-Exists}

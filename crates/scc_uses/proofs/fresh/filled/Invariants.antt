@@ -1,5 +1,5 @@
 use Rattle.std.proofs.Common.{◌≡◌, ◌<◌}
-use Rattle.scc_contents.specs.Contents.{bucket_count, pending_of}
+use Rattle.scc_common.specs.Contents.{bucket_count, pending_of}
 use Rattle.scc_uses.proofs.fresh.filled.Given as goal
 
 abbrev pub invariant-loop-key : goal.invariant-loop-key

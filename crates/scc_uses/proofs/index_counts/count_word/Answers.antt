@@ -1,6 +1,6 @@
 use Rattle.std.proofs.Common.{rules, ◌≡◌, nat_eq, Some, sym, subst}
-use Rattle.scc_contents.specs.Contents.{entries}
-use Rattle.scc_contents.specs.Pairs.{find, FindsInstead}
+use Rattle.scc_common.specs.Contents.{entries}
+use Rattle.scc_common.specs.Pairs.{find, FindsInstead}
 use Rattle.scc_uses.specs.Counts.{one_more}
 use Rattle.scc_uses.proofs.IndexCounting.{CountsUp, counted}
 use Rattle.scc_uses.proofs.index_counts.count_word.Goals as goal

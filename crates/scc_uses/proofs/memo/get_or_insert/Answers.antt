@@ -1,7 +1,7 @@
 use Rattle.std.proofs.Common.{rules, Some, nat_eq}
 use Rattle.std.specs.Cmp.{nat_eq_equiv}
-use Rattle.scc_contents.specs.Contents.{entries}
-use Rattle.scc_contents.specs.Pairs.{FindsInstead}
+use Rattle.scc_common.specs.Contents.{entries}
+use Rattle.scc_common.specs.Pairs.{FindsInstead}
 use Rattle.scc_map.proofs.CallerLemmas.{finds-or_insert}
 use Rattle.scc_map.specs.Entries.{occupied_pair}
 use Rattle.scc_uses.proofs.memo.get_or_insert.Goals as goal

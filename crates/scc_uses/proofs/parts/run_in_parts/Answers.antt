@@ -1,5 +1,5 @@
 use Rattle.std.proofs.Common.{◌≡◌, sym, ap, ◌∙◌}
-use Rattle.scc_contents.specs.Contents.{settings_of}
+use Rattle.scc_common.specs.Contents.{settings_of}
 use Rattle.scc_uses.proofs.parts.run_in_parts.Goals as goal
 use Rattle.scc_uses.proofs.parts.run_in_parts.Goals.{then-number-eq0, else-number-eq0}
 

@@ -1,6 +1,6 @@
 use Rattle.std.proofs.Common.{ℕ, nat_eq, Some, Ok, ap, sym, subst, rules}
 use Rattle.std.specs.Hash as fed
-use Rattle.scc_contents.specs.Contents.{key_hash}
+use Rattle.scc_common.specs.Contents.{key_hash}
 use Rattle.scc_cache.specs.Caches.{Cached}
 use Rattle.scc_cache.specs.CacheSteps.{ChangesLists, PutsNew, list_number}
 use Rattle.scc_cache.specs.ListSteps.{RefreshesAs}

@@ -1,8 +1,8 @@
 use Rattle.std.proofs.Common.{◌≡◌, ◌≤◌, refl, add-one, length, length-append, rules, true, false}
 use Rattle.scc_array.specs.Shelves.{shelf_of}
 use Rattle.scc_array.specs.Shelf.{shelf_entries}
-use Rattle.scc_contents.specs.Walks.{ended, stopped, went_on}
-use Rattle.scc_contents.proofs.WalkLemmas.{turn-first, turn-others, drop-past}
+use Rattle.scc_common.specs.Walks.{ended, stopped, went_on}
+use Rattle.scc_common.proofs.WalkLemmas.{turn-first, turn-others, drop-past}
 use Rattle.scc_buckets.proofs.Arrays.{drop-got}
 use Rattle.scc_buckets.proofs.walk.versions.walk_list.Goals as goal
 

@@ -1,7 +1,7 @@
 use Rattle.std.proofs.Common.{drop, Bool, true}
 use Rattle.scc_array.specs.Shelves.{shelf_of}
 use Rattle.scc_array.specs.Shelf.{shelf_entries}
-use Rattle.scc_contents.specs.Walks.{CalledOn, CallableWhile, Walks}
+use Rattle.scc_common.specs.Walks.{CalledOn, CallableWhile, Walks}
 use Rattle.scc_buckets.proofs.walk.versions.walk_list.Given as goal
 
 abbrev pub invariant-loop-place : goal.invariant-loop-place

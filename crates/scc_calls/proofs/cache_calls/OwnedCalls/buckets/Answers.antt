@@ -1,5 +1,5 @@
 use Rattle.std.proofs.Common.{arith}
-use Rattle.scc_contents.specs.Contents.{bucket_count, lists_of}
+use Rattle.scc_common.specs.Contents.{bucket_count, lists_of}
 use Rattle.scc_calls.proofs.cache_calls.OwnedCalls.buckets.Goals as goal
 
 pub returns : goal.returns

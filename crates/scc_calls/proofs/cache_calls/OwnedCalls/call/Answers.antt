@@ -1,6 +1,6 @@
 use Rattle.std.proofs.Common.{◌≤◌, ℕ, length, None, Some, Err, inl, inr, refl, ap, subst, arith, rules}
 use Rattle.std.specs.Option.{option_map}
-use Rattle.scc_contents.specs.Contents.{key_hash, lists_of}
+use Rattle.scc_common.specs.Contents.{key_hash, lists_of}
 use Rattle.scc_common.specs.declared.errors.InsertError.{InsertError}
 use Rattle.scc_cache.specs.CacheSteps.{list_number, pair_of, Puts}
 use Rattle.scc_cache.specs.Entries.{occupied_pair}

@@ -1,8 +1,8 @@
 use Rattle.std.proofs.Common.{◌≡◌, ◌∙◌, true, false, Some, inl, inr, refl, rules, ap, sym}
 use Rattle.std.specs.Borrow.{MutBor}
 use Rattle.std.specs.Option.{option_map}
-use Rattle.scc_contents.specs.Contents.{Contents, entries}
-use Rattle.scc_contents.specs.Pairs.{find}
+use Rattle.scc_common.specs.Contents.{Contents, entries}
+use Rattle.scc_common.specs.Pairs.{find}
 use Rattle.scc_calls.specs.Resized.{MovesResized}
 use Rattle.scc_calls.specs.Means.{answered}
 use Rattle.scc_calls.specs.Stems.{IndexStems}

@@ -1,5 +1,5 @@
 use Rattle.std.proofs.Common.{Some, None, ◌∙◌, rules, inl, inr, refl}
-use Rattle.scc_contents.specs.Hashing.{hash_of}
+use Rattle.scc_common.specs.Hashing.{hash_of}
 use Rattle.scc_calls.specs.Resized.{MovesResized}
 use Rattle.scc_calls.specs.Means.{answered}
 use Rattle.scc_calls.specs.Stems.{MapStems}
@@ -7,8 +7,8 @@ use Rattle.scc_calls.specs.MapCalls.{MapMoves}
 use Rattle.scc_calls.specs.States.{State, ResizesTo, setting_of, state_of}
 use Rattle.scc_calls.specs.declared.replies.Reply.TheVariants.{Inserted, Exists, Old, Key, Pair, Value, Has, Cleared, Count}
 use Rattle.std.specs.Option.{option_map}
-use Rattle.scc_contents.specs.Contents.{entries}
-use Rattle.scc_contents.specs.Pairs.{find}
+use Rattle.scc_common.specs.Contents.{entries}
+use Rattle.scc_common.specs.Pairs.{find}
 use Rattle.scc_calls.proofs.Copying.{copied, copied-part}
 use Rattle.scc_calls.proofs.MapCalls.{cleared, inserted, upserted, removed, removed-setting}
 use Rattle.scc_calls.proofs.map_calls.OwnedCalls.call.Goals as goal

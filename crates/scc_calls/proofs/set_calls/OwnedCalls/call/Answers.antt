@@ -1,6 +1,6 @@
 use Rattle.std.proofs.Common.{◌∙◌, Some, inl, inr, refl, rules}
-use Rattle.scc_contents.specs.Contents.{entries}
-use Rattle.scc_contents.specs.Hashing.{hash_of}
+use Rattle.scc_common.specs.Contents.{entries}
+use Rattle.scc_common.specs.Hashing.{hash_of}
 use Rattle.scc_set.specs.Keys.{find}
 use Rattle.scc_calls.specs.Resized.{MovesResized}
 use Rattle.scc_calls.specs.Means.{answered}

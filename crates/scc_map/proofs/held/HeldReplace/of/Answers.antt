@@ -1,7 +1,7 @@
 use Rattle.std.proofs.Common.{◌≡◌, ◌∙◌, sym, ap, subst, Some}
-use Rattle.scc_contents.specs.Contents.{entries, refused_of, waiting_of}
+use Rattle.scc_common.specs.Contents.{entries, refused_of, waiting_of}
 use Rattle.std.specs.List.{slice_get}
-use Rattle.scc_contents.specs.Pairs.{find, with_pair_key}
+use Rattle.scc_common.specs.Pairs.{find, with_pair_key}
 use Rattle.scc_table.specs.Places.{IsPlace, index_of, with_write_at}
 use Rattle.scc_table.specs.Placed.{IsPlace-with_write_at}
 use Rattle.scc_table.proofs.AtPlaces.{entry_of-is, place-found, key-written, key-unique, key-got, noted-write}

@@ -4,7 +4,7 @@ use Rattle.std.proofs.Math.Logic.{∥∥₁_elim, ∥∥₁_map}
 use Rattle.std.proofs.lemmas.List.{length-map}
 use Rattle.scc_calls.specs.Histories.{CallsRouted, Replays}
 use Rattle.scc_calls.specs.declared.fixed.Setting.{Setting}
-use Rattle.scc_contents.specs.Routing.{stripe_of}
+use Rattle.scc_common.specs.Routing.{stripe_of}
 use Rattle.scc_history.specs.Orders.{steps_at}
 use Rattle.scc_history.specs.Stamps.{calls_in}
 use Rattle.scc_history.proofs.Along.{stamps_rise}

@@ -1,5 +1,5 @@
 use Rattle.std.proofs.Common.{sym, ◌∙◌}
-use Rattle.scc_contents.specs.Contents.{entries}
+use Rattle.scc_common.specs.Contents.{entries}
 use Rattle.scc_set.specs.Equality.{keys_eq, keys_eq-pairs}
 use Rattle.scc_set.proofs.Sets.{shown}
 use Rattle.scc_set.proofs.whole.OwnedPartialEq.eq.Goals as goal

@@ -1,5 +1,5 @@
 use Rattle.std.proofs.Common.{◌≡◌, ◌-◌, length, IfSome}
-use Rattle.scc_contents.specs.Contents.{entries}
+use Rattle.scc_common.specs.Contents.{entries}
 use Rattle.scc_stripes.specs.Parts.{parts_owner}
 use Rattle.scc_table.specs.Places.{IsPlace}
 use Rattle.scc_table.proofs.Reached.{reached}

@@ -1,6 +1,6 @@
 use Rattle.std.proofs.Common.{rules, ◌≡◌, ℕ, None, refl, ◌∙◌, nat_eq}
-use Rattle.scc_contents.specs.Contents.{entries}
-use Rattle.scc_contents.specs.Pairs.{find}
+use Rattle.scc_common.specs.Contents.{entries}
+use Rattle.scc_common.specs.Pairs.{find}
 use Rattle.scc_uses.proofs.WindowLemmas.{hit_again, hit_refused, untouched}
 use Rattle.scc_uses.proofs.requests.Requests.hit.Goals as goal
 

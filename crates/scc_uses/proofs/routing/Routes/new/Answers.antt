@@ -1,6 +1,6 @@
 use Rattle.std.proofs.Common.{ap, nat_eq}
 use Rattle.std.specs.Option.{option_map}
-use Rattle.scc_contents.specs.Pairs.{find}
+use Rattle.scc_common.specs.Pairs.{find}
 use Rattle.scc_uses.specs.Routing.{route_to}
 use Rattle.scc_uses.proofs.routing.Routes.new.Goals as goal
 

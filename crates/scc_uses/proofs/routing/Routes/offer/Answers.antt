@@ -1,5 +1,5 @@
 use Rattle.std.proofs.Common.{rules, ℕ, nat_eq, true, false, BuildHasherDefault, FoldHasher}
-use Rattle.scc_contents.specs.Contents.{Contents}
+use Rattle.scc_common.specs.Contents.{Contents}
 use Rattle.scc_map.specs.Entries.{RestsRefused}
 use Rattle.scc_uses.specs.declared.routing.Route.{Route}
 use Rattle.scc_uses.specs.Routing.{route_to, Offers, IsAsBefore}

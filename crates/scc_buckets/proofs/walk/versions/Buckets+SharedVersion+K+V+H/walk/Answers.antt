@@ -3,8 +3,8 @@ use Rattle.std.specs.List.{flat_map}
 use Rattle.scc_array.specs.Shelves.{shelf_of}
 use Rattle.scc_buckets.proofs.Arrays.{drop-shelf}
 use Rattle.scc_array.specs.Shelf.{shelf_entries}
-use Rattle.scc_contents.specs.Walks.{ended}
-use Rattle.scc_contents.proofs.WalkLemmas.{callable-after, turn-front, drop-past, walk-append, walk-stopped}
+use Rattle.scc_common.specs.Walks.{ended}
+use Rattle.scc_common.proofs.WalkLemmas.{callable-after, turn-front, drop-past, walk-append, walk-stopped}
 use Rattle.scc_buckets.proofs.walk.versions.Buckets+SharedVersion+K+V+H.walk.Goals as goal
 
 pub returns-then-not-walk_bucket : goal.returns-then-not-walk_bucket

@@ -1,8 +1,8 @@
 use Rattle.std.proofs.Common.{drop, Bool, true}
 use Rattle.std.specs.List.{flat_map}
-use Rattle.scc_contents.specs.Contents.{entries}
+use Rattle.scc_common.specs.Contents.{entries}
 use Rattle.scc_array.specs.Shelf.{shelf_entries}
-use Rattle.scc_contents.specs.Walks.{CalledOn, CallableWhile, Walks}
+use Rattle.scc_common.specs.Walks.{CalledOn, CallableWhile, Walks}
 use Rattle.scc_buckets.proofs.walk.versions.Buckets+SharedVersion+K+V+H.walk.Given as goal
 
 abbrev pub invariant-loop-bucket : goal.invariant-loop-bucket

@@ -1,5 +1,5 @@
 use Rattle.std.proofs.Common.{◌≡◌, ◌++◌}
-use Rattle.scc_contents.specs.Contents.{entries}
+use Rattle.scc_common.specs.Contents.{entries}
 use Rattle.scc_print.proofs.printed.indexes.OwnedU64U64Printed.take_items.Given as goal
 
 abbrev pub invariant-loop-version : goal.invariant-loop-version

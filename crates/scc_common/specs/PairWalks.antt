@@ -2,7 +2,7 @@
 use Rattle.std.specs.Prelude.{◌≡◌, ℕ, Bool, true, false, List, [], ◌∷◌, take, Result, Ok, Err, Some, slice_get, ⊤}
 use Rattle.std.specs.Borrow.{Bor, MutBor}
 use Rattle.std.specs.Fn.{Mut, Called}
-use Rattle.scc_contents.specs.Walks.{HoldsInTurn}
+use Rattle.scc_common.specs.Walks.{HoldsInTurn}
 use Rattle.scc_common.specs.declared.errors.WalkError.{WalkError}
 use Rattle.scc_common.specs.declared.verdict.Verdict.{Verdict}
 use Rattle.scc_common.specs.declared.verdict.Verdict.TheVariants.{Keep, Take, KeepStop, TakeStop}

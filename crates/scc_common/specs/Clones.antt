@@ -2,7 +2,7 @@
 use Rattle.std.specs.Prelude.{◌≡◌, ◌*◌, List, ◌++◌}
 use Rattle.std.specs.List.{AllZip}
 use Rattle.std.specs.List.Sorted.{IsPermutation}
-use Rattle.scc_contents.specs.Contents.{Contents, entries, bucket_count, refused_of, settings_of}
+use Rattle.scc_common.specs.Contents.{Contents, entries, bucket_count, refused_of, settings_of}
 
 module _ {E S : Type 0} where
   -- clones of the sources, by C, are added to the entries of c, and nothing else changes

@@ -1,8 +1,8 @@
 -- What a call may leave: the same contents, other entries, other buckets.
 use Rattle.std.specs.Prelude.{◌≡◌, ◌≢◌, ℕ, ◌+◌, ◌-◌, ◌*◌, ◌^◌, ◌<◌, ◌≤◌, ◌⊎◌, false, true, List, length, max}
 use Rattle.std.specs.List.Sorted.{IsPermutation}
-use Rattle.scc_contents.specs.Contents.{Contents, Settings, entries, bucket_count, settings_of, lists_of, minimum_of, refused_of, pending_of, waiting_of, HasRoomAt, HasRoomBy}
-use Rattle.scc_contents.specs.Sizes.{IsBucketCount, IsArraySize, IsSmaller}
+use Rattle.scc_common.specs.Contents.{Contents, Settings, entries, bucket_count, settings_of, lists_of, minimum_of, refused_of, pending_of, waiting_of, HasRoomAt, HasRoomBy}
+use Rattle.scc_common.specs.Sizes.{IsBucketCount, IsArraySize, IsSmaller}
 
 module _ {E S : Type 0} where
   -- d has the entries es in their order, with the number of buckets and the settings of c

@@ -1,6 +1,6 @@
 -- Contents whose entries are seen through a function.
 use Rattle.std.specs.Prelude.{map}
-use Rattle.scc_contents.specs.Contents.{Contents}
+use Rattle.scc_common.specs.Contents.{Contents}
 
 module _ {E F S : Type 0} where
   -- the contents with f of each entry in its place

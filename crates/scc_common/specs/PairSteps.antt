@@ -2,7 +2,7 @@
 -- another order and after a resize, or for a state in a run.
 use Rattle.std.specs.Prelude.{◌≡◌, Bool, List, ◌∷◌, None, Some, IsSome}
 use Rattle.std.specs.Map.{set_value, set_key}
-use Rattle.scc_contents.specs.Pairs.{find, without}
+use Rattle.scc_common.specs.Pairs.{find, without}
 
 module _ {K V : Type 0} (eq : K → K → Bool) (es : List (K × V)) where
   -- the key of p is missing, and p is added

@@ -5,8 +5,8 @@ use Rattle.std.specs.List.{flat_map, IsDistinct, slice_get, slice_index_or}
 use Rattle.std.specs.Coded.{Coded, code_by, coded×, coded_ℕ, coded_bool, coded_list}
 use Rattle.std.specs.declared.hash.Hasher as hasher
 use Rattle.std.specs.declared.hash.BuildHasher as builder
-use Rattle.scc_contents.specs.Hashing.{hash_of}
-use Rattle.scc_contents.specs.Routing.{bucket_number}
+use Rattle.scc_common.specs.Hashing.{hash_of}
+use Rattle.scc_common.specs.Routing.{bucket_number}
 
 -- the hasher, the number of skipped bits of a hash, the slots asked for and the slots reserved; only the last changes
 -- after making

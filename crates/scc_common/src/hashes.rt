@@ -9,7 +9,7 @@ pub trait Hashes<K> {
 }
 
 impl<K: Hash, H: BuildHasher> Hashes<K> for H {
-    ghost use Rattle.scc_contents.specs.Hashing.{hash_of as hash_under};
+    ghost use Rattle.scc_common.specs.Hashing.{hash_of as hash_under};
 
     ghost hash_of = { λ h k. hash_under H.BuildHasher H.Hasher.Hasher h (K.hash_input k) };
 }

@@ -3,7 +3,7 @@ use Rattle.std.proofs.Common.{◌≡◌, ℕ, zero, suc, ◌≤◌, Bool, true, 
 use Rattle.std.specs.Borrow.{Bor}
 use Rattle.std.specs.Fn.{Mut}
 use Rattle.std.specs.List.{FoldsTo, All}
-use Rattle.scc_contents.specs.Walks.{CalledOn, TakesOn, HoldsInTurn, CallableWhile, Walks, ended, stopped, went_on}
+use Rattle.scc_common.specs.Walks.{CalledOn, TakesOn, HoldsInTurn, CallableWhile, Walks, ended, stopped, went_on}
 use denote.Param.Always.{always_mut, mut_next}
 
 module _ {F K V : Type 0} {T : F → K × V → Bool → F → Type 0} where

@@ -2,7 +2,7 @@
 use Rattle.std.specs.Prelude.{◌≡◌, Bool, true}
 use Rattle.std.specs.Borrow.{Bor, MutBor}
 use Rattle.std.specs.Fn.{Once, FnOnceReturnsAtMut}
-use Rattle.scc_contents.specs.Closures.{AnswersAt, WritesAt}
+use Rattle.scc_common.specs.Closures.{AnswersAt, WritesAt}
 
 module _ {K V : Type 0} (eq : K → K → Bool) where
   -- the key of p equals k

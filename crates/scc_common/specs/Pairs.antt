@@ -1,7 +1,7 @@
 -- The words on pairs of keys and values, which map, index and cache share.
 use Rattle.std.specs.Prelude.{◌≡◌, ℕ, Bool, cond, List, Option}
 use Rattle.std.specs.Map.{lookup_entry, remove_entry}
-use Rattle.scc_contents.specs.Contents.{Contents, HasRoomBy, IsUniqueBy}
+use Rattle.scc_common.specs.Contents.{Contents, HasRoomBy, IsUniqueBy}
 
 module _ {K V : Type 0} (eq : K → K → Bool) where
   -- the pair whose key equals k

@@ -1,0 +1,30 @@
+-- What an insertion does to the array, in one word for map, set and index.
+use Rattle.std.specs.Prelude.{◌≡◌, ℕ, None, Option, Result, IsSome}
+use Rattle.std.specs.Result.{OnOk}
+use Rattle.scc_common.specs.Contents.{Contents, bucket_count, refused_of, waiting_of, HasRoomBy}
+use Rattle.scc_common.specs.Steps.{FirstArrayWhenDue, Grows, GrowsWhenDue, IsPreparedFor}
+use Rattle.scc_table.specs.Relocations.{Relocates, RelocatesTwo}
+
+module _ {E K S : Type 0} (key : E → K) where
+  -- what an insertion of the key k with this result does to the array, the note and the waiting buckets of c, which
+  -- becomes d. A look-up of k found `found` before
+  pub record GrowsByRule {A B X : Type 0} (hash : K → ℕ) (found : Option X) (c : Contents E S) (k : K) (result : Result A B) (d : Contents E S) : Type 0 where
+    -- the number of buckets changes only by a first array or a doubling
+    pub growth : Grows c d
+    -- the number of buckets stays if the key is new and its bucket has room
+    pub kept : found ≡ None → HasRoomBy hash key c k → bucket_count d ≡ bucket_count c
+    -- the number of buckets stays if the insertion was prepared
+    pub once : IsPreparedFor hash key c k → bucket_count d ≡ bucket_count c
+    -- the number of buckets is doubled if the key is new and a growth is due, unless memory for it was refused
+    pub due : found ≡ None → GrowsWhenDue hash key c k d
+    -- the first array has the size of the minimum
+    pub first : found ≡ None → OnOk result (FirstArrayWhenDue c d)
+    -- note and mark stay if the key is there
+    pub noted : IsSome found → refused_of d ≡ refused_of c
+    -- a new key relocates at most two buckets
+    pub relocates : found ≡ None → Relocates c d
+    -- it relocates the key's own bucket first and then the first ones that wait, two in all, or all if fewer wait; if
+    -- some of them are long, at least those before a long one
+    pub two : found ≡ None → OnOk result (RelocatesTwo (hash k) c d)
+    -- a key that is there relocates no bucket
+    pub waiting : IsSome found → waiting_of d ≡ waiting_of c
