@@ -1,7 +1,7 @@
 //! The insertions through an entry of a borrowed index. Each goes on from the search that made the entry. At an
 //! occupied entry `len` is called for its contract: no two keys are equal.
 ghost use Rattle.scc_common.specs.Pairs.{IsUnique};
-ghost use Rattle.scc_index.specs.Entries.{occupied_index, entry_guard, entry_key, InsertsThrough, IsVacant, OrInserts, OrInsertsSome, Refuses, RefusesSome, occupied_pair, rests_if_refused, occupied_guard};
+ghost use Rattle.scc_index.specs.Entries.{occupied_index, entry_guard, entry_key, InsertsThrough, IsVacant, OrInserts, OrInsertsSome, Refuses, RefusesSome, occupied_pair, rests_if_refused};
 ghost use Rattle.std.specs.Borrow.{sem};
 ghost use Rattle.std.specs.Fn.{FnOnceTakesAt, FnOnceReturnsAt};
 ghost use Rattle.std.specs.Prelude.{◌≡◌, Ok};
@@ -100,7 +100,7 @@ impl<'a, K: Eq + Hash, V, H: BuildHasher> HeldOccupied<&'a mut Owned<K, V, H>, (
         ensures same { result ≡ Ok self.entry }
         ensures unique { IsUnique K.eq (occupied_index self.entry) }
         ensures* kept { sem 𝓛 (rests_if_refused K.row V.row H.row H.Hasher.row K.Hash H.BuildHasher H.Hasher.Hasher
-            (occupied_guard self.entry) (occupied_pair self.entry).0 result) }
+            self.entry.guard (occupied_pair self.entry).0 result) }
     {
         let HeldOccupied {
             guard,

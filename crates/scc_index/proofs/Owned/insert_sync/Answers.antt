@@ -20,7 +20,9 @@ returns-in-Some-clause-array g c =
           let f = find-position (g.K.PartialEq.eq c.args.k) (entries c.self.inside.table) _ c.in-Some.ensures.place.found in
           λ none. let here = rw (← c.self.view_is, f.2) at none in cc);
       once = (search rules);
-      due = (search rules);
+      due = (
+          let f = find-position (g.K.PartialEq.eq c.args.k) (entries c.self.inside.table) _ c.in-Some.ensures.place.found in
+          λ none. let here = rw (← c.self.view_is, f.2) at none in cc);
       first = (search rules);
       noted = (search rules);
       relocates = (
@@ -62,7 +64,7 @@ returns-after-insert_made-clause-array g c =
       kept = (λ _. rw (← c.self.view_is) c.insert_made.ensures.kept);
       once = (rw (← c.self.view_is) c.insert_made.ensures.once);
       due = (λ _. elim c.match-insert_made.branch [
-        | in-Ok w ↦ rw (w.result-is, ← c.self.view_is) w.in-Ok.ensures.due
+        | in-Ok w ↦ rw (← c.self.view_is) w.in-Ok.ensures.due
         | in-Err w ↦ rw (← c.self.view_is) w.in-Err.ensures.undone
       ]);
       first = (λ _.

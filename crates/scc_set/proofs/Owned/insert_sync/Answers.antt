@@ -34,7 +34,7 @@ returns-clause-array g c =
           (λ r. (shows c.insert_sync.new.self).buckets ∙ c.insert_sync.ensures.array.once (ready-hashed g.H.BuildHasher g.H.Hasher.Hasher g.K.Hash.hash_input c.self.inside.map c.args.k r) ∙ sym (shows c.self.inside.map).buckets));
       growth = (rw (← c.self.view_is) (Grows-mapped _ _ _ c.insert_sync.ensures.array.growth));
       due = (rw (← c.self.view_is) (λ n. grows-hashed g.K.PartialEq.eq g.H.BuildHasher g.H.Hasher.Hasher g.K.Hash.hash_input c.self.inside.map c.args.k c.insert_sync.new.self (c.insert_sync.ensures.array.due (none-found g.K.PartialEq.eq c.self.inside.map c.args.k n))));
-      first = (rw (← c.self.view_is, c.key_answer.ensures) (on-answer c.insert_sync.result (FirstArrayWhenDue-mapped _ _ _) c.insert_sync.ensures.array.first));
+      first = (rw (← c.self.view_is, c.key_answer.ensures) (λ n. on-answer c.insert_sync.result (FirstArrayWhenDue-mapped _ _ _) (c.insert_sync.ensures.array.first (none-found g.K.PartialEq.eq c.self.inside.map c.args.k n))));
       noted = (rw (← c.self.view_is) (λ there. noted-keys _ _ (c.insert_sync.ensures.array.noted (found-is g.K.PartialEq.eq c.self.inside.map c.args.k there))));
       relocates = (rw (← c.self.view_is) (λ n. Relocates-mapped _ _ _ (c.insert_sync.ensures.array.relocates (none-found g.K.PartialEq.eq c.self.inside.map c.args.k n))));
       two = (
