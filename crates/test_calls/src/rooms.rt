@@ -12,7 +12,7 @@ trait Making: Form<MaybeEqual, u64> {
     // Prepares an insertion of `key`. Returns whether the preparation succeeded.
     fn make(&mut self, key: u64) -> bool;
 
-    // Removes the mark, because the prepared insertion isn't wanted.
+    // Removes the mark of a refused growth, if there is one.
     fn let_go(&mut self);
 }
 

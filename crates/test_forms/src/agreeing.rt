@@ -259,7 +259,8 @@ fn take(
     })
 }
 
-// Removes the pairs of `met`, at most the call's number modulo 8. Returns whether `met` is right.
+// Removes the pairs of `met`. Returns whether they are pairs of the list, as many as the call's number modulo 8, or
+// all if the list has fewer.
 fn drain(list: &mut List, asked: &Asked, met: &[Seen]) -> bool {
     let most = (asked.number % 8) as usize;
     let mut is_right = met.len() == most.min(list.len());

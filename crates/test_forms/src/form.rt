@@ -55,7 +55,7 @@ impl Way {
         !matches!(self, Way::Insert | Way::Upsert) && kind != Kind::Set
     }
 
-    /// Returns whether containers of `kind` have this.
+    /// Returns whether containers of `kind` have such calls.
     pub fn is_of(self, kind: Kind) -> bool {
         match kind {
             Kind::Map => true,
@@ -78,7 +78,7 @@ pub enum At {
 }
 
 impl At {
-    /// Returns whether containers of `kind` have this.
+    /// Returns whether containers of `kind` have such calls.
     pub fn is_of(self, kind: Kind) -> bool {
         match self {
             At::Key => kind != Kind::Set,
@@ -107,7 +107,7 @@ pub enum Act {
 }
 
 impl Act {
-    /// Returns whether containers of `kind` have this.
+    /// Returns whether containers of `kind` have such calls.
     pub fn is_of(self, kind: Kind) -> bool {
         match self {
             Act::Look | Act::RemoveEntry => true,

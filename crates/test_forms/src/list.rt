@@ -20,7 +20,8 @@ pub struct List {
     until_forgotten: Option<u64>,
 }
 
-// Returns the bucket of `hash` in an array of `capacity` slots: the first bits of `hash`.
+// Returns the bucket of `hash` in an array of `capacity` slots: the first bits of `hash`, enough to number the
+// buckets.
 fn bucket_of(hash: u64, capacity: usize) -> u64 {
     let wide = u128::from(hash) * (capacity / BUCKET) as u128;
     (wide >> 64) as u64
@@ -74,7 +75,7 @@ impl List {
         self.find(pair.0) == Some(pair)
     }
 
-    /// Returns the number of one of the list's keys, or `other` if the list is empty.
+    /// Returns the number of the key that `choice` picks from the list, or `other` if the list is empty.
     pub fn some_number(&self, choice: u64, other: u64) -> u64 {
         let Some(place) = (choice as usize).checked_rem(self.pairs.len()) else {
             return other;
@@ -126,8 +127,8 @@ impl List {
         (least, count)
     }
 
-    // Returns whether a new pair may evict `evicted`. Only a cache evicts, from a full bucket, and with one stripe
-    // the least recent pair of the bucket.
+    // Returns whether a new pair may evict `evicted`, or nothing if it is `None`. Only a cache evicts, from a full
+    // bucket. With one stripe it evicts the least recent pair of the bucket.
     fn can_lose(&self, hash: u64, evicted: Option<Seen>) -> bool {
         if self.kind != Kind::Cache {
             return evicted.is_none();
@@ -142,7 +143,8 @@ impl List {
         }
     }
 
-    /// Removes `evicted` and adds `pair`. Returns whether a container could evict that.
+    /// Removes `evicted` and adds `pair`, unless the list forgets `pair`. Returns whether a container may evict
+    /// `evicted`, or nothing if it is `None`.
     pub fn add(
         &mut self,
         hash: u64,

@@ -12,7 +12,7 @@ pub struct Refusal {
 }
 
 impl Refusal {
-    /// Returns that no refusal was met.
+    /// Returns a `Refusal` that isn't met yet.
     pub fn new() -> Refusal {
         Refusal { is_met: false }
     }
@@ -30,8 +30,8 @@ impl Refusal {
         let _ = println!(rt; "refused: {what}");
     }
 
-    /// Calls `make` until it isn't refused, and calls `is_left_right` after each refusal. Returns `None` if that
-    /// returns false, or if each call of `make` is refused.
+    /// Calls `make` until it isn't refused, and calls `is_left_right` after each refusal. Returns `None` if
+    /// `is_left_right` returns false, or if each call of `make` is refused.
     pub fn outlast<T, E: Drop, R: Print, F: Fn() -> Result<T, E>, G: Fn() -> bool>(
         &mut self,
         rt: &R,

@@ -56,7 +56,7 @@ impl Draws {
     }
 
     // Returns whether the next call is taken from the list of all gentle calls in turn. Every other call is, so that
-    // each comes.
+    // each gentle call is made.
     fn is_turn(&self) -> bool {
         self.made % 2 == 0
     }

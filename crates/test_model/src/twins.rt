@@ -21,7 +21,7 @@ use test_kit::maybe_equal::MaybeEqual;
 /// The number of calls that both get.
 const CALLS: u64 = 1000;
 
-/// The slots that both have at first. One stripe has so many.
+/// The number of slots that both have at first, in one stripe.
 const SLOTS: usize = 64;
 
 /// The most slots of a cache of one stripe.

@@ -13,7 +13,7 @@ pub struct Plain {
     buckets: usize,
 }
 
-// Returns the bucket of a key among `buckets` buckets: the first bits of the key.
+// Returns the bucket of a key among `buckets` buckets: the first bits of the key, enough to number the buckets.
 fn bucket_of(key: u64, buckets: usize) -> usize {
     let wide = u128::from(key) * buckets as u128;
     (wide >> 64) as usize

@@ -52,8 +52,8 @@ fn made<C: Drop>(container: Option<C>) -> io::Result<C> {
     }
 }
 
-// A closure for threads can't rest on a bound with a lifetime. Therefore each kind starts its threads in a function
-// of its own.
+// The data of a thread can't rest on a bound with a lifetime. Therefore each kind starts its threads in a function of
+// its own.
 
 // Returns what each thread was told by a map.
 fn told_of_map<'a, R: Wait + Threads + Sync>(
