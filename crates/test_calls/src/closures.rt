@@ -17,7 +17,7 @@ fn fill(map: &mut Map, end: u64) -> bool {
     true
 }
 
-// Walks until the closure's call number `last`. Returns the result and the number of calls.
+// Walks until the closure's call number `last`, or to the end. Returns the result and the number of calls.
 fn walk(map: &Map, last: u64) -> (bool, u64) {
     let mut calls = 0u64;
     let ended = map.iter_sync(|_, _| {
@@ -38,7 +38,8 @@ fn map_iter_calls_up_to_its_first_false(rt: HostRuntime) {
     );
 }
 
-// Searches for the pair of the closure's call number `last`. Returns whether it is found, and the number of calls.
+// Searches for the pair of the closure's call number `last`, or for none. Returns whether a pair is found, and the
+// number of calls.
 fn search(map: &mut Map, last: u64) -> (bool, u64) {
     let mut calls = 0u64;
     let is_found = map

@@ -239,7 +239,8 @@ fn remove_if(list: &mut List, asked: &Asked, answer: Answer) -> bool {
     answer == gone(kind, there)
 }
 
-// Removes the pairs that a walk takes. Returns whether `met` are these pairs.
+// Adds 1 to each value, and removes the pairs that a walk takes. Returns whether `met`, if it is there, are the
+// removed pairs.
 fn take(
     alloc: Global,
     list: &mut List,
@@ -296,7 +297,8 @@ fn walk(
     })
 }
 
-/// Makes a call on the list. Returns whether `answer` and `met` are what the list gives.
+/// Makes a call on the list. Returns whether `answer` and `met` are what the list gives. If the kind lacks the call,
+/// `met` must be empty.
 pub fn agrees(
     alloc: Global,
     list: &mut List,
