@@ -1,4 +1,4 @@
-// The error of a program that each refusal becomes by `?`.
+// The errors of a program that refusals become by `?`.
 use crate::expect::expect;
 use scc::recorded::{CallError, FinishError, Refused};
 use scc::stripes::RunError;
@@ -7,12 +7,12 @@ use std::alloc::AllocError;
 use std::io::{self, ErrorKind};
 use std::process::Abort;
 
-// The error is of that kind.
+// Checks that the error is of `kind`.
 fn expect_kind<R: Abort>(rt: &R, error: &io::Error, kind: ErrorKind) {
     expect(rt, error.kind() == kind);
 }
 
-// Hands the refusal on as an error of a program that allocates.
+// Returns the refusal as an error of a program that allocates.
 fn allocates<E>(refusal: E) -> Result<(), AllocError>
 where
     AllocError: From<E>,
