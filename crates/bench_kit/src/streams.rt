@@ -65,7 +65,7 @@ impl Streams {
         Ok(keys)
     }
 
-    /// Returns as many keys as there are entries, none of which is ever inserted.
+    /// Returns as many keys as there are entries. None of them is ever inserted.
     pub fn missing(&self, alloc: Global) -> Result<Vec<u64>, AllocError> {
         let mut keys = Vec::new(alloc);
         for place in 0..self.entries {
