@@ -33,7 +33,7 @@ enum Act {
     Read(u64),
     Clear,
     Len,
-    // The pass learns the other's clock.
+    // The pass raises its clock to the other's, if that is greater.
     Told,
 }
 

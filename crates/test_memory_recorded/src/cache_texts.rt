@@ -62,7 +62,7 @@ fn is_x(word: &Word) -> bool {
 }
 
 // Puts a key once, and returns whether its reply is right, or `None` if its text or the put was refused. The container
-// refuses only the put of key 32.
+// may refuse only the put of key 32: any other refusal by it is wrong.
 fn put<L: Ledger, M: Site<Shared<Zero>>, R: AllocGlobal + Print + Wait>(
     rt: &R,
     refusal: &mut Refusal,
