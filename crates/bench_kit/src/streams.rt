@@ -31,8 +31,8 @@ pub fn value(key: u64) -> u64 {
     key ^ 0x5555_5555_5555_5555
 }
 
-/// Returns a place of a list whose length less one is `mask`, a power of two less one. The places come in an order
-/// that no prefetcher follows.
+/// Returns the place that comes as number `place` in an order that no prefetcher follows. The places are 0 to `mask`,
+/// a power of two less one.
 fn scattered(place: u64, mask: u64, half: u32) -> u64
     requires { half < 64 }
 {
@@ -65,7 +65,7 @@ impl Streams {
         Ok(keys)
     }
 
-    /// Returns as many keys as there are entries, none of which is ever inserted.
+    /// Returns as many keys as there are entries. None of them is ever inserted.
     pub fn missing(&self, alloc: Global) -> Result<Vec<u64>, AllocError> {
         let mut keys = Vec::new(alloc);
         for place in 0..self.entries {

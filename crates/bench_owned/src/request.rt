@@ -66,7 +66,7 @@ fn parse_group(word: &str) -> io::Result<Group> {
     }
 }
 
-/// Reads the words `NAME GROUP RUNS ENTRIES SEED`, of which the last two may be left out.
+/// Reads the words `NAME GROUP RUNS ENTRIES SEED`. The last two may be left out.
 pub(crate) fn parse_request(words: &[String]) -> io::Result<Request> {
     let [peer, group, ..] = words else {
         return Err(bad_argument());

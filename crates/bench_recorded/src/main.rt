@@ -1,7 +1,7 @@
 //! Measures recorded calls beside plain ones under the same kind of lock, and the time to finish what was recorded.
 //!
-//! The arguments are `CALLS KEYS RUNS`. The usual number stands for an argument that is left out. The status is 1 if the
-//! contents differ at the end, if an argument is no number, or if memory is refused.
+//! The arguments are `CALLS KEYS RUNS`. The usual number stands for an argument that is left out. The status is 1 if
+//! the contents differ at the end, if an argument is no number, if the number of keys is 0, or if memory is refused.
 #![tactic(auto)]
 
 mod pairs;

@@ -32,7 +32,7 @@ fn parse_number(words: &[String], place: usize, usual: u64) -> io::Result<u64>
     }
 }
 
-/// Reads the words `CALLS KEYS RUNS`, of which the last ones may be left out. Fails if the number of keys is 0.
+/// Reads the words `CALLS KEYS RUNS`. The last ones may be left out. Fails if the number of keys is 0.
 pub(crate) fn parse_request(words: &[String]) -> io::Result<Request>
     ensures keys { IfOk result (λ r. 0 < r.keys) }
     ensures usual { words.now ≡ [] → result ≡ Ok (record { calls = 1000000; keys = 50000; runs = 3 }) }

@@ -1,4 +1,4 @@
-//! Insertions, removals and reads of keys, half of which are present.
+//! Insertions, removals and reads of keys. Half of the keys are present.
 use crate::reads::{Checked, Map, Work, measure_one, read};
 use crate::request::Request;
 use bench_kit::steps::{Spread, Step};
@@ -20,7 +20,7 @@ fn insert_missing(rt: &impl Wait, map: &Map, key: u64) -> Option<bool> {
     }
 }
 
-/// Inserts at the steps of the first tenth, removes at those of the second, and reads at the others. Returns the
+/// Inserts at the steps of the first tenth, removes at the steps of the second, and reads at the others. Returns the
 /// number of inserted and removed keys plus the sum of the values read, or `None` if memory was refused.
 pub(crate) fn mix(rt: &impl Wait, map: &Map, steps: &[Step]) -> Option<u64> {
     let mut sum = 0u64;
@@ -38,8 +38,8 @@ pub(crate) fn mix(rt: &impl Wait, map: &Map, steps: &[Step]) -> Option<u64> {
     Some(sum)
 }
 
-/// Measures keys of which each thread has its own, and then keys of which most steps have the same few. With the
-/// latter the sums of several threads depend on the schedule, so only the sum of one thread is checked.
+/// Measures steps whose keys belong to one thread each, and then steps that mostly have the same few keys. The sums of
+/// the latter depend on the schedule if there are several threads, so they are checked for one thread alone.
 pub(crate) fn measure<R: Threads + Wait + Clock + Print + Sync>(
     rt: &R,
     alloc: Global,

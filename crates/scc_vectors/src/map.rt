@@ -40,7 +40,7 @@ enum Call {
     Clear,
     // Sets each value to 2 by a walk that keeps each pair.
     WriteTwos,
-    // A walk that stops at this key ends there.
+    // A walk stops at this key.
     StopsAt(u64),
     // The bucket of the key has room, or has none.
     Room(u64, bool),

@@ -33,7 +33,7 @@ enum Act {
     Read(u64),
     Clear,
     Len,
-    // The pass learns the other's clock.
+    // The pass raises its clock to the other's, if that is greater.
     Told,
 }
 
@@ -272,7 +272,7 @@ fn act_by_both<L: Ledger, M: Site<Shared<Same>>, R: Wait>(
     }
 }
 
-// Plays the acts, and compares all notes with those wanted.
+// Plays the acts, and compares all notes with the wanted ones.
 fn expect_notes<R: AllocGlobal + Abort + Wait>(
     rt: &R,
     acts: &[(Who, Act)],

@@ -48,9 +48,9 @@ fn said<L: Ledger>(pass: &Pass<Names, L>) -> (u64, usize) {
     (pass.clock(), pass.receipts().len())
 }
 
-// Puts a key once, and returns whether its reply is right, or `None` if the put was refused. Key 0 has the text "x",
-// and every other key an empty text, which allocates nothing. A container refuses only the put of key 32; a refusal by
-// it of another put is wrong.
+// Puts a key once, and returns whether its reply is right, or `None` if its text or the put was refused. Key 0 has the
+// text "x", and every other key an empty text, which allocates nothing. The container may refuse only the put of key
+// 32: any other refusal by it is wrong.
 fn put<L: Ledger, M: Site<Shared<Zero>>, R: AllocGlobal + Print + Wait>(
     rt: &R,
     refusal: &mut Refusal,

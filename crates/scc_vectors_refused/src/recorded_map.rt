@@ -63,7 +63,8 @@ fn said<L: Ledger>(pass: &Pass<Names, L>) -> (u64, usize) {
     (pass.clock(), pass.receipts().len())
 }
 
-// Makes the call with this number once. Returns whether its reply is right, or `None` if the call was refused.
+// Makes the call with this number once. Returns whether its reply is right, or `None` if a text or the call was
+// refused.
 fn ask<L: Ledger, M: Site<Shared<Zero>>, R: AllocGlobal + Print + Wait>(
     rt: &R,
     refusal: &mut Refusal,

@@ -92,7 +92,7 @@ fn a_clone_of_an_index_is_whole(rt: HostRuntime) {
     expect_index(&rt, &mut Refusal::new(), &index);
 }
 
-// Removes key 2 from the map, which the clone keeps.
+// Removes key 2 from the map, and checks that the clone keeps it.
 fn expect_two_maps<R: Abort + Wait>(
     rt: &R,
     map: &HashMap<u64, u64, Zero>,
@@ -136,7 +136,7 @@ fn a_clone_of_a_shared_map_is_whole(rt: HostRuntime) {
     expect(&rt, false);
 }
 
-// Removes key 2 from the set, which the clone keeps.
+// Removes key 2 from the set, and checks that the clone keeps it.
 fn expect_two_sets<R: Abort + Wait>(rt: &R, set: &HashSet<u64, Zero>, copy: &HashSet<u64, Zero>) {
     expect(rt, set.remove_sync(rt, &2).is_some());
     expect(rt, copy.contains_sync(rt, &2));
@@ -176,7 +176,7 @@ fn a_clone_of_a_shared_set_is_whole(rt: HostRuntime) {
     expect(&rt, false);
 }
 
-// Removes key 2 from the index, which the clone keeps.
+// Removes key 2 from the index, and checks that the clone keeps it.
 fn expect_two_indexs<R: Abort + Wait>(
     rt: &R,
     index: &HashIndex<u64, u64, Zero>,

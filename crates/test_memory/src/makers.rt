@@ -90,7 +90,7 @@ pub(crate) fn of_items<J: Job, R: AllocGlobal + Abort + Print + Wait>(
     }
 }
 
-// Returns the items of which containers are made: so many keys that an array grows, each with its complement as value.
+// Returns the items that containers are made of: enough keys to make an array grow, each with its complement as value.
 pub(crate) fn items() -> [(u64, u64); 34] {
     let mut items = [(0u64, 0u64); 34];
     let mut key = 0u64;

@@ -1,5 +1,6 @@
 // Versions of a shared index that are refused memory. `peek` adds an owner to a stored version, which asks for no
-// memory. It is refused only if a version has as many owners as can be counted, more than any test can make.
+// memory. `peek` is refused only if a version has the greatest countable number of owners, more than any test can
+// make.
 use crate::expect::{expect, expect_eq};
 use crate::versions::expect_versions;
 use scc::hash_index::{Entry, HashIndex, Iter};

@@ -61,8 +61,8 @@ fn is_x(word: &Word) -> bool {
     }
 }
 
-// Puts a key once, and returns whether its reply is right, or `None` if the put was refused. The container refuses
-// only the put of key 32.
+// Puts a key once, and returns whether its reply is right, or `None` if its text or the put was refused. The container
+// may refuse only the put of key 32: any other refusal by it is wrong.
 fn put<L: Ledger, M: Site<Shared<Zero>>, R: AllocGlobal + Print + Wait>(
     rt: &R,
     refusal: &mut Refusal,

@@ -141,7 +141,7 @@ fn expect_clearing<C: Tried, L: Ledger, M: Site<C::Hasher>, R: Abort + Print + W
     expect(rt, false);
 }
 
-// Makes all calls on two stripes, of which the second stays empty, and the finish. Returns false if the container was
+// Makes all calls on two stripes, and the finish. The second stripe stays empty. Returns false if the container was
 // refused.
 fn call_and_finish<C: Tried, L: Ledger, M: Site<C::Hasher>, R: AllocGlobal + Abort + Print + Wait>(
     rt: &R,

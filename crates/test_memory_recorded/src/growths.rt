@@ -82,7 +82,7 @@ fn expect_growth<L: Ledger, M: Site<Shared<Zero>>, R: Abort + Print>(
     }
 }
 
-// Inserts keys up to the one that grows the array while its bucket is full, and finishes. Returns false if the
+// Inserts keys up to the key that grows the array while its bucket is full, and finishes. Returns false if the
 // container was refused.
 fn grow_and_finish<L: Ledger, M: Site<Shared<Zero>>, R: AllocGlobal + Abort + Print + Wait>(
     rt: &R,

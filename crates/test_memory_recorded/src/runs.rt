@@ -232,7 +232,7 @@ fn fill(map: &mut Numbers) -> bool {
     true
 }
 
-// Runs those of two insertions and a count that weren't made, and returns whether all are made.
+// Runs the calls that weren't made, of two insertions and a count, and returns whether all three are made.
 fn insert_rest<R: Abort + Print>(
     rt: &R,
     refusal: &mut Refusal,

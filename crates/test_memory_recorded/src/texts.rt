@@ -71,7 +71,8 @@ fn is_answer(number: u64, reply: &Reply<String, String>) -> bool {
     }
 }
 
-// Makes the call with this number once. Returns whether its reply is right, or `None` if the call was refused.
+// Makes the call with this number once. Returns whether its reply is right, or `None` if a text or the call was
+// refused.
 fn ask<L: Ledger, M: Site<Shared<Zero>>, R: AllocGlobal + Print + Wait>(
     rt: &R,
     refusal: &mut Refusal,

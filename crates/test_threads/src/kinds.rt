@@ -42,9 +42,9 @@ pub enum Way {
     Take,
     /// A search whose condition no pair meets.
     Ask,
-    /// From entry to entry.
+    /// Steps from entry to entry.
     Next,
-    /// From entry to entry, each of which is removed.
+    /// Steps from entry to entry that remove each entry.
     Remove,
     /// A walk over a clone.
     Copy,

@@ -13,7 +13,7 @@ use std::time::{Duration, Instant};
 /// How many milliseconds a stripe is held once another thread is about to wait for it.
 const HELD: u64 = 200;
 
-/// The processor time in nanoseconds at which a thread is seen to get any.
+/// The processor time in nanoseconds that a working thread must get, which shows that the system tells it.
 const SEEN: u64 = 5_000_000;
 
 /// How often a thread asks for its processor time until it has had `SEEN`.

@@ -1,5 +1,5 @@
 // On one stripe a recorded container of each kind replies to each call as an owned container does in a run of equal
-// calls, has as many buckets after each change, and holds the same entries in the end.
+// calls, has equally many buckets after each change, and holds equal entries in the end.
 ghost use Rattle.std.specs.Prelude.{◌≡◌, Some};
 ghost use Rattle.scc_recorded.specs.Setups.{request_of};
 
@@ -147,7 +147,7 @@ fn answer_alike<C: Streamed>(one: &mut C, other: &mut C, call: &C::Call) -> bool
     }
 }
 
-// Returns whether two containers have as many buckets as each other, and reply to the looks alike.
+// Returns whether two containers have equally many buckets, and reply to the looks alike.
 fn are_alike<C: Streamed>(one: &mut C, other: &mut C) -> bool {
     let mut alike = one.buckets() == other.buckets();
     for number in 0..LOOKS {

@@ -28,7 +28,7 @@ const KEYS: u64 = 120;
 /// The factor by which a call's place is multiplied for its key.
 const SPREAD: u64 = 0x9e37_79b9_7f4a_7c15;
 
-/// The number of calls of the kind that has most, including those without a key.
+/// The number of calls of the kind that has most, including the calls without a key.
 const MOST: usize = 9;
 
 /// A kind of container, by the calls that it has.
