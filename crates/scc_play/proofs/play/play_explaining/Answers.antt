@@ -1,6 +1,6 @@
 use Rattle.std.specs.String.{string_bytes}
 use Rattle.scc_play.proofs.Ending.{ends_read}
-use Rattle.scc_play.proofs.play.play.Goals as goal
+use Rattle.scc_play.proofs.play.play_explaining.Goals as goal
 
 pub returns-in-Ok-clause-ends : goal.returns-in-Ok-clause-ends
 returns-in-Ok-clause-ends g c =
