@@ -1,4 +1,5 @@
-//! Scripts and how their runs end, the reasons of bad lines, streams that fail, runs of calls as values, and the texts of refusals.
+//! Scripts and how their runs end, the reasons of bad lines, streams that fail, runs of calls as values, and the texts
+//! of refusals.
 #![tactic(auto)]
 
 #[cfg(test)]
