@@ -3,7 +3,7 @@
 An edit is a file crates/CRATE/must-fail/NAME.edit if `rt ci`, and so the gate, tries it each time, and slips/CRATE/NAME.edit
 if the command `./test --slips` alone does. It has these lines; others say nothing:
     function: PATH    the function whose contract has to refuse the edit, by its whole path, as a check prints it
-    named: yes        if the edit is in the table "Named wrong bodies" of docs/CLAUSES.md
+    named: yes        if the edit is bold in docs/CLAUSES.md
     file: src/lib.rt  the file of the crate that the next pairs change
     old: TEXT         a text that stands in that file exactly once
     new: TEXT         the text in its place

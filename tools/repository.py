@@ -6,10 +6,12 @@ TOP = os.path.dirname(os.path.dirname(os.path.realpath(__file__)))
 RT = os.environ.get("rt") or shutil.which("rt") or "/opt/rattle/bin/rt"
 
 
-def listed():
-    """The line of each crate in crates.txt, by its name."""
+def listed(top=TOP):
+    """The line of each crate in the crates.txt of a repository, by its name; none if it has no such file."""
     lines = {}
-    with open(f"{TOP}/crates.txt", encoding="utf-8") as file:
+    if not os.path.isfile(f"{top}/crates.txt"):
+        return lines
+    with open(f"{top}/crates.txt", encoding="utf-8") as file:
         for line in file:
             head, colon, _ = line.partition(":")
             if colon and not line.startswith("#"):

@@ -1,5 +1,5 @@
-//! What the benchmark programs share: their arguments, the streams of keys and steps, the lines that they print, and how
-//! much memory they hold.
+//! The common parts of the benchmark programs: their arguments, the streams of keys and steps, the lines that they
+//! print, and the memory that they hold.
 #![tactic(auto)]
 
 pub mod arguments;

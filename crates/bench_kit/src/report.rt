@@ -2,7 +2,7 @@
 use std::io;
 use std::time::Duration;
 
-/// A duration in nanoseconds, as long as they fit.
+/// Returns a duration in nanoseconds, or the greatest number if they don't fit.
 pub fn nanos(spent: Duration) -> u64 {
     spent
         .as_secs()
@@ -10,7 +10,7 @@ pub fn nanos(spent: Duration) -> u64 {
         .saturating_add(u64::from(spent.subsec_nanos()))
 }
 
-/// A quotient in hundredths, rounded down.
+/// Returns a quotient in hundredths, rounded down.
 fn hundredths(total: u64, count: u64) -> u64 {
     total.saturating_mul(100) / count.max(1)
 }
@@ -21,7 +21,7 @@ pub fn line(rt: &impl Print, work: &str, peer: &str, total: u64, count: u64) -> 
     println!(rt; "{work} {peer} {}.{:02}", quotient / 100, quotient % 100)
 }
 
-/// Prints a quotient to two places, of a workload with that many threads.
+/// Prints a quotient to two places, of a workload with `threads` threads.
 pub fn crew_line(
     rt: &impl Print,
     work: &str,
@@ -38,12 +38,12 @@ pub fn crew_line(
     )
 }
 
-/// Prints a sum that all peers have to agree in.
+/// Prints a sum in which all peers must agree.
 pub fn check(rt: &impl Print, work: &str, peer: &str, sum: u64) -> io::Result<()> {
     println!(rt; "check {work} {peer} {sum}")
 }
 
-/// Prints a sum that all peers have to agree in, of a workload with that many threads.
+/// Prints a sum in which all peers must agree, of a workload with `threads` threads.
 pub fn crew_check(
     rt: &impl Print,
     work: &str,
@@ -54,16 +54,16 @@ pub fn crew_check(
     println!(rt; "check {work}_t{threads} {peer} {sum}")
 }
 
-/// What half, 99 %, 99.9 % and all take at most, in thousandths.
+/// The quantiles that are printed, in thousandths: half, 99 %, 99.9 % and all.
 const QUANTILES: [usize; 4] = [500, 990, 999, 1000];
 
-/// The time at that many thousandths of the sorted ones.
+/// Returns the time at `thousandths` of the sorted times.
 fn quantile(sorted: &[u64], thousandths: usize) -> u64 {
     let place = sorted.len().saturating_sub(1).saturating_mul(thousandths) / 1000;
     sorted.get(place).copied().unwrap_or(0)
 }
 
-/// Prints under these names what half, 99 %, 99.9 % and all of the sorted times are at most.
+/// Prints under `names` what half, 99 %, 99.9 % and all of the sorted times are at most.
 pub fn print_quantiles(
     rt: &impl Print,
     names: [&str; 4],

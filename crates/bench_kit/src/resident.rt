@@ -4,7 +4,7 @@ use std::{fs, io};
 
 const PAGE: u64 = 4096;
 
-/// The bytes of memory that the process holds now.
+/// Returns the bytes of memory that the process holds.
 pub fn resident(rt: &(impl Files + Alloc)) -> io::Result<u64> {
     let text = fs::read_to_string(rt, "/proc/self/statm")?;
     let pages = match text.as_str().split(' ').nth(1) {
@@ -14,7 +14,7 @@ pub fn resident(rt: &(impl Files + Alloc)) -> io::Result<u64> {
     Ok(pages.saturating_mul(PAGE))
 }
 
-/// The number that a row begins with, after spaces.
+/// Returns the number that `row` begins with, after spaces, or 0.
 fn leading_number(row: &str) -> u64 {
     match row.split_whitespace().next() {
         Some(word) => word.parse::<u64>().unwrap_or(0),
@@ -22,7 +22,7 @@ fn leading_number(row: &str) -> u64 {
     }
 }
 
-/// What follows that name in the row that begins with it.
+/// Returns the rest of the row that begins with `name`, or `None` if no row does.
 fn row_after<'a>(text: &'a str, name: &str) -> Option<&'a str> {
     for row in text.lines() {
         if let Some(rest) = row.strip_prefix(name) {
@@ -32,7 +32,7 @@ fn row_after<'a>(text: &'a str, name: &str) -> Option<&'a str> {
     None
 }
 
-/// The most bytes of memory that the process has held.
+/// Returns the greatest number of bytes that the process has held.
 pub fn most_resident(rt: &(impl Files + Alloc)) -> io::Result<u64> {
     let text = fs::read_to_string(rt, "/proc/self/status")?;
     let kibibytes = match row_after(text.as_str(), "VmHWM:") {

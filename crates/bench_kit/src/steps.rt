@@ -1,24 +1,24 @@
-//! The steps that threads make over one container: a key each, and a number that says what is done with it.
+//! The steps that threads make over one container: a key each, and a number that picks the call.
 use crate::streams::Streams;
 use std::alloc::{AllocError, Global};
 
-/// A key, and a number below 100 that picks what is done with it.
+/// A key, and a number below 100 that picks the call with it.
 #[derive(Clone, Copy, Drop)]
 pub struct Step {
     pub key: u64,
     pub percentile: u64,
 }
 
-/// Which keys the steps of a workload have.
+/// The keys that the steps of a workload have.
 #[derive(Clone, Copy, Drop)]
 pub enum Spread {
     /// Any inserted key; reads prevail.
     ReadMostly,
     /// Any inserted key; reads and writes alike.
     Half,
-    /// Twice as many keys as are inserted, of which each thread has its own.
+    /// Twice as many keys as are inserted. Each thread has keys of its own.
     Disjoint,
-    /// The first 1,024 keys seven times of eight, else one of twice as many as are inserted.
+    /// The first 1,024 keys in seven of eight steps, and else one of twice as many keys as are inserted.
     Hot,
 }
 
@@ -32,7 +32,7 @@ impl Spread {
         }
     }
 
-    /// The place of the key that was drawn for one of so many threads.
+    /// Returns the place of the key that was drawn for one of `threads` threads.
     fn place(self, drawn: u64, entries: u64, thread: u64, threads: u64) -> u64 {
         let entries = entries.max(1);
         let twice = entries.saturating_mul(2);
@@ -53,7 +53,7 @@ impl Spread {
     }
 }
 
-/// As many steps as there are entries, of one of so many threads.
+/// Returns the steps of one of `threads` threads, as many as there are entries.
 pub fn steps(
     alloc: Global,
     streams: &Streams,
@@ -74,7 +74,7 @@ pub fn steps(
     Ok(made)
 }
 
-/// The steps of each of so many threads.
+/// Returns the steps of each of `threads` threads.
 pub fn crew_steps(
     alloc: Global,
     streams: &Streams,

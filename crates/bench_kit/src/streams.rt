@@ -11,14 +11,14 @@ const RANKED: u64 = 7;
 
 const STEPS: u64 = 500;
 
-/// What all streams of one measurement share.
+/// The common part of all streams of one measurement.
 #[derive(Clone, Copy, Drop)]
 pub struct Streams {
     pub entries: u64,
     pub seed: u64,
 }
 
-/// Scatters a number over 64 bits; different numbers give different ones.
+/// Scatters a number over 64 bits. Different numbers give different results.
 fn mix(x: u64) -> u64 {
     let z = x.wrapping_add(0x9E37_79B9_7F4A_7C15);
     let z = (z ^ (z >> 30)).wrapping_mul(0xBF58_476D_1CE4_E5B9);
@@ -26,12 +26,13 @@ fn mix(x: u64) -> u64 {
     z ^ (z >> 31)
 }
 
-/// The value of a key.
+/// Returns the value of a key.
 pub fn value(key: u64) -> u64 {
     key ^ 0x5555_5555_5555_5555
 }
 
-/// A place of a list of so many places, less one a power of two, in an order that no prefetcher follows.
+/// Returns a place of a list whose length less one is `mask`, a power of two less one. The places come in an order
+/// that no prefetcher follows.
 fn scattered(place: u64, mask: u64, half: u32) -> u64
     requires { half < 64 }
 {
@@ -41,7 +42,7 @@ fn scattered(place: u64, mask: u64, half: u32) -> u64
 }
 
 impl Streams {
-    /// The key at that place of a stream.
+    /// Returns the key at `place` of `stream`.
     pub fn key(&self, stream: u64, place: u64) -> u64 {
         let base = self.seed.wrapping_mul(1 << 50);
         mix(
@@ -50,12 +51,12 @@ impl Streams {
         )
     }
 
-    /// The key that is inserted at that place.
+    /// Returns the key that is inserted at `place`.
     pub fn inserted_key(&self, place: u64) -> u64 {
         self.key(INSERTED, place)
     }
 
-    /// The keys in the order of their insertion.
+    /// Returns the keys in the order of their insertion.
     pub fn inserted(&self, alloc: Global) -> Result<Vec<u64>, AllocError> {
         let mut keys = Vec::new(alloc);
         for place in 0..self.entries {
@@ -64,7 +65,7 @@ impl Streams {
         Ok(keys)
     }
 
-    /// As many keys that are never inserted.
+    /// Returns as many keys as there are entries, none of which is ever inserted.
     pub fn missing(&self, alloc: Global) -> Result<Vec<u64>, AllocError> {
         let mut keys = Vec::new(alloc);
         for place in 0..self.entries {
@@ -73,13 +74,13 @@ impl Streams {
         Ok(keys)
     }
 
-    /// As many keys from that step on, by a law of Zipf: of 21 levels each is equally likely, and a level has twice as
-    /// many keys as the one before it.
+    /// Returns as many keys as there are entries, from step `from` on, by a law of Zipf: each of 21 levels is equally
+    /// likely, and a level has twice as many keys as the level before it.
     pub fn ranked(&self, alloc: Global, from: u64) -> Result<Vec<u64>, AllocError> {
         self.ranked_of(alloc, 0, from)
     }
 
-    /// The same of one of several threads.
+    /// Returns the ranked keys, as `ranked` does, of one of several threads.
     pub fn ranked_of(&self, alloc: Global, thread: u64, from: u64) -> Result<Vec<u64>, AllocError> {
         let stream = STEPS.wrapping_add(thread);
         let mut keys = Vec::new(alloc);
@@ -92,7 +93,7 @@ impl Streams {
         Ok(keys)
     }
 
-    /// The inserted keys in a scattered order, each once.
+    /// Returns the inserted keys in a scattered order, each once.
     pub fn accessed(&self, alloc: Global) -> Result<Vec<u64>, AllocError> {
         let (mask, half) = self.scattering();
         let mut keys = Vec::new(alloc);
@@ -105,7 +106,7 @@ impl Streams {
         Ok(keys)
     }
 
-    /// The last place of a list as long as the next power of two, and half its bits.
+    /// Returns the last place of a list as long as the next power of two, and half its number of bits.
     fn scattering(&self) -> (u64, u32)
         ensures { result.1 < 64 }
     {

@@ -1,5 +1,5 @@
-//! The workloads of a cache of 65,536 pairs at most: steps that get a key or else put it, gets of keys that are there,
-//! and puts that evict.
+//! The workloads of a cache of at most 65,536 pairs: steps that get a key or else put it, gets of present keys, and
+//! puts that evict.
 use bench_kit::arguments::out_of_memory;
 use bench_kit::report::{check, line, nanos};
 use bench_kit::streams::{Streams, value};
@@ -9,18 +9,18 @@ use std::io;
 use std::rt::Clock;
 use std::time::Instant;
 
-/// The most pairs of a cache.
+/// The greatest number of pairs of a cache.
 const MOST: usize = 65_536;
 
-/// How many keys the gets go through, few enough that none is evicted.
+/// The number of keys of the gets, few enough that none is evicted.
 const KEPT: u64 = 16_384;
 
-/// How many keys fill each bucket of a cache, with a wide margin.
+/// The number of keys that fill each bucket of a cache, with a wide margin.
 const FILLING: u64 = 131_072;
 
 type Cache = Owned<u64, u64>;
 
-/// What a workload took in nanoseconds, its sum, and how often the key was there or a pair was evicted.
+/// The nanoseconds that a workload took, its sum, and the number of present keys or evicted pairs.
 #[derive(Clone, Copy, Drop)]
 struct Outcome {
     spent: u64,
@@ -35,7 +35,7 @@ fn empty(alloc: Global) -> io::Result<Cache> {
     }
 }
 
-/// Puts the key with its value, and says whether a pair was evicted.
+/// Puts the key with its value, and returns whether a pair was evicted.
 #[inline(always)]
 fn put(cache: &mut Cache, key: u64) -> io::Result<bool> {
     match cache.put_sync(key, value(key)) {
@@ -44,7 +44,7 @@ fn put(cache: &mut Cache, key: u64) -> io::Result<bool> {
     }
 }
 
-/// The value of the key where it is there; its pair becomes the most recent of its bucket.
+/// Returns the value of the key if it is present, and makes its pair the most recent of its bucket.
 #[inline(always)]
 fn get(cache: &mut Cache, key: u64) -> Option<u64> {
     match cache.get_sync(&key) {
@@ -53,10 +53,10 @@ fn get(cache: &mut Cache, key: u64) -> Option<u64> {
     }
 }
 
-/// The sum of the values, and how many keys were there or pairs were evicted.
+/// The sum of the values, and the number of present keys or evicted pairs.
 type Told = (u64, u64);
 
-/// Gets each key, or else puts it, and counts the keys that were there.
+/// Gets each key, or else puts it, and counts the keys that were present.
 fn get_or_put_all(cache: &mut Cache, keys: &[u64]) -> io::Result<Told> {
     let mut sum = 0u64;
     let mut count = 0u64;
@@ -75,7 +75,7 @@ fn get_or_put_all(cache: &mut Cache, keys: &[u64]) -> io::Result<Told> {
     Ok((sum, count))
 }
 
-/// Gets each key, and counts those that were there.
+/// Gets each key, and counts the keys that were present.
 fn get_all(cache: &mut Cache, keys: &[u64]) -> Told {
     let mut sum = 0u64;
     let mut count = 0u64;
@@ -120,7 +120,7 @@ impl Work {
     }
 }
 
-/// The keys of a workload, those that come before the clock starts and those that are measured.
+/// The keys of a workload: `first` before the clock starts, and `measured` after.
 #[derive(Drop)]
 struct Keys {
     first: Vec<u64>,
@@ -149,7 +149,7 @@ fn keys_of(alloc: Global, streams: &Streams, work: Work) -> Result<Keys, AllocEr
     Ok(Keys { first, measured })
 }
 
-/// Makes the calls of a workload that are measured.
+/// Makes the measured calls of a workload.
 fn go(cache: &mut Cache, keys: &[u64], work: Work) -> io::Result<Told> {
     match work {
         Work::Step => get_or_put_all(cache, keys),
@@ -166,7 +166,7 @@ fn warm(cache: &mut Cache, keys: &[u64], work: Work) -> io::Result<Told> {
     }
 }
 
-/// Goes through a workload in an empty cache.
+/// Goes through a workload in an empty cache, and measures it.
 fn timed(clock: &impl Clock, cache: &mut Cache, keys: &Keys, work: Work) -> io::Result<Outcome> {
     warm(cache, keys.first.as_slice(), work)?;
     let start = Instant::now(clock)?;
@@ -181,7 +181,7 @@ fn run_once(clock: &impl Clock, alloc: Global, keys: &Keys, work: Work) -> io::R
     timed(clock, &mut cache, keys, work)
 }
 
-/// Prints how many of a hundred keys were there, where that is told of a workload.
+/// Prints how many of a hundred keys were present, if the workload is one of steps.
 fn print_hits(
     rt: &impl Print,
     peer: &str,
@@ -201,7 +201,7 @@ fn print_hits(
     }
 }
 
-/// Goes through a workload once, and prints its lines unless it is to warm up. The answer is its sum.
+/// Goes through a workload once, prints its lines if `is_measured`, and returns its sum.
 fn run_and_print<R: Clock + Print>(
     rt: &R,
     alloc: Global,
@@ -219,7 +219,7 @@ fn run_and_print<R: Clock + Print>(
     Ok(outcome.sum)
 }
 
-/// Goes through a workload once to warm up and then `runs` times with the same keys.
+/// Goes through a workload once to warm up and then `runs` times, with the same keys.
 fn measure_with<R: Clock + Print>(
     rt: &R,
     alloc: Global,

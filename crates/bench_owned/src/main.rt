@@ -1,7 +1,7 @@
 //! Measures the owned map beside the standard library's map, the owned set and index beside the owned map, and the
-//! owned cache, in the lines that the table of peers reads.
+//! owned cache. Prints the lines that the table of peers reads.
 //!
-//! With no argument it prints its peers and their groups; `NAME GROUP RUNS ENTRIES SEED` measures one group.
+//! Without arguments it prints its peers and their groups. `NAME GROUP RUNS ENTRIES SEED` measures one group.
 #![tactic(auto)]
 
 mod cache;

@@ -1,4 +1,4 @@
-//! How many bytes a pair takes, by the pages that the process holds.
+//! The bytes that a pair takes, by the pages that the process holds.
 use crate::peer::Peer;
 use bench_kit::report::{check, line};
 use bench_kit::resident::{most_resident, resident};
@@ -12,7 +12,7 @@ fn insert_at<M: Peer>(map: &mut M, streams: &Streams, place: u64) -> io::Result<
     map.insert(key, value(key))
 }
 
-/// Inserts the keys from one place up to before another.
+/// Inserts the keys from place `first` up to, but without, `last`.
 fn insert_places<M: Peer>(map: &mut M, streams: &Streams, first: u64, last: u64) -> io::Result<()> {
     for place in first..last {
         insert_at(map, streams, place)?;
@@ -20,14 +20,14 @@ fn insert_places<M: Peer>(map: &mut M, streams: &Streams, first: u64, last: u64)
     Ok(())
 }
 
-/// The bytes that the process holds now and that it held at most, above so many.
+/// Returns the bytes that the process holds, and the most that it held, above `before`.
 fn held_above(rt: &(impl Files + Alloc), before: u64) -> io::Result<(u64, u64)> {
     let live = resident(rt)?.saturating_sub(before);
     let most = most_resident(rt)?.saturating_sub(before);
     Ok((live, most))
 }
 
-/// The bytes that the process holds once an empty map has its first key.
+/// Returns the bytes that the process holds once an empty map has its first key.
 fn held_by_one<M: Peer, R: Files + Alloc>(
     rt: &R,
     map: &mut M,
@@ -37,7 +37,7 @@ fn held_by_one<M: Peer, R: Files + Alloc>(
     resident(rt)
 }
 
-/// Fills an empty map, and answers the bytes that it holds then and that it held at most.
+/// Fills an empty map, and returns the bytes that it holds then and the most that it held.
 fn fill<M: Peer, R: Files + Alloc>(
     rt: &R,
     map: &mut M,
@@ -48,8 +48,8 @@ fn fill<M: Peer, R: Files + Alloc>(
     held_above(rt, before)
 }
 
-/// Fills an empty map, prints the bytes a pair that it holds then and that it held at most, and answers the sum of the
-/// values.
+/// Fills an empty map, prints the bytes per pair that it holds then and the most that it held, and returns the sum of
+/// the values.
 fn fill_and_print<M: Peer, R: Files + Print + Alloc>(
     rt: &R,
     map: &mut M,
@@ -62,7 +62,7 @@ fn fill_and_print<M: Peer, R: Files + Print + Alloc>(
     Ok(map.sum())
 }
 
-/// Fills a map, and prints the bytes a pair that it holds then and that it held at most.
+/// Fills a map, and prints the bytes per pair that it holds then and the most that it held.
 pub(crate) fn measure<M: Peer, R: Files + Print + Alloc>(
     rt: &R,
     alloc: Global,
@@ -74,8 +74,8 @@ pub(crate) fn measure<M: Peer, R: Files + Print + Alloc>(
     check(rt, "mem_live", peer, sum)
 }
 
-/// The hundredths of bytes a pair that the process holds above so many, where that is one of the sixteen sizes, and else
-/// nothing.
+/// Returns the hundredths of bytes per pair that the process holds above `before`, if `size` is one of the sixteen
+/// sizes, and else 0.
 fn held_at(rt: &(impl Files + Alloc), entries: u64, before: u64, size: u64) -> io::Result<u64> {
     let step = (entries / 16).max(1);
     if size > entries && size % step == 0 {
@@ -86,8 +86,8 @@ fn held_at(rt: &(impl Files + Alloc), entries: u64, before: u64, size: u64) -> i
     }
 }
 
-/// Fills a map to sixteen sizes, from just above the number of entries to twice as many, and answers the sum of the
-/// hundredths of bytes a pair.
+/// Fills a map to sixteen sizes, from just above the number of entries to twice the number, and returns the sum of the
+/// hundredths of bytes per pair.
 fn fill_curve<M: Peer, R: Files + Alloc>(
     rt: &R,
     map: &mut M,
@@ -103,7 +103,7 @@ fn fill_curve<M: Peer, R: Files + Alloc>(
     Ok(hundredths)
 }
 
-/// Prints the mean of the bytes a pair at sixteen sizes, from just above the number of entries to twice as many.
+/// Prints the mean of the bytes per pair at sixteen sizes, from just above the number of entries to twice the number.
 pub(crate) fn measure_curve<M: Peer, R: Files + Print + Alloc>(
     rt: &R,
     alloc: Global,

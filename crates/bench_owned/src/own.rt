@@ -1,4 +1,4 @@
-//! The workloads of one owner: insertions, look-ups, writes, a walk and removals.
+//! The workloads of an owned container: insertions, look-ups, writes, a walk and removals.
 use crate::peer::Peer;
 use bench_kit::report::{check, line, nanos};
 use bench_kit::streams::{Streams, value};
@@ -39,7 +39,7 @@ impl Work {
     }
 }
 
-/// What one workload took, in nanoseconds, and its sum.
+/// The nanoseconds that a workload took, and its sum.
 #[derive(Clone, Copy, Drop)]
 struct Outcome {
     work: Work,
@@ -57,7 +57,7 @@ const WORKS: [Work; 6] = [
     Work::Remove,
 ];
 
-/// What a workload took that was not gone through.
+/// The outcome of a workload that was not gone through.
 const NOTHING: Outcome = Outcome {
     work: Work::Insert,
     spent: 0,
@@ -115,8 +115,8 @@ fn remove_all<M: Peer>(map: &mut M, keys: &[u64]) -> u64 {
     count
 }
 
-/// Makes the calls of a workload, and answers what they come to, the sum of what was read or the number of what was
-/// written.
+/// Makes the calls of a workload, and returns its sum: the sum of the values read, or the number of the keys missed,
+/// written or removed. Insertions return 0.
 fn go<M: Peer>(map: &mut M, lists: &Lists, work: Work) -> io::Result<u64> {
     match work {
         Work::Insert => match insert_all(map, lists.inserted.as_slice()) {
@@ -131,7 +131,7 @@ fn go<M: Peer>(map: &mut M, lists: &Lists, work: Work) -> io::Result<u64> {
     }
 }
 
-/// Goes through a workload on the clock. Insertions and removals are told by the sum of what is there afterwards too.
+/// Goes through a workload on the clock. For insertions and removals the outcome also has the sum of the values left.
 fn timed<M: Peer>(
     clock: &impl Clock,
     map: &mut M,
@@ -185,7 +185,8 @@ fn print_lines(
     Ok(())
 }
 
-/// Prints the sums of a run. Beside another peer the walk's is left out, which comes after writes that a set can't keep.
+/// Prints the sums of a run. Beside another peer the sum of the walk is left out, since the walk comes after writes
+/// that a set can't keep.
 fn print_checks(
     rt: &impl Print,
     peer: &str,
@@ -201,7 +202,7 @@ fn print_checks(
     Ok(())
 }
 
-/// Goes through the workloads once, and prints a line for each unless it is to warm up.
+/// Goes through the workloads once, and prints a line for each if `is_measured`.
 fn run_and_print<M: Peer, R: Clock + Print>(
     rt: &R,
     alloc: Global,
@@ -217,7 +218,7 @@ fn run_and_print<M: Peer, R: Clock + Print>(
     Ok(outcomes)
 }
 
-/// Goes through the workloads on a container and on another beside it with the same keys.
+/// Goes through the workloads on a container and on another beside it, with the same keys.
 fn go_beside<M: Peer, N: Peer, R: Clock + Print>(
     rt: &R,
     alloc: Global,
@@ -250,7 +251,7 @@ pub(crate) fn measure_beside<M: Peer, N: Peer, R: Clock + Print>(
     go_beside::<M, N, R>(rt, alloc, peers, runs, streams, &lists)
 }
 
-/// Goes through the workloads with the same keys.
+/// Goes through the workloads once to warm up and then `runs` times, with the same keys.
 fn go_alone<M: Peer, R: Clock + Print>(
     rt: &R,
     alloc: Global,

@@ -1,4 +1,5 @@
-//! What the benchmark asks of a map, and the maps that it measures. A set and an index answer to the same.
+//! The calls that the benchmark makes on a map, and the maps that it measures. A set and an index have these calls
+//! too.
 use bench_kit::arguments::out_of_memory;
 use bench_kit::streams::value as value_of;
 use scc_map::Owned;
@@ -6,21 +7,21 @@ use std::alloc::Global;
 use std::collections::HashMap;
 use std::io;
 
-/// A map of numbers with one owner.
+/// An owned map of numbers.
 pub trait Peer: Drop {
-    /// An empty map that asks for no room.
+    /// Returns an empty map that asks for no room.
     fn make(alloc: Global) -> Self;
 
     fn insert(&mut self, key: u64, value: u64) -> io::Result<()>;
 
     fn get(&self, key: u64) -> Option<u64>;
 
-    /// Adds 1 to the value of a key, and says whether it was there.
+    /// Adds 1 to the value of a key, and returns whether the key was present.
     fn bump(&mut self, key: u64) -> bool;
 
     fn remove(&mut self, key: u64) -> bool;
 
-    /// The sum of all values.
+    /// Returns the sum of all values.
     fn sum(&self) -> u64;
 }
 
@@ -106,7 +107,7 @@ impl Peer for HashMap<u64, u64> {
     }
 }
 
-/// A set stands for a map in which each key has the value of the streams; a write swaps the key.
+/// A set stands for a map in which each key has the value of the streams. A write replaces the key.
 impl Peer for scc_set::Owned<u64> {
     fn make(alloc: Global) -> Self {
         scc_set::Owned::new(alloc)

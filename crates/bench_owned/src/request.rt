@@ -1,4 +1,4 @@
-//! What the arguments ask for.
+//! The arguments that ask for a measurement.
 use bench_kit::arguments::{bad_argument, parse_streams};
 use bench_kit::streams::Streams;
 use std::io;
@@ -22,7 +22,7 @@ pub enum Group {
     Cache,
 }
 
-/// A group of workloads on one peer, so many times.
+/// A group of workloads on one peer, to be run `runs` times.
 #[derive(Clone, Copy, Drop)]
 pub struct Request {
     pub peer: PeerName,

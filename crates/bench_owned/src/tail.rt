@@ -1,4 +1,4 @@
-//! How long single insertions take, growth with them.
+//! The time that single insertions take, including growths.
 use crate::peer::Peer;
 use bench_kit::arguments::out_of_memory;
 use bench_kit::report::{check, nanos, print_quantiles};
@@ -8,7 +8,7 @@ use std::io;
 use std::rt::Clock;
 use std::time::Instant;
 
-/// Inserts a key, and answers what that took in nanoseconds.
+/// Inserts a key, and returns the nanoseconds that the insertion took.
 #[inline(always)]
 fn insert_one<M: Peer>(clock: &impl Clock, map: &mut M, key: u64) -> io::Result<u64> {
     let start = Instant::now(clock)?;
@@ -16,7 +16,7 @@ fn insert_one<M: Peer>(clock: &impl Clock, map: &mut M, key: u64) -> io::Result<
     Ok(nanos(start.elapsed(clock)?))
 }
 
-/// Inserts the keys, and answers what each insertion took in nanoseconds.
+/// Inserts the keys, and returns the nanoseconds that each insertion took.
 fn insert_timed<M: Peer>(
     clock: &impl Clock,
     alloc: Global,
@@ -36,14 +36,14 @@ fn insert_timed<M: Peer>(
 /// The names of the lines.
 const NAMES: [&str; 4] = ["tail_p50", "tail_p99", "tail_p999", "tail_max"];
 
-/// What each insertion of a run took, in rising order, and the sum of the values.
+/// The times of the insertions of a run, in rising order, and the sum of the values.
 #[derive(Drop)]
 struct Outcome {
     times: Vec<u64>,
     sum: u64,
 }
 
-/// Fills an empty map.
+/// Fills an empty map, and returns the times and the sum of its values.
 fn run_once<M: Peer, C: Clock>(clock: &C, alloc: Global, keys: &[u64]) -> io::Result<Outcome> {
     let mut map: M = Peer::make(alloc);
     let mut times = insert_timed(clock, alloc, &mut map, keys)?;
@@ -52,8 +52,8 @@ fn run_once<M: Peer, C: Clock>(clock: &C, alloc: Global, keys: &[u64]) -> io::Re
     Ok(Outcome { times, sum })
 }
 
-/// Fills an empty map, prints what half, 99 %, 99.9 % and all of the insertions take at most unless it is to warm up, and
-/// answers the sum of the values.
+/// Fills an empty map, prints what half, 99 %, 99.9 % and all of the insertions take at most if `is_measured`, and
+/// returns the sum of the values.
 fn run_and_print<M: Peer, R: Clock + Print>(
     rt: &R,
     alloc: Global,

@@ -1,8 +1,7 @@
-//! Measures recorded calls beside plain ones under the same kind of lock, and how long it takes to finish what was
-//! recorded.
+//! Measures recorded calls beside plain ones under the same kind of lock, and the time to finish what was recorded.
 //!
-//! The arguments are `CALLS KEYS RUNS`; where one is left out, the usual number stands for it. The status is 1 where
-//! the contents differ at the end, where an argument is no number, and where memory is refused.
+//! The arguments are `CALLS KEYS RUNS`. The usual number stands for an argument that is left out. The status is 1 if the
+//! contents differ at the end, if an argument is no number, or if memory is refused.
 #![tactic(auto)]
 
 mod pairs;
@@ -20,7 +19,7 @@ use runs::measure;
 use std::alloc::AllocError;
 use std::{env, io};
 
-/// The arguments, without the program's name.
+/// Returns the arguments, without the program's name.
 fn words(rt: &HostRuntime) -> io::Result<Vec<String>> {
     let mut words = Vec::new(rt.alloc());
     for word in env::args(rt)?.skip(1) {

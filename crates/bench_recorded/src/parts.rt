@@ -1,4 +1,4 @@
-//! The maps that are measured, and what a measurement of them is.
+//! The maps that are measured, and the outcome of a measurement.
 ghost use Rattle.std.specs.Prelude.{◌≤◌};
 
 use scc_calls::{Calls, MapCall};
@@ -15,22 +15,22 @@ pub type Fold = Shared<BuildHasherDefault<FoldHasher>>;
 
 pub type Map = Owned<u64, u64, Fold>;
 
-/// How many parts a map is divided into.
+/// The number of parts of a map.
 pub const PARTS: usize = 16;
 
-/// What the calls took in nanoseconds, and the sum of the values that were there then.
+/// The nanoseconds that the calls took, and the sum of the values that were there at the end.
 #[derive(Clone, Copy, Drop)]
 pub struct Outcome {
     pub spent: u64,
     pub sum: u64,
 }
 
-/// The error where memory is refused.
+/// Returns the error if memory is refused.
 pub(crate) fn out_of_memory() -> io::Error {
     io::Error::from(io::ErrorKind::OutOfMemory)
 }
 
-/// A duration in nanoseconds, as long as they fit.
+/// Returns a duration in nanoseconds, or the greatest number if they don't fit.
 pub(crate) fn nanos(spent: Duration) -> u64 {
     spent
         .as_secs()
@@ -38,12 +38,12 @@ pub(crate) fn nanos(spent: Duration) -> u64 {
         .saturating_add(u64::from(spent.subsec_nanos()))
 }
 
-/// One owner of a hasher.
+/// Returns one owner of a hasher.
 pub(crate) fn fold_hasher(alloc: Global) -> Result<Fold, AllocError> {
     Ok(Shared::new(Arc::new(alloc, BuildHasherDefault::new())?))
 }
 
-/// An empty map behind a lock, which skips so many bits of each hash.
+/// Returns an empty map behind a lock, which skips `skipped` bits of each hash.
 pub(crate) fn locked_map(alloc: Global, skipped: u32, hasher: Fold) -> io::Result<Mutex<Map>>
     requires { skipped ≤ 4 }
 {
@@ -53,13 +53,13 @@ pub(crate) fn locked_map(alloc: Global, skipped: u32, hasher: Fold) -> io::Resul
     }
 }
 
-/// Makes one call under the lock, and says whether it was made.
+/// Makes one call under the lock, and returns whether it was made.
 #[inline(always)]
 pub(crate) fn upsert<R: Wait>(rt: &R, map: &Mutex<Map>, key: u64, value: u64) -> bool {
     map.lock(rt).call(MapCall::Upsert(key, value)).is_ok()
 }
 
-/// The sum of all values of a map.
+/// Returns the sum of all values of a map.
 pub(crate) fn sum_of(map: &Map) -> u64 {
     let mut sum = 0u64;
     map.iter_sync(|_, value| {
@@ -69,7 +69,7 @@ pub(crate) fn sum_of(map: &Map) -> u64 {
     sum
 }
 
-/// The sum of all values of several maps.
+/// Returns the sum of all values of several maps.
 pub(crate) fn sum_of_all(maps: &[Map]) -> u64 {
     let mut sum = 0u64;
     for map in maps {

@@ -1,4 +1,4 @@
-//! Recorded calls, and the end of what they recorded.
+//! Recorded calls, and the finish of their run.
 ghost use Rattle.std.specs.Prelude.{◌≡◌, ◌<◌, ◌++◌, IfOk, IsTrue, OnOk, Some, map, vec_len};
 ghost use Rattle.scc_recorded.specs.Setups.{request_of};
 
@@ -13,14 +13,14 @@ use std::sync::Wait;
 use std::sync::ledger::{Blank, Ledger};
 use std::time::Instant;
 
-/// What recorded calls took, and what it took to finish them, in nanoseconds.
+/// The outcome of recorded calls, and the nanoseconds that their finish took.
 #[derive(Clone, Copy, Drop)]
 pub struct Recording {
     pub calls: Outcome,
     pub finish: u64,
 }
 
-// Upserts the pairs, and says whether all calls were made. Then the pass has a receipt for each pair.
+// Upserts the pairs, and returns whether all calls were made. Then the pass has a receipt for each pair.
 fn record_all<L: Ledger, M: Site<Fold>, R: Wait>(
     rt: &R,
     recorded: &Recorded<Map, L, M>,
@@ -38,7 +38,7 @@ fn record_all<L: Ledger, M: Site<Fold>, R: Wait>(
     true
 }
 
-// What the calls take in nanoseconds, and when they ended.
+// Returns the nanoseconds that the calls take, and the time when they ended.
 fn time_calls<L: Ledger, M: Site<Fold>, R: Wait + Clock>(
     rt: &R,
     recorded: &Recorded<Map, L, M>,
@@ -56,7 +56,7 @@ fn time_calls<L: Ledger, M: Site<Fold>, R: Wait + Clock>(
     Ok((nanos(end.duration_since(start)), end))
 }
 
-// What was recorded, finished.
+// Finishes the run.
 fn finish_run<L: Ledger, M: Site<Fold>>(
     recorded: Recorded<Map, L, M>,
     passes: Vec<Pass<Map, L>>,
@@ -69,7 +69,7 @@ fn finish_run<L: Ledger, M: Site<Fold>>(
     }
 }
 
-// Finishes what was recorded: the nanoseconds since the calls ended, and the sum of all values.
+// Finishes the run, and returns the nanoseconds since the calls ended and the sum of all values.
 fn time_finish<L: Ledger, M: Site<Fold>, C: Clock>(
     clock: &C,
     ended: Instant,
@@ -81,7 +81,7 @@ fn time_finish<L: Ledger, M: Site<Fold>, C: Clock>(
     Ok((spent, sum_of_all(finished.parts.as_slice())))
 }
 
-// Upserts all pairs by the first pass, and finishes.
+// Upserts all pairs with the first pass, and finishes.
 fn record_and_finish<L: Ledger, M: Site<Fold>, R: Wait + Clock>(
     rt: &R,
     recorded: Recorded<Map, L, M>,
@@ -99,7 +99,7 @@ fn record_and_finish<L: Ledger, M: Site<Fold>, R: Wait + Clock>(
     })
 }
 
-// Upserts all pairs by one pass under two ledgers, and finishes.
+// Upserts all pairs with one pass under two ledgers, and finishes.
 fn run_in<L: Ledger, M: Site<Fold>, R: Wait + Clock>(
     rt: &R,
     alloc: Global,
@@ -123,7 +123,7 @@ fn run_in<L: Ledger, M: Site<Fold>, R: Wait + Clock>(
     }
 }
 
-/// Upserts all pairs by one pass in an empty recorded map, and finishes it.
+/// Upserts all pairs with one pass in an empty recorded map, and finishes the run.
 pub(crate) fn run<R: Wait + Clock>(
     rt: &R,
     alloc: Global,

@@ -3,14 +3,14 @@ ghost use Rattle.std.specs.Prelude.{◌≡◌, ◌*◌, ◌/◌, max, min};
 
 use std::io;
 
-// A quotient in hundredths, rounded down. It stays at the greatest dividend that fits.
+// Returns a quotient in hundredths, rounded down. The dividend times 100 stays at the greatest number that fits.
 fn hundredths(total: u64, count: u64) -> u64
     ensures { result ≡ min 18446744073709551615 (total * 100) / max count 1 }
 {
     total.saturating_mul(100) / count.max(1)
 }
 
-/// Prints what one of so many calls took, and the ratio to what the plain calls took together.
+/// Prints the time of one of `calls` calls, and the ratio of `spent` to the time of the plain calls.
 pub(crate) fn line(
     rt: &impl Print,
     name: &str,
@@ -29,7 +29,7 @@ pub(crate) fn line(
     )
 }
 
-/// Prints a sum that all have to agree in.
+/// Prints a sum in which all measures must agree.
 pub(crate) fn check(rt: &impl Print, name: &str, sum: u64) -> io::Result<()> {
     println!(rt; "check {name} {sum}")
 }

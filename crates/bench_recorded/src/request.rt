@@ -1,9 +1,9 @@
-//! What the arguments ask for.
+//! The arguments that ask for a measurement.
 ghost use Rattle.std.specs.Prelude.{◌≡◌, ◌<◌, ◌≤◌, [], length, IfOk};
 
 use std::io;
 
-/// So many calls of so many keys, measured so many times.
+/// A number of calls with a number of keys, measured a number of times.
 #[derive(Clone, Copy, Drop)]
 pub struct Request {
     pub calls: u64,
@@ -11,16 +11,16 @@ pub struct Request {
     pub runs: u64,
 }
 
-/// The calls where no number is asked for.
+/// The number of calls if none is asked for.
 const USUAL_CALLS: u64 = 1_000_000;
 
-/// The keys where no number is asked for.
+/// The number of keys if none is asked for.
 const USUAL_KEYS: u64 = 50_000;
 
-/// The runs where no number is asked for.
+/// The number of runs if none is asked for.
 const USUAL_RUNS: u64 = 3;
 
-// The number at that place, the usual one where there is none.
+// Returns the number at `place`, or `usual` if there is no argument at this place.
 fn parse_number(words: &[String], place: usize, usual: u64) -> io::Result<u64>
     ensures { length words.now ≤ place → result ≡ Ok usual }
 {
@@ -32,7 +32,7 @@ fn parse_number(words: &[String], place: usize, usual: u64) -> io::Result<u64>
     }
 }
 
-/// Reads the words `CALLS KEYS RUNS`, of which the last ones may be left out. There has to be a key.
+/// Reads the words `CALLS KEYS RUNS`, of which the last ones may be left out. Fails if the number of keys is 0.
 pub(crate) fn parse_request(words: &[String]) -> io::Result<Request>
     ensures keys { IfOk result (λ r. 0 < r.keys) }
     ensures usual { words.now ≡ [] → result ≡ Ok (record { calls = 1000000; keys = 50000; runs = 3 }) }

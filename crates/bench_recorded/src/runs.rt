@@ -32,7 +32,7 @@ fn run_once<R: Wait + Clock>(rt: &R, alloc: Global, pairs: &[(u64, u64)]) -> io:
     })
 }
 
-// Whether all hold the same at the end, by the sums.
+// Returns whether all maps hold the same at the end, by their sums.
 fn agree(run: &Run) -> bool
     ensures { IsTrue result ↔ ((run.now.routed.sum ≡ run.now.plain.sum)
         × (run.now.recorded.calls.sum ≡ run.now.plain.sum) × (run.now.recorded_texts.calls.sum ≡ run.now.texts.sum)) }
@@ -68,8 +68,8 @@ fn print_checks(rt: &impl Print, run: &Run) -> io::Result<()> {
     check(rt, "recorded-texts", run.recorded_texts.calls.sum)
 }
 
-/// Goes through all measures once to warm up and then as often as asked, and prints a line for each measure of each
-/// time. Fails where the sums of one time differ.
+/// Goes through all measures once to warm up and then `runs` times, and prints a line for each measure of each time.
+/// Fails if the sums of one time differ.
 pub(crate) fn measure<R: Wait + Clock + Print>(
     rt: &R,
     alloc: Global,

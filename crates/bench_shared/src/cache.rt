@@ -1,4 +1,4 @@
-//! Steps over a cache that get a key, and put it where it is missing.
+//! Steps over a shared cache that get a key, and put it if it is missing.
 use crate::crew::{Outcome, run};
 use crate::request::Request;
 use bench_kit::arguments::out_of_memory;
@@ -12,14 +12,14 @@ use std::rt::Clock;
 use std::sync::Wait;
 use std::thread::Threads;
 
-/// The most pairs of a cache.
+/// The greatest number of pairs of a cache.
 const MOST: usize = 65_536;
 
 const PEER: &str = "scc-shared-cache";
 
 type Cache = HashCache<u64, u64>;
 
-/// The value of the key where it is there; its pair becomes the most recent of its bucket.
+/// Returns the value of the key if it is present, and makes its pair the most recent of its bucket.
 #[inline(always)]
 fn get(rt: &impl Wait, cache: &Cache, key: u64) -> Option<u64> {
     match cache.get_sync(rt, &key) {
@@ -28,7 +28,7 @@ fn get(rt: &impl Wait, cache: &Cache, key: u64) -> Option<u64> {
     }
 }
 
-/// Gets each key, or else puts it; the sum of the values, or how many keys were there where they are counted.
+/// Gets each key, or else puts it. Returns the sum of the values, or, if `counted`, the number of present keys.
 fn get_or_put_all(rt: &impl Wait, cache: &Cache, keys: &[u64], counted: bool) -> Option<u64> {
     let mut sum = 0u64;
     let mut hits = 0u64;
@@ -52,7 +52,7 @@ fn get_or_put_all(rt: &impl Wait, cache: &Cache, keys: &[u64], counted: bool) ->
     if counted { Some(hits) } else { Some(sum) }
 }
 
-/// The keys of each of so many threads, from that step on.
+/// Returns the keys of each of `threads` threads, from step `from` on.
 pub(crate) fn crew_keys(
     alloc: Global,
     streams: &Streams,
@@ -106,7 +106,7 @@ struct Steps<'a> {
     next: &'a [Vec<u64>],
 }
 
-/// Prints how many of a hundred keys were there.
+/// Prints how many of a hundred keys were present.
 fn print_hits<R: Threads + Wait + Clock + Print + Sync>(
     rt: &R,
     alloc: Global,
@@ -125,7 +125,7 @@ fn print_hits<R: Threads + Wait + Clock + Print + Sync>(
     )
 }
 
-/// Runs the steps once, prints a line, and answers the sum.
+/// Goes through the steps once, prints a line, and returns the sum.
 fn run_and_print<R: Threads + Wait + Clock + Print + Sync>(
     rt: &R,
     alloc: Global,
@@ -138,7 +138,7 @@ fn run_and_print<R: Threads + Wait + Clock + Print + Sync>(
     Ok(outcome.sum)
 }
 
-/// Runs the steps once to count the keys that were there, and then `runs` times.
+/// Goes through the steps once to count the present keys, and then `runs` times.
 fn go_often<R: Threads + Wait + Clock + Print + Sync>(
     rt: &R,
     alloc: Global,
@@ -155,7 +155,7 @@ fn go_often<R: Threads + Wait + Clock + Print + Sync>(
     crew_check(rt, "cache", threads, PEER, last)
 }
 
-/// Measures the workload with so many threads.
+/// Measures the workload with `threads` threads.
 pub(crate) fn measure<R: Threads + Wait + Clock + Print + Sync>(
     rt: &R,
     alloc: Global,

@@ -1,4 +1,4 @@
-//! Threads that each make their part of a workload, and what that took.
+//! Threads that each make their part of a workload, and the time that the workload takes.
 ghost use Rattle.std.specs.Prelude.{ℕ, ◌<◌};
 
 use bench_kit::arguments::out_of_memory;
@@ -9,14 +9,14 @@ use std::rt::Clock;
 use std::thread::{Threads, map_indices};
 use std::time::Instant;
 
-/// What a workload took in nanoseconds, and the sum of what its threads answered.
+/// The nanoseconds that a workload took, and the sum of the results of its threads.
 #[derive(Clone, Copy, Drop)]
 pub struct Outcome {
     pub spent: u64,
     pub sum: u64,
 }
 
-/// The sum of the answers; an error where one of them is missing.
+/// Returns the sum of the results, or an error if one of them is missing.
 pub(crate) fn sum_of(answers: &[Option<u64>]) -> io::Result<u64> {
     let mut total = 0u64;
     for answer in answers {
@@ -28,8 +28,8 @@ pub(crate) fn sum_of(answers: &[Option<u64>]) -> io::Result<u64> {
     Ok(total)
 }
 
-/// Has each of so many threads do its part, and measures from before the first start to after the last end. A part that
-/// is refused memory answers None.
+/// Has each of `threads` threads do its part, and measures from before the first start to after the last end. A part
+/// returns `None` if it is refused memory.
 pub(crate) fn run<R: Threads + Clock + Sync, F: Fn(usize) -> Option<u64> + Sync>(
     rt: &R,
     alloc: Global,

@@ -15,7 +15,7 @@ type Index = HashIndex<u64, u64>;
 
 const PEER: &str = "scc-shared-index";
 
-/// Fills the index, and says whether there was memory.
+/// Fills the index, and returns whether there was memory.
 fn fill(rt: &impl Wait, index: &Index, streams: &Streams) -> bool {
     for place in 0..streams.entries {
         let key = streams.inserted_key(place);
@@ -33,7 +33,7 @@ fn filled(rt: &impl Wait, alloc: Global, streams: &Streams) -> io::Result<Index>
     }
 }
 
-/// The sum of the values of the keys.
+/// Returns the sum of the values of the keys.
 fn peek_all(rt: &impl Wait, index: &Index, keys: &[u64]) -> u64 {
     let mut sum = 0u64;
     for key in keys {
@@ -44,7 +44,7 @@ fn peek_all(rt: &impl Wait, index: &Index, keys: &[u64]) -> u64 {
     sum
 }
 
-/// Peeks at all keys, each thread from a place of its own on and round.
+/// Peeks at all keys. Each thread starts at a place of its own and goes round.
 fn run_once<R: Threads + Wait + Clock + Sync>(
     rt: &R,
     alloc: Global,
@@ -65,7 +65,7 @@ fn run_once<R: Threads + Wait + Clock + Sync>(
     )
 }
 
-/// Peeks at all keys once, prints a line unless it is to warm up, and answers the sum.
+/// Peeks at all keys once, prints a line if `is_measured`, and returns the sum.
 fn run_and_print<R: Threads + Wait + Clock + Print + Sync>(
     rt: &R,
     alloc: Global,
@@ -97,7 +97,7 @@ fn measure_one<R: Threads + Wait + Clock + Print + Sync>(
     crew_check(rt, "index_peek", threads, PEER, last)
 }
 
-/// One thread and four.
+/// Measures one thread and four.
 fn measure_both<R: Threads + Wait + Clock + Print + Sync>(
     rt: &R,
     alloc: Global,

@@ -13,7 +13,7 @@ use std::sync::Wait;
 use std::thread::{Threads, map_indices};
 use std::time::Instant;
 
-/// How many threads insert in the group of single insertions.
+/// The number of threads in the group of single insertions.
 const CREW: usize = 4;
 
 fn empty(alloc: Global) -> io::Result<Map> {
@@ -23,7 +23,7 @@ fn empty(alloc: Global) -> io::Result<Map> {
     }
 }
 
-/// The keys of one of so many threads: each has as many in a row.
+/// Returns the keys of one of `threads` threads. Each thread has equally many in a row.
 pub(crate) fn part_of<K>(keys: &[K], thread: usize, threads: usize) -> &[K] {
     let each = keys.len().checked_div(threads).unwrap_or(0);
     let from = thread.saturating_mul(each);
@@ -39,7 +39,7 @@ fn insert_all(rt: &impl Wait, map: &Map, keys: &[u64]) -> Option<u64> {
     Some(0)
 }
 
-/// Fills an empty map, and answers what that took with the sum of its values.
+/// Fills an empty map, and returns the time that it took with the sum of its values.
 fn run_once<R: Threads + Wait + Clock + Sync>(
     rt: &R,
     alloc: Global,
@@ -59,7 +59,7 @@ fn run_once<R: Threads + Wait + Clock + Sync>(
     })
 }
 
-/// Fills an empty map, prints a line unless it is to warm up, and answers the sum of its values.
+/// Fills an empty map, prints a line if `is_measured`, and returns the sum of its values.
 fn run_and_print<R: Threads + Wait + Clock + Print + Sync>(
     rt: &R,
     alloc: Global,
@@ -90,7 +90,7 @@ fn run_often<R: Threads + Wait + Clock + Print + Sync>(
     crew_check(rt, "shared_insert", threads, PEER, last)
 }
 
-/// Measures insertions by so many threads.
+/// Measures insertions by `threads` threads.
 pub(crate) fn measure<R: Threads + Wait + Clock + Print + Sync>(
     rt: &R,
     alloc: Global,
@@ -101,7 +101,8 @@ pub(crate) fn measure<R: Threads + Wait + Clock + Print + Sync>(
     run_often(rt, alloc, keys.as_slice(), threads, request.runs)
 }
 
-/// Inserts a key, and answers what that took in nanoseconds; None where memory was refused or the clock can't be read.
+/// Inserts a key, and returns the nanoseconds that the insertion took, or `None` if memory was refused or the clock
+/// can't be read.
 #[inline(always)]
 fn insert_one<R: Wait + Clock>(rt: &R, map: &Map, key: u64) -> Option<u64> {
     let start = Instant::now(rt).ok()?;
@@ -111,7 +112,7 @@ fn insert_one<R: Wait + Clock>(rt: &R, map: &Map, key: u64) -> Option<u64> {
     Some(nanos(start.elapsed(rt).ok()?))
 }
 
-/// What each insertion of a part took.
+/// Returns the time of each insertion of a part.
 fn insert_timed<R: Wait + Clock>(
     rt: &R,
     alloc: Global,
@@ -126,7 +127,7 @@ fn insert_timed<R: Wait + Clock>(
     Some(times)
 }
 
-/// Adds the times of a part to the list; an error where a part was refused memory.
+/// Adds the times of a part to `all`, or returns an error if a part was refused memory.
 fn add_times(all: &mut Vec<u64>, part: &Option<Vec<u64>>) -> io::Result<()> {
     match part {
         Some(times) => match all.extend_from_slice(times.as_slice()) {
@@ -137,7 +138,7 @@ fn add_times(all: &mut Vec<u64>, part: &Option<Vec<u64>>) -> io::Result<()> {
     }
 }
 
-/// The times of all parts, in rising order.
+/// Returns the times of all parts, in rising order.
 fn joined(alloc: Global, parts: &[Option<Vec<u64>>]) -> io::Result<Vec<u64>> {
     let mut all = Vec::new(alloc);
     for part in parts {
@@ -147,7 +148,7 @@ fn joined(alloc: Global, parts: &[Option<Vec<u64>>]) -> io::Result<Vec<u64>> {
     Ok(all)
 }
 
-/// Fills an empty map by four threads, and answers what each insertion took, in rising order.
+/// Fills an empty map by four threads, and returns the time of each insertion, in rising order.
 fn times_of<R: Threads + Wait + Clock + Sync>(
     rt: &R,
     alloc: Global,
@@ -166,8 +167,8 @@ fn times_of<R: Threads + Wait + Clock + Sync>(
 /// The names of the lines of single insertions.
 const NAMES: [&str; 4] = ["tail4_p50", "tail4_p99", "tail4_p999", "tail4_max"];
 
-/// Fills an empty map by four threads, and prints what half, 99 %, 99.9 % and all of the single insertions take at most,
-/// unless it is to warm up.
+/// Fills an empty map by four threads, and prints what half, 99 %, 99.9 % and all of the single insertions take at
+/// most, if `is_measured`.
 fn print_tail<R: Threads + Wait + Clock + Print + Sync>(
     rt: &R,
     alloc: Global,
@@ -182,7 +183,7 @@ fn print_tail<R: Threads + Wait + Clock + Print + Sync>(
     }
 }
 
-/// The same once to warm up and then `runs` times.
+/// Measures single insertions once to warm up and then `runs` times.
 pub(crate) fn measure_tail<R: Threads + Wait + Clock + Print + Sync>(
     rt: &R,
     alloc: Global,

@@ -1,6 +1,6 @@
-//! Measures the map, the index and the cache that threads share, in the lines that the table of peers reads.
+//! Measures the shared map, index and cache, and memos. Prints the lines that the table of peers reads.
 //!
-//! With no argument it prints its peers and their groups; `NAME GROUP RUNS ENTRIES SEED` measures one group.
+//! Without arguments it prints its peers and their groups. `NAME GROUP RUNS ENTRIES SEED` measures one group.
 #![tactic(auto)]
 
 mod cache;

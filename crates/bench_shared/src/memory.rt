@@ -1,4 +1,4 @@
-//! How many bytes a pair takes in a map that threads share, by the pages that the process holds.
+//! The bytes that a pair takes in a shared map, by the pages that the process holds.
 use crate::reads::{Map, PEER, sum_of_values};
 use crate::request::Request;
 use bench_kit::arguments::out_of_memory;
@@ -11,7 +11,7 @@ use std::io;
 use std::rt::Files;
 use std::sync::Wait;
 
-/// Inserts the keys from one place up to before another.
+/// Inserts the keys from place `first` up to, but without, `last`.
 fn insert_places(
     rt: &impl Wait,
     map: &Map,
@@ -28,27 +28,27 @@ fn insert_places(
     Ok(())
 }
 
-/// The bytes that the process holds now and that it held at most, above so many.
+/// Returns the bytes that the process holds, and the most that it held, above `before`.
 fn held_above(rt: &(impl Files + Alloc), before: u64) -> io::Result<(u64, u64)> {
     let live = resident(rt)?.saturating_sub(before);
     let most = most_resident(rt)?.saturating_sub(before);
     Ok((live, most))
 }
 
-/// The bytes that the process holds once an empty map has its first key.
+/// Returns the bytes that the process holds once an empty map has its first key.
 fn held_by_one<R: Files + Alloc + Wait>(rt: &R, map: &Map, streams: &Streams) -> io::Result<u64> {
     insert_places(rt, map, streams, 0, 1)?;
     resident(rt)
 }
 
-/// Fills an empty map, and answers the bytes that it holds then and that it held at most.
+/// Fills an empty map, and returns the bytes that it holds then and the most that it held.
 fn fill<R: Files + Alloc + Wait>(rt: &R, map: &Map, streams: &Streams) -> io::Result<(u64, u64)> {
     let before = held_by_one(rt, map, streams)?;
     insert_places(rt, map, streams, 1, streams.entries)?;
     held_above(rt, before)
 }
 
-/// Fills an empty map, and prints the bytes a pair that it holds then and that it held at most.
+/// Fills an empty map, and prints the bytes per pair that it holds then and the most that it held.
 fn fill_and_print<R: Files + Print + Alloc + Wait>(
     rt: &R,
     map: &Map,
@@ -60,7 +60,7 @@ fn fill_and_print<R: Files + Print + Alloc + Wait>(
     check(rt, "mem_live", PEER, sum_of_values(rt, map))
 }
 
-/// Measures what a new map holds.
+/// Measures the memory of a new map.
 pub(crate) fn measure<R: Files + Print + Alloc + Wait>(
     rt: &R,
     alloc: Global,

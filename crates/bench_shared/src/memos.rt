@@ -1,4 +1,4 @@
-//! Steps over memos: one that all threads share behind a lock, or one for each thread.
+//! Steps over memos: one memo that all threads share behind a lock, or one for each thread.
 ghost use Rattle.std.specs.Prelude.{◌*◌};
 ghost use Rattle.std.proofs.Common.{ap};
 ghost use Rattle.std.proofs.lemmas.Bool.{eqb-true};
@@ -16,7 +16,7 @@ use std::rt::Clock;
 use std::sync::{Mutex, Wait};
 use std::thread::Threads;
 
-/// The most values of a memo.
+/// The greatest number of values of a memo.
 const MOST: usize = 65_536;
 
 const PEER: &str = "scc-memo";
@@ -49,7 +49,7 @@ fn empty(alloc: Global) -> Option<Squares> {
     }
 }
 
-/// A number that is lost unless the value is looked at.
+/// Returns the value if it fits in 64 bits, and else 1. It keeps the value from being optimized away.
 fn folded(value: u128) -> u64 {
     match u64::try_from(value) {
         Ok(small) => small,
@@ -71,7 +71,7 @@ fn get_all(alloc: Global, keys: &[u64]) -> Option<u64> {
     }
 }
 
-/// Gets each key of a memo that other threads have too, and lets the lock go after each.
+/// Gets each key of a memo that other threads have too, and releases the lock after each.
 fn get_all_locked(rt: &impl Wait, memo: &Mutex<Squares>, keys: &[u64]) -> u64 {
     let mut sum = 0u64;
     for key in keys {
@@ -81,7 +81,7 @@ fn get_all_locked(rt: &impl Wait, memo: &Mutex<Squares>, keys: &[u64]) -> u64 {
     sum
 }
 
-/// A memo for each thread.
+/// Measures a memo for each thread.
 fn run_each<R: Threads + Clock + Sync>(
     rt: &R,
     alloc: Global,
@@ -99,7 +99,7 @@ fn run_each<R: Threads + Clock + Sync>(
     Ok(outcome.spent)
 }
 
-/// One memo behind a lock.
+/// Measures one memo behind a lock.
 fn run_locked<R: Threads + Wait + Clock + Sync>(
     rt: &R,
     alloc: Global,

@@ -1,4 +1,4 @@
-//! Insertions, removals and reads of keys of which half are there.
+//! Insertions, removals and reads of keys, half of which are present.
 use crate::reads::{Checked, Map, Work, measure_one, read};
 use crate::request::Request;
 use bench_kit::steps::{Spread, Step};
@@ -10,7 +10,7 @@ use std::rt::Clock;
 use std::sync::Wait;
 use std::thread::Threads;
 
-/// Inserts the key where it is missing, and says whether it did; None where memory was refused.
+/// Inserts the key if it is missing, and returns whether it did, or `None` if memory was refused.
 #[inline(always)]
 fn insert_missing(rt: &impl Wait, map: &Map, key: u64) -> Option<bool> {
     match map.insert_sync(rt, key, value(key)) {
@@ -20,8 +20,8 @@ fn insert_missing(rt: &impl Wait, map: &Map, key: u64) -> Option<bool> {
     }
 }
 
-/// Inserts at the steps of the first tenth, removes at those of the second, and reads at the others; how many were
-/// inserted and removed, and the sum of what was read.
+/// Inserts at the steps of the first tenth, removes at those of the second, and reads at the others. Returns the
+/// number of inserted and removed keys plus the sum of the values read, or `None` if memory was refused.
 pub(crate) fn mix(rt: &impl Wait, map: &Map, steps: &[Step]) -> Option<u64> {
     let mut sum = 0u64;
     for step in steps {
@@ -38,8 +38,8 @@ pub(crate) fn mix(rt: &impl Wait, map: &Map, steps: &[Step]) -> Option<u64> {
     Some(sum)
 }
 
-/// Keys of which each thread has its own, and then keys of which most steps have the same few: the answers of several
-/// threads then depend on the schedule, so only those of one are checked.
+/// Measures keys of which each thread has its own, and then keys of which most steps have the same few. With the
+/// latter the sums of several threads depend on the schedule, so only the sum of one thread is checked.
 pub(crate) fn measure<R: Threads + Wait + Clock + Print + Sync>(
     rt: &R,
     alloc: Global,

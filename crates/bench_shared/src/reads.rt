@@ -1,4 +1,4 @@
-//! Reads and writes of keys that are there.
+//! Reads and writes of present keys.
 use crate::crew::{Outcome, run};
 use crate::mixed::mix;
 use crate::request::Request;
@@ -19,7 +19,7 @@ pub type Map = HashMap<u64, u64>;
 /// The name of the map among the peers.
 pub const PEER: &str = "scc-shared";
 
-/// Fills a map, and says whether there was memory.
+/// Fills a map, and returns whether there was memory.
 fn fill(rt: &impl Wait, map: &Map, streams: &Streams) -> bool {
     for place in 0..streams.entries {
         let key = streams.inserted_key(place);
@@ -30,7 +30,7 @@ fn fill(rt: &impl Wait, map: &Map, streams: &Streams) -> bool {
     true
 }
 
-/// A map of all inserted keys.
+/// Returns a map of all inserted keys.
 fn filled(rt: &impl Wait, alloc: Global, streams: &Streams) -> io::Result<Map> {
     match HashMap::new(alloc) {
         Ok(map) if fill(rt, &map, streams) => Ok(map),
@@ -38,7 +38,7 @@ fn filled(rt: &impl Wait, alloc: Global, streams: &Streams) -> io::Result<Map> {
     }
 }
 
-/// The sum of all values.
+/// Returns the sum of all values.
 pub(crate) fn sum_of_values(rt: &impl Wait, map: &Map) -> u64 {
     let mut total = 0u64;
     map.iter_sync(rt, |_, value| {
@@ -48,13 +48,14 @@ pub(crate) fn sum_of_values(rt: &impl Wait, map: &Map) -> u64 {
     total
 }
 
-/// The value of a key, 0 where it isn't there.
+/// Returns the value of a key, or 0 if the key is missing.
 #[inline(always)]
 pub(crate) fn read(rt: &impl Wait, map: &Map, key: u64) -> u64 {
     map.read_sync(rt, &key, |_, value| *value).unwrap_or(0)
 }
 
-/// Reads at the steps below that percentile, and writes at the others; the sum of what was read.
+/// Reads at the steps below `percent`, and writes at the others. Returns the sum of the values read, or `None` if
+/// memory was refused.
 fn read_or_write(rt: &impl Wait, map: &Map, steps: &[Step], percent: u64) -> Option<u64> {
     let mut sum = 0u64;
     for step in steps {
@@ -67,17 +68,17 @@ fn read_or_write(rt: &impl Wait, map: &Map, steps: &[Step], percent: u64) -> Opt
     Some(sum)
 }
 
-/// What is done at the steps of a workload, which keys they have, and which run's sum is printed.
+/// The calls of a workload's steps, the keys that they have, and the run whose sum is printed.
 #[derive(Clone, Copy, Drop)]
 pub struct Work {
     pub name: &'static str,
     pub spread: Spread,
-    /// Below that percentile keys are read, else written; None where they are inserted and removed too.
+    /// The percentile below which keys are read, and else written. `None` if they are inserted and removed too.
     pub percent: Option<u64>,
     pub checked: Checked,
 }
 
-/// Which run's sum is printed: the last one's, that of the run that warms up, or none's.
+/// Which run's sum is printed: the last run's, the warming run's, or none.
 #[derive(Clone, Copy, Drop)]
 pub enum Checked {
     Last,
@@ -105,8 +106,7 @@ fn run_once<R: Threads + Wait + Clock + Sync>(
     )
 }
 
-/// Goes through the steps once, and prints the line of a run unless it is to warm up, and the sum where it is this run's
-/// that is told.
+/// Goes through the steps once, prints the line of the run if `is_measured`, and returns the sum.
 fn run_and_print<R: Threads + Wait + Clock + Print + Sync>(
     rt: &R,
     alloc: Global,
@@ -128,7 +128,7 @@ fn run_and_print<R: Threads + Wait + Clock + Print + Sync>(
     Ok(outcome.sum)
 }
 
-/// Prints the sum of a run with that of the map's values.
+/// Prints the sum of a run plus the sum of the map's values.
 fn print_sum<R: Wait + Print>(
     rt: &R,
     map: &Map,
@@ -164,7 +164,7 @@ fn run_often<R: Threads + Wait + Clock + Print + Sync>(
     Ok(())
 }
 
-/// Runs a workload with so many threads.
+/// Runs a workload with `threads` threads.
 pub(crate) fn measure_one<R: Threads + Wait + Clock + Print + Sync>(
     rt: &R,
     alloc: Global,
@@ -193,7 +193,7 @@ const HALF_READS: Work = Work {
     checked: Checked::Last,
 };
 
-/// Nineteen reads to a write, and then as many writes as reads.
+/// Measures nineteen reads to a write, and then as many writes as reads.
 pub(crate) fn measure<R: Threads + Wait + Clock + Print + Sync>(
     rt: &R,
     alloc: Global,

@@ -20,7 +20,7 @@ const PEER: &str = "scc-shared";
 /// A key as a text, with its value.
 type Line = (String, u64);
 
-/// The keys as texts: their decimal digits, with zeros before them where there are fewer than 20.
+/// Returns the keys as texts: their decimal digits, with zeros before them if there are fewer than 20.
 fn lines_of(alloc: Global, keys: &[u64]) -> Result<Vec<Line>, AllocError> {
     let mut lines = Vec::new(alloc);
     for key in keys {
@@ -37,7 +37,7 @@ fn empty(alloc: Global, hasher: RandomState) -> io::Result<Texts> {
     }
 }
 
-/// Inserts a clone of each text. It answers 0, and None where memory was refused.
+/// Inserts a clone of each text. Returns 0, or `None` if memory was refused.
 fn insert_all(rt: &impl Wait, map: &Texts, lines: &[Line]) -> Option<u64> {
     for (text, value) in lines {
         let key = text.clone().ok()?;
@@ -48,7 +48,7 @@ fn insert_all(rt: &impl Wait, map: &Texts, lines: &[Line]) -> Option<u64> {
     Some(0)
 }
 
-/// The sum of the values of the texts, 0 for each that isn't there.
+/// Returns the sum of the values of the texts. A missing text counts 0.
 fn read_all(rt: &impl Wait, map: &Texts, lines: &[Line]) -> u64 {
     let mut sum = 0u64;
     for (text, _) in lines {
@@ -58,7 +58,7 @@ fn read_all(rt: &impl Wait, map: &Texts, lines: &[Line]) -> u64 {
     sum
 }
 
-/// The sum of all values.
+/// Returns the sum of all values.
 fn sum_of_values(rt: &impl Wait, map: &Texts) -> u64 {
     let mut total = 0u64;
     map.iter_sync(rt, |_, value| {
@@ -68,7 +68,7 @@ fn sum_of_values(rt: &impl Wait, map: &Texts) -> u64 {
     total
 }
 
-/// Fills an empty map, and answers what that took with the sum of its values.
+/// Fills an empty map, and returns the time that it took with the sum of its values.
 fn insert_once<R: Threads + Wait + Clock + Sync>(
     rt: &R,
     alloc: Global,
@@ -89,7 +89,7 @@ fn insert_once<R: Threads + Wait + Clock + Sync>(
     })
 }
 
-/// Reads each text once, and answers what that took with the sum of what was read.
+/// Reads each text once, and returns the time that it took with the sum of the values read.
 fn read_once<R: Threads + Wait + Clock + Sync>(
     rt: &R,
     alloc: Global,
@@ -105,7 +105,7 @@ fn read_once<R: Threads + Wait + Clock + Sync>(
     )
 }
 
-/// Prints the line of a run unless it is to warm up, and its sum where it is the last.
+/// Prints the line of a run unless it is to warm up, and its sum if it is the last run.
 fn print_run<R: Print>(
     rt: &R,
     work: &str,
@@ -124,14 +124,14 @@ fn print_run<R: Print>(
     Ok(())
 }
 
-/// Which run it is of a workload's. That of number 0 is to warm up.
+/// The number of a run of a workload, and the number of its last run. Run 0 is to warm up.
 #[derive(Clone, Copy, Drop)]
 struct Place {
     number: u64,
     last: u64,
 }
 
-/// Measures insertions into empty maps by so many threads.
+/// Measures insertions into empty maps by `threads` threads.
 fn measure_insertions<R: Threads + Wait + Clock + Print + Sync>(
     rt: &R,
     alloc: Global,
@@ -148,7 +148,7 @@ fn measure_insertions<R: Threads + Wait + Clock + Print + Sync>(
     Ok(())
 }
 
-/// Measures reads by so many threads.
+/// Measures reads by `threads` threads.
 fn measure_reads<R: Threads + Wait + Clock + Print + Sync>(
     rt: &R,
     alloc: Global,

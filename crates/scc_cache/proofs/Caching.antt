@@ -98,11 +98,11 @@ module _ {E S : Type 0} where
   puts-count c d i e (Some x) h = (list-count c d i _ h.1.2, h.1.2.settings)
 
   pub grown-within : (hash : E → ℕ) (c d : Contents E S) (m i : ℕ) → GrowsBelow hash m i c d → IsPowerOfTwo m → 64 ≤ m → 32 * bucket_count c ≤ m → minimum_of c ≤ m → 32 * bucket_count d ≤ m
-  grown-within hash c d m i (makes none size r) w least_slots within least_slots = size.fewest m w least_slots (omega arith)
-  grown-within hash c d m i (has_room some room e) w least_slots within least_slots = subst (λ z. 32 * bucket_count z ≤ m) (sym e) within
-  grown-within hash c d m i (is_full some full (stays due e)) w least_slots within least_slots = subst (λ z. 32 * bucket_count z ≤ m) (sym e) within
-  grown-within hash c d m i (is_full some full (denied due up k)) w least_slots within least_slots = let e = keeps-count c d k in omega arith
-  grown-within hash c d m i (is_full some full (doubles due untried down twice r)) w least_slots within least_slots =
+  grown-within hash c d m i (makes none size r) w least within least_slots = size.fewest m w least (omega arith)
+  grown-within hash c d m i (has_room some room e) w least within least_slots = subst (λ z. 32 * bucket_count z ≤ m) (sym e) within
+  grown-within hash c d m i (is_full some full (stays due e)) w least within least_slots = subst (λ z. 32 * bucket_count z ≤ m) (sym e) within
+  grown-within hash c d m i (is_full some full (denied due up k)) w least within least_slots = let e = keeps-count c d k in omega arith
+  grown-within hash c d m i (is_full some full (doubles due untried down twice r)) w least within least_slots =
       let p = r.array.power in
       let below = due.below in
       below-double (32 * bucket_count d) m (p.0 + 5) w.0 (slots-power (bucket_count d) p.0 p.1) w.1 (omega arith)
@@ -124,16 +124,16 @@ module _ {E S : Type 0} where
   pub shrunk-within : (hash : E → ℕ) (c d : Contents E S) → ShrinksBounded hash c d → (bucket_count d ≤ bucket_count c) × (settings_of d ≡ settings_of c)
   shrunk-within hash c d (stays_wide due e) = (subst (λ z. bucket_count z ≤ bucket_count c) (sym e) (omega arith), ap settings_of e)
   shrunk-within hash c d (denied_narrow n s up k) = (let e = keeps-count c d k in omega arith, k.settings)
-  shrunk-within hash c d (narrows s least_slots down r) = (let f = s.fewer in omega arith, r.lists.settings)
+  shrunk-within hash c d (narrows s least down r) = (let f = s.fewer in omega arith, r.lists.settings)
 
 module _ {K V S : Type 0} (eq : K → K → Bool) where
   -- a state goes on where lists, slots and minimum stay lawful
   pub state-after : (hash hash' : K → ℕ) (c d : Contents (K × V) S) (m : ℕ) → IsCacheState eq hash (record { contents = c; maximum = m }) → IsListed (λ p. hash' p.0) d → IsUnique eq d → settings_of d ≡ settings_of c → 32 * bucket_count d ≤ m
       → IsCacheState eq hash' (record { contents = d; maximum = m })
   state-after hash hash' c d m h lists unique settings within =
-      let least_slots = h.minimum in
+      let least = h.minimum in
       let same : minimum_of d ≡ minimum_of c = ap (λ s. s.asked + s.reserved) settings in
-      record { lists = lists; unique = unique; within = within; power = h.power; least_slots = h.least_slots; most = h.most; minimum = omega arith }
+      record { lists = lists; unique = unique; within = within; power = h.power; least = h.least; most = h.most; minimum = omega arith }
 
   pub missing-grown : (number : ℕ → K → ℕ) (c : Contents (K × V) S) (k : K) → position (λ p. eq k p.0) (entries c) ≡ None → IsMissing number eq (lists_of c) k
   unfolding entries lists_of
@@ -173,8 +173,8 @@ module _ {K V S : Type 0} (eq : K → K → Bool) where
 
   pub state-empty : (hash : K → ℕ) (c : Contents (K × V) S) (m : ℕ) → IsListed (λ p. hash p.0) c → entries c ≡ [] → IsPowerOfTwo m → 64 ≤ m → m ≤ 2 ^ 63 → 32 * bucket_count c ≤ m → minimum_of c ≤ m → IsCacheState eq hash (record { contents = c; maximum = m })
   unfolding IsDistinct
-  state-empty hash c m lists none power least_slots most within minimum =
-      record { lists = lists; unique = rw none tt; within = within; power = power; least_slots = least_slots; most = most; minimum = minimum }
+  state-empty hash c m lists none power least most within minimum =
+      record { lists = lists; unique = rw none tt; within = within; power = power; least = least; most = most; minimum = minimum }
 
 module _ {K V S : Type 0} (hash : K → ℕ) (eq : K → K → Bool) (c : Contents (K × V) S) (k : K) where
   pub is-lacking : (i : ℕ) → i ≡ list_number hash c (bucket_count c) k → IsUnlisted (λ p. eq k p.0) c i → IsLacking hash eq c k

@@ -1,6 +1,8 @@
 -- What an entry shows, under any guard.
 use Rattle.std.proofs.Common.{◌≡◌, ℕ, zero, suc, ◌+◌, ◌<◌, List, [], ◌∷◌, ◌++◌, length, Bool, Option, true, None, Some, Result, Ok, Err, refl, sym, ap, subst, ◌∙◌, arith, length-append, length-set, get_or-set_same}
 use Rattle.std.specs.Prelude.{IfOk, IfErr}
+use Rattle.std.specs.Borrow.{MutBor}
+use Rattle.std.specs.Result.{OnErr}
 use Rattle.std.specs.List.{remove, slice_get, slice_set, slice_index_or}
 use Rattle.std.specs.declared.cmp.PartialEq as eq
 use Rattle.std.specs.declared.hash.Hash as hash
@@ -21,7 +23,7 @@ use Rattle.scc_table.proofs.AtPlaces.{place-prop}
 use Rattle.scc_cache.specs.CacheSteps.{ChangesLists, IsFound, IsLastAt, PutsNew, list_number}
 use Rattle.scc_cache.specs.Caches.{Cached}
 use Rattle.scc_common.specs.declared.errors.InsertError.{InsertError}
-use Rattle.scc_cache.specs.Entries.{Memory, Occupied, Vacant, occupied_pair, IsMoved, IsPut, IsRefreshed, IsReplacedBy, IsWritten, OrPuts, OrPutsSome, Refuses, RefusesSome, SetsEntry, written_cache, still_within, with_value}
+use Rattle.scc_cache.specs.Entries.{Memory, Occupied, Vacant, entry_guard, occupied_pair, IsMoved, IsPut, IsRefreshed, IsReplacedBy, IsWritten, OrPuts, OrPutsSome, Refuses, RefusesSome, SetsEntry, written_cache, still_within, with_value}
 use Rattle.scc_cache.specs.Lends.{with_key_at, with_value_at}
 use Rattle.scc_cache.specs.ListSteps.{Refreshes, RefreshesAs, Rewrites}
 use Rattle.scc_cache.specs.Relocations.{RelocatesOne, RelocatesTwoWithin}
@@ -140,6 +142,11 @@ map-err P Q (Err e) f p = f e p
 -- what is handed on isn't refused
 pub none-refused : {A B : Type 0} {a : A} (r : Result A B) → r ≡ Ok a → (P : B → Type 0) → IfErr r P
 none-refused r same P = subst (λ x. IfErr x P) (sym same) tt
+
+module _ {N K V S T : Type 0} {d : guard.Ghosts (MutBor (Cached (K × V) S)) (Cached (K × V) S)} {g : eq.Ghosts K} {h : hash.Ghosts K} {b : builder.Ghosts S T} {w : hasher.Ghosts T} where
+  -- a refused insertion leaves the cache of the vacant entry, so that of the entry
+  pub refused-through : {A B : Type 0} (s : HeldEntry (MutBor (Cached (K × V) S)) N K V S T d g h b w) (e : HeldVacant (MutBor (Cached (K × V) S)) N K V S T d g h b w) (r : Result A B) (x : Cached (K × V) S) → s ≡ Vacant e → OnErr r (x ≡ e.guard.now) → OnErr r (x ≡ (entry_guard s).now)
+  refused-through s e r x is left = subst (λ (y : HeldEntry (MutBor (Cached (K × V) S)) N K V S T d g h b w). OnErr r (x ≡ (entry_guard y).now)) (sym is) left
 
 module _ {G N K V S T : Type 0} {d : guard.Ghosts G (Cached (K × V) S)} {g : eq.Ghosts K} {h : hash.Ghosts K} {b : builder.Ghosts S T} {w : hasher.Ghosts T} where
   -- what the guard showed at the place is the pair

@@ -62,7 +62,7 @@ module _ {E S : Type 0} (hash : E → ℕ) where
       waits : ShrinksBounded hash b d → ((((n : ℕ) × MayShrinkWithin hash b n) → ⊥) → waiting_of d ≡ waiting_of a) → bucket_count d ≡ bucket_count b → ((n : ℕ) → MayShrinkWithin hash d n → ⊥) → waiting_of d ≡ waiting_of a
       waits (stays_wide none e) f same undue = f (λ m. none m.0 m.1)
       waits (denied_narrow n small up keeps) f same undue = f (λ m. undue m.0 (narrow-same b d m.0 (keeps-entries b d keeps) keeps.settings (keeps-count b d keeps) m.1))
-      waits (narrows small least_slots down moved) f same undue = absurd (let z = small.fewer in omega arith)
+      waits (narrows small least down moved) f same undue = absurd (let z = small.fewer in omega arith)
 
 module _ {E S : Type 0} (h : ℕ) where
   -- what waits after a get in a bucket that doesn't wait
@@ -93,7 +93,7 @@ module _ {E S : Type 0} (hash i : ℕ) (c m d : Contents E S) (at : i ≡ bucket
         exact ∙ ap (left_after i) (targets-same c m (waiting one stay)) ∙ ap (λ j. left_after j (pending_targets c)) (at ∙ ap (λ n. bucket_number (settings_of c).skipped n hash) stay);
     grown = λ one other.
         let pending = all one (λ e. other (count ∙ e)) in
-        let least_slots : 2 ≤ bucket_count m = elim lawful [ inl z ↦ absurd (omega arith) | inr z ↦ z.least_slots ] in
+        let least : 2 ≤ bucket_count m = elim lawful [ inl z ↦ absurd (omega arith) | inr z ↦ z.least ] in
         let both = two (omega arith) in
         omega arith;
     first = λ zero.

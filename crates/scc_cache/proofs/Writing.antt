@@ -117,7 +117,7 @@ module _ {K V S : Type 0} (eq : K → K → Bool) (hash : K → ℕ) (c : Cached
     unique = value-unique v;
     within = rw (written-count with_pair_value c.contents (spot_of c.contents p) within v) h.within;
     power = h.power;
-    least_slots = h.least_slots;
+    least = h.least;
     most = h.most;
     minimum = rw (written-settings with_pair_value c.contents (spot_of c.contents p) within v) h.minimum;
   }
@@ -129,7 +129,7 @@ module _ {K V S : Type 0} (eq : K → K → Bool) (hash : K → ℕ) (c : Cached
     unique = unique;
     within = rw (written-count with_pair_key c.contents (spot_of c.contents p) within k) h.within;
     power = h.power;
-    least_slots = h.least_slots;
+    least = h.least;
     most = h.most;
     minimum = rw (written-settings with_pair_key c.contents (spot_of c.contents p) within k) h.minimum;
   }

@@ -23,6 +23,6 @@ pub record IsCacheState {K V S : Type 0} (eq : K → K → Bool) (hash : K → �
   pub unique : IsUnique eq c.contents
   pub within : 32 * bucket_count c.contents ≤ c.maximum
   pub power : IsPowerOfTwo c.maximum
-  pub least_slots : 64 ≤ c.maximum
+  pub least : 64 ≤ c.maximum
   pub most : c.maximum ≤ 2 ^ 63
   pub minimum : minimum_of c.contents ≤ c.maximum

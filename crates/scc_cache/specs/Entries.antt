@@ -38,6 +38,18 @@ module _ {G N K V S T : Type 0} {d : guard.Ghosts G (Cached (K × V) S)} {g : eq
   abbrev pub occupied_pair : HeldOccupied G N K V S T d g h b w → K × V
   occupied_pair o = entry_of (d.inner o.guard).contents o.place o.within
 
+  -- the guard of an occupied entry
+  abbrev pub occupied_guard : HeldOccupied G N K V S T d g h b w → G
+  occupied_guard o = o.guard
+
+  -- the guard of a vacant entry
+  abbrev pub vacant_guard : HeldVacant G N K V S T d g h b w → G
+  vacant_guard e = e.guard
+
+  -- the key of a vacant entry
+  abbrev pub vacant_key : HeldVacant G N K V S T d g h b w → K
+  vacant_key e = e.key
+
   -- the guard of the entry's cache
   abbrev pub entry_guard : HeldEntry G N K V S T d g h b w → G
   entry_guard (Occupied o) = o.guard

@@ -123,7 +123,7 @@ module _ {E : Type 0} (hash : E → ℕ) (t n i j : ℕ) (olds : List (Shelf E))
         let here = put-is olds j l news (shelf_unflagged fs s) put in
         record {
           same = put-own olds j l news (shelf_unflagged fs s) put;
-          unflagged = ap shelf_entries here ∙ others-kept;
+          kept = ap shelf_entries here ∙ others-kept;
           own = rw here kept-own;
           overflow = let e = ap (λ (z : Shelf E). length z.overflow) here in omega arith;
           moved = rw is (record { entries_are = with-entries ∙ ap (λ z. shelf_entries a ++ z) (sym bound-picked); room = omega arith; packed = with-packed });

@@ -12,40 +12,6 @@ use Rattle.scc_index.specs.IndexSteps.{Inserts}
 use Rattle.scc_common.specs.declared.errors.InsertError.{InsertError}
 
 module _ {K V S : Type 0} (eq : K → K → Bool) (hash_of : S → K → ℕ) where
-  -- the contract of `insert_sync`: with the pair p it returns `result`, and turns c into d
-  pub record InsertsByRule (c : Contents (K × V) S) (p : K × V) (result : Result (Unit {0}) (InsertError K V)) (d : Contents (K × V) S) : Type 0 where
-    -- a new key is added; if the key is there, it stays as it is, and the supplied pair comes back
-    pub step : Inserts eq c p result d
-    -- if it succeeds, a look-up of the key finds the new pair, and every other look-up what it found before
-    pub finds : OnOk result (FindsInstead eq (entries c) p.0 (Some p) (entries d))
-    -- if it fails, every look-up finds what it found before
-    pub same : OnErr result ((q : K) → find eq (entries d) q ≡ find eq (entries c) q)
-    -- the number of buckets changes only by a first array or a doubling
-    pub growth : Grows c d
-    -- the number of buckets stays if the key is new and its bucket has room
-    pub kept : find eq (entries c) p.0 ≡ None → HasRoom (hash_of (settings_of c).hasher) c p.0 → bucket_count d ≡ bucket_count c
-    -- the number of buckets stays if the insertion was prepared
-    pub once : IsPreparedFor (hash_of (settings_of c).hasher) (λ x. x.0) c p.0 → bucket_count d ≡ bucket_count c
-    -- if it succeeds and a growth is due, the number of buckets is doubled, unless memory for it was refused
-    pub due : OnOk result (GrowsWhenDue (hash_of (settings_of c).hasher) (λ x. x.0) c p.0 d)
-    -- if it fails, the note of refused memory rises only if a growth is due
-    pub raised : OnErr result (RaisesWhenDue (hash_of (settings_of c).hasher) (λ x. x.0) c p.0 d)
-    -- if a new key is refused memory and a growth is due, the note of refused memory is up
-    pub undone : find eq (entries c) p.0 ≡ None → OnErr result (GrowsWhenDue (hash_of (settings_of c).hasher) (λ x. x.0) c p.0 d)
-    -- the first array has the size of the minimum
-    pub first : OnOk result (FirstArrayWhenDue c d)
-    -- note and mark stay if the key is there
-    pub noted : IsSome (find eq (entries c) p.0) → refused_of d ≡ refused_of c
-    -- a new key relocates at most two buckets
-    pub relocates : find eq (entries c) p.0 ≡ None → Relocates c d
-    -- it relocates the key's own bucket first and then the first ones that wait, two in all, or all if fewer wait; if
-    -- some of them are long, at least those before a long one
-    pub two : find eq (entries c) p.0 ≡ None → OnOk result (RelocatesTwo (hash_of (settings_of c).hasher p.0) c d)
-    -- a key that is there relocates no bucket
-    pub waiting : IsSome (find eq (entries c) p.0) → waiting_of d ≡ waiting_of c
-    -- no two keys are equal
-    pub unique : IsUnique eq d
-
   -- the contract of `insert_new`: with the pair p, whose key is new, it returns `result`, and turns c into d
   pub record InsertsNewByRule (c : Contents (K × V) S) (p : K × V) (result : Result Place (K × V)) (d : Contents (K × V) S) : Type 0 where
     -- the pair is inserted, and the result is its place

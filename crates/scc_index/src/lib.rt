@@ -4,18 +4,20 @@
 
 ghost use Rattle.scc_common.specs.Closures.{Reads};
 ghost use Rattle.scc_common.specs.Contents.{entries, bucket_count, lists_of, settings_of, refused_of, waiting_of, hash_in};
-ghost use Rattle.scc_common.specs.Pairs.{find, HasRoom, IsUnique};
+ghost use Rattle.scc_common.specs.Pairs.{find, FindsInstead, HasRoom, IsUnique};
 ghost use Rattle.scc_common.specs.Steps.{IsUnchanged};
 ghost use Rattle.scc_common.specs.Walks.{CalledOn, CallableWhile, Walks};
 ghost use Rattle.scc_index.specs.ClosureSteps.{RemovesIf};
-ghost use Rattle.scc_index.specs.IndexSteps.{Removes};
-ghost use Rattle.scc_index.specs.Insertions.{InsertsByRule, PreparesByRule};
+ghost use Rattle.scc_index.specs.IndexSteps.{Inserts, Removes};
+ghost use Rattle.scc_index.specs.Insertions.{PreparesByRule};
 ghost use Rattle.scc_index.specs.Removals.{RemovesByRule};
 ghost use Rattle.std.specs.Arc.{arc_value};
 ghost use Rattle.std.specs.Borrow.{Bor};
 ghost use Rattle.std.specs.Fn.{FnOnceTakesAt};
 ghost use Rattle.std.specs.List.Sorted.{IsPermutation};
 ghost use Rattle.std.specs.Prelude.{◌≡◌, ◌<◌, ◌*◌, ◌↔◌, List, [], length, Some, None, IsTrue, IsSome, IfOk, ◌==◌, true, OnErr, MatchOption, remove, false};
+ghost use Rattle.std.specs.Result.{OnOk};
+ghost use Rattle.scc_table.specs.Arrays.{GrowsByRule};
 
 pub mod borrowed;
 pub mod held;
@@ -208,7 +210,11 @@ impl<K: Eq + Hash, V, H: BuildHasher> Owned<K, V, H> {
     /// changes. A doubling whose memory is refused doesn't make the insertion fail.
     #[inline(always)]
     pub fn insert_sync(&mut self, k: K, v: V) -> Result<(), InsertError<K, V>>
-        ensures { InsertsByRule K.eq ⟦<H as Hashes<K>>⟧.hash_of self.old (k, v) result self.new }
+        ensures step { Inserts K.eq self.old (k, v) result self.new }
+        ensures finds { OnOk result (FindsInstead K.eq (entries self.old) k (Some (k, v)) (entries self.new)) }
+        ensures same { OnErr result ((q : K) → find K.eq (entries self.new) q ≡ find K.eq (entries self.old) q) }
+        ensures unique { IsUnique K.eq self.new }
+        ensures array { GrowsByRule (λ p. p.0) (hash_in ⟦<H as Hashes<K>>⟧.hash_of self.old) (find K.eq (entries self.old) k) self.old k result self.new }
     {
         let hash = self.table.hash(&k);
         match self.table.search(hash, &k) {

@@ -62,6 +62,18 @@ module _ {G N K V S T : Type 0} {d : guard.Ghosts G (Contents (K × V) S)} {g : 
   abbrev pub occupied_back : HeldOccupied G N K V S T d g h b w → List (K × V)
   occupied_back o = back_of (d.inner o.guard) o.place
 
+  -- the guard of an occupied entry
+  abbrev pub occupied_guard : HeldOccupied G N K V S T d g h b w → G
+  occupied_guard o = o.guard
+
+  -- the guard of a vacant entry
+  abbrev pub vacant_guard : HeldVacant G N K V S T d g h b w → G
+  vacant_guard e = e.guard
+
+  -- the key of a vacant entry
+  abbrev pub vacant_key : HeldVacant G N K V S T d g h b w → K
+  vacant_key e = e.key
+
   -- the guard of the entry's map
   abbrev pub entry_guard : HeldEntry G N K V S T d g h b w → G
   entry_guard (Occupied o) = o.guard

@@ -5,7 +5,6 @@ ghost use Rattle.scc_common.specs.Pairs.{find};
 ghost use Rattle.scc_table.specs.Places.{IsPlace};
 ghost use Rattle.std.specs.Prelude.{◌≡◌, None};
 
-mod making;
 mod methods;
 
 use crate::Owned;

@@ -3,17 +3,19 @@
 
 ghost use Rattle.scc_common.specs.Closures.{Reads};
 ghost use Rattle.scc_common.specs.Contents.{entries, bucket_count, lists_of, settings_of, refused_of, waiting_of, hash_in};
-ghost use Rattle.scc_common.specs.Pairs.{find, HasRoom, IsUnique};
+ghost use Rattle.scc_common.specs.Pairs.{find, FindsInstead, HasRoom, IsUnique};
 ghost use Rattle.scc_common.specs.Steps.{IsUnchanged};
 ghost use Rattle.scc_common.specs.Walks.{CalledOn, CallableWhile, Walks};
 ghost use Rattle.scc_map.specs.ClosureSteps.{RemovesIf, UpdatesByRule};
-ghost use Rattle.scc_map.specs.Insertions.{InsertsByRule, PreparesByRule, UpsertsByRule};
-ghost use Rattle.scc_map.specs.MapSteps.{Removes};
+ghost use Rattle.scc_map.specs.Insertions.{PreparesByRule};
+ghost use Rattle.scc_map.specs.MapSteps.{Inserts, Removes, Upserts};
 ghost use Rattle.scc_map.specs.Removals.{RemovesByRule};
 ghost use Rattle.std.specs.Borrow.{Bor, MutBor};
 ghost use Rattle.std.specs.Fn.{FnOnceTakesAtMut};
 ghost use Rattle.std.specs.List.Sorted.{IsPermutation};
-ghost use Rattle.std.specs.Prelude.{◌≡◌, ◌<◌, ◌*◌, ◌↔◌, List, [], length, Some, None, IsTrue, IsSome, ◌==◌, true, false};
+ghost use Rattle.scc_table.specs.Arrays.{GrowsByRule};
+ghost use Rattle.std.specs.Result.{OnErr, OnOk};
+ghost use Rattle.std.specs.Prelude.{◌≡◌, ◌<◌, ◌*◌, ◌↔◌, List, [], length, Some, None, IsTrue, IsSome, IsOk, ◌==◌, true, false};
 
 pub mod borrowed;
 pub mod held;
@@ -149,7 +151,12 @@ impl<K: Eq + Hash, V, H: BuildHasher> Owned<K, V, H> {
     /// its overflow list is refused. A doubling whose memory is refused doesn't make the insertion fail.
     #[inline(always)]
     pub fn insert_sync(&mut self, k: K, v: V) -> Result<(), InsertError<K, V>>
-        ensures { InsertsByRule K.eq ⟦<H as Hashes<K>>⟧.hash_of self.old (k, v) result self.new }
+        ensures step { Inserts K.eq (hash_in ⟦<H as Hashes<K>>⟧.hash_of self.old) self.old (k, v) result self.new }
+        ensures succeeds { find K.eq (entries self.old) k ≡ None → HasRoom (hash_in ⟦<H as Hashes<K>>⟧.hash_of self.old) self.old k → IsOk result }
+        ensures finds { OnOk result (FindsInstead K.eq (entries self.old) k (Some (k, v)) (entries self.new)) }
+        ensures same { OnErr result ((q : K) → find K.eq (entries self.new) q ≡ find K.eq (entries self.old) q) }
+        ensures unique { IsUnique K.eq self.new }
+        ensures array { GrowsByRule (λ p. p.0) (hash_in ⟦<H as Hashes<K>>⟧.hash_of self.old) (find K.eq (entries self.old) k) self.old k result self.new }
     {
         let hash = self.table.hash(&k);
         match self.table.search(hash, &k) {
@@ -198,7 +205,12 @@ impl<K: Eq + Hash, V, H: BuildHasher> Owned<K, V, H> {
     pub fn upsert_sync(&mut self, k: K, v: V) -> Result<Option<V>, InsertError<K, V>>
     where
         K: Drop,
-        ensures { UpsertsByRule K.eq ⟦<H as Hashes<K>>⟧.hash_of self.old (k, v) result self.new }
+        ensures step { Upserts K.eq (hash_in ⟦<H as Hashes<K>>⟧.hash_of self.old) self.old (k, v) result self.new }
+        ensures succeeds { IsSome (find K.eq (entries self.old) k) → IsOk result }
+        ensures finds { OnOk result ((q : K) × (K.eq k q ≡ true) × FindsInstead K.eq (entries self.old) k (Some (q, v)) (entries self.new)) }
+        ensures same { OnErr result ((q : K) → find K.eq (entries self.new) q ≡ find K.eq (entries self.old) q) }
+        ensures unique { IsUnique K.eq self.new }
+        ensures array { GrowsByRule (λ p. p.0) (hash_in ⟦<H as Hashes<K>>⟧.hash_of self.old) (find K.eq (entries self.old) k) self.old k result self.new }
     {
         let hash = self.table.hash(&k);
         match self.table.search(hash, &k) {

@@ -22,6 +22,10 @@ module _ {K S T : Type 0} {g : eq.Ghosts K} {h : hash.Ghosts K} {b : builder.Gho
   abbrev pub place_of : OccupiedEntry K S T g h b w → Place
   place_of o = record { bucket = o.bucket; slot = o.slot }
 
+  -- the borrow of the set that the entry holds
+  abbrev pub occupied_borrow : OccupiedEntry K S T g h b w → MutBor (Contents K S)
+  occupied_borrow o = o.set
+
   -- the key of the entry
   abbrev pub occupied_key : OccupiedEntry K S T g h b w → K
   occupied_key o = entry_of o.set.now (place_of o) o.within

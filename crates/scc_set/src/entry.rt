@@ -26,11 +26,11 @@ pub struct Removed<K> {
 }
 
 impl<K: Eq + Hash, H: BuildHasher> Owned<K, H> {
-    ghost use Rattle.scc_set.specs.SetEntries.{StandsIn, occupied_key, occupied_front, rests_if_none};
+    ghost use Rattle.scc_set.specs.SetEntries.{StandsIn, occupied_borrow, occupied_key, occupied_front, rests_if_none};
 
     /// Returns the first entry of the set's list, or `None` if the set is empty.
     pub fn begin_sync(&mut self) -> Option<OccupiedEntry<'_, K, H>>
-        ensures same_set { IfSome result (λ o. o.set.ghost_name ≡ self.entry.ghost_name) }
+        ensures same_set { IfSome result (λ o. (occupied_borrow o).ghost_name ≡ self.entry.ghost_name) }
         ensures first { IfSome result (λ o. StandsIn self.old o × (occupied_front o ≡ [])) }
         ensures empty { IfNone result (entries self.old ≡ []) }
         ensures* kept { sem 𝓛 (rests_if_none K.row H.row H.Hasher.row K.Hash H.BuildHasher H.Hasher.Hasher self.entry
@@ -50,7 +50,7 @@ impl<K: Eq + Hash, H: BuildHasher> Owned<K, H> {
     /// on the keys in the order of the list until it returns true.
     pub fn any_sync<P: FnMut(&K) -> bool>(&mut self, p: P) -> Option<OccupiedEntry<'_, K, H>>
         requires { CallableWhile P.FnMut (λ answer. answer ≡ false) p (entries self.old) }
-        ensures same_set { IfSome result (λ o. o.set.ghost_name ≡ self.entry.ghost_name) }
+        ensures same_set { IfSome result (λ o. (occupied_borrow o).ghost_name ≡ self.entry.ghost_name) }
         ensures here { IfSome result (StandsIn self.old) }
         ensures first { IfSome result (λ o. PassesAt (CalledAt P.FnMut) p (occupied_front o) (occupied_key o)) }
         ensures none { IfNone result (PassesNone (CalledAt P.FnMut) p (entries self.old)) }
@@ -69,7 +69,7 @@ impl<K: Eq + Hash, H: BuildHasher> Owned<K, H> {
 }
 
 impl<'a, K: Eq + Hash, H: BuildHasher> OccupiedEntry<'a, K, H> {
-    ghost use Rattle.scc_set.specs.SetEntries.{IsNext, RemovesWithNext, RemovesEntryByRule, occupied_key, occupied_back, rests_if_none, rests_removed};
+    ghost use Rattle.scc_set.specs.SetEntries.{IsNext, RemovesWithNext, RemovesEntryByRule, occupied_borrow, occupied_key, occupied_back, rests_if_none, rests_removed};
 
     /// Returns the stored key.
     pub fn get(&self) -> &K
@@ -96,7 +96,7 @@ impl<'a, K: Eq + Hash, H: BuildHasher> OccupiedEntry<'a, K, H> {
         ensures next { IfSome result (IsNext self.entry) }
         ensures last { IfNone result (occupied_back self.entry ≡ []) }
         ensures* kept { sem 𝓛 (rests_if_none K.row H.row H.Hasher.row K.Hash H.BuildHasher H.Hasher.Hasher
-            self.entry.set result) }
+            (occupied_borrow self.entry) result) }
     {
         let OccupiedEntry { set, bucket, slot } = self;
         match set.next_place(Place { bucket, slot }) {

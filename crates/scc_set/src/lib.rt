@@ -5,15 +5,17 @@ ghost use Rattle.scc_common.specs.Contents.{entries, bucket_count, lists_of, set
 ghost use Rattle.scc_common.specs.Pairs.{IsUnique as IsUniqueMap};
 ghost use Rattle.scc_common.specs.Pairs.{find as find_pair};
 ghost use Rattle.scc_common.specs.Steps.{HoldsExactly, IsUnchanged};
-ghost use Rattle.scc_set.specs.Insertions.{InsertsByRule, PreparesByRule, ReplacesByRule};
+ghost use Rattle.scc_set.specs.Insertions.{PreparesByRule};
 ghost use Rattle.scc_set.specs.Keys.{find, with_key, FindsInstead, HasRoom, IsUnique};
 ghost use Rattle.scc_set.specs.Removals.{RemovesByRule};
-ghost use Rattle.scc_set.specs.SetSteps.{Reads, Removes, RemovesIf};
+ghost use Rattle.scc_set.specs.SetSteps.{Inserts, Reads, Removes, RemovesIf, Replaces};
 ghost use Rattle.scc_set.specs.SetSteps.{key_answer as key_answer_of};
 ghost use Rattle.std.specs.Fn.{FnOnceTakesAt, FnOnceReturnsAt};
 ghost use Rattle.std.specs.Map.{set_key};
 ghost use Rattle.std.specs.Option.{option_map};
-ghost use Rattle.std.specs.Prelude.{◌≡◌, ◌<◌, ◌*◌, ◌↔◌, [], length, Some, None, IsTrue, IsSome, IfErr, IfOk, false};
+ghost use Rattle.std.specs.Prelude.{◌≡◌, ◌<◌, ◌*◌, ◌↔◌, [], length, Some, None, IsTrue, IsSome, IsOk, IfErr, IfOk, false};
+ghost use Rattle.std.specs.Result.{OnErr, OnOk};
+ghost use Rattle.scc_table.specs.Arrays.{GrowsByRule};
 
 pub mod entry;
 mod key_places;
@@ -121,7 +123,12 @@ impl<K: Eq + Hash, H: BuildHasher> Owned<K, H> {
     /// overflow list is refused. A doubling whose memory is refused doesn't make the insertion fail.
     #[inline(always)]
     pub fn insert_sync(&mut self, k: K) -> Result<(), KeyError<K>>
-        ensures { InsertsByRule K.eq ⟦<H as Hashes<K>>⟧.hash_of self.old k result self.new }
+        ensures step { Inserts K.eq (hash_in ⟦<H as Hashes<K>>⟧.hash_of self.old) self.old k result self.new }
+        ensures succeeds { find K.eq (entries self.old) k ≡ None → HasRoom (hash_in ⟦<H as Hashes<K>>⟧.hash_of self.old) self.old k → IsOk result }
+        ensures finds { OnOk result (FindsInstead K.eq (entries self.old) k (Some k) (entries self.new)) }
+        ensures same { OnErr result ((q : K) → find K.eq (entries self.new) q ≡ find K.eq (entries self.old) q) }
+        ensures unique { IsUnique K.eq self.new }
+        ensures array { GrowsByRule (λ q. q) (hash_in ⟦<H as Hashes<K>>⟧.hash_of self.old) (find K.eq (entries self.old) k) self.old k result self.new }
     {
         key_answer(self.map.insert_sync(k, ()))
     }
@@ -153,7 +160,13 @@ impl<K: Eq + Hash, H: BuildHasher> Owned<K, H> {
     /// equals `k`, `k` is inserted and `None` is returned; if memory is refused, `k` comes back.
     #[inline(always)]
     pub fn replace_sync(&mut self, k: K) -> Result<Option<K>, KeyError<K>>
-        ensures { ReplacesByRule K.eq ⟦<H as Hashes<K>>⟧.hash_of self.old k result self.new }
+        ensures step { Replaces K.eq (hash_in ⟦<H as Hashes<K>>⟧.hash_of self.old) self.old k result self.new }
+        ensures present { IsSome (find K.eq (entries self.old) k) → IsOk result }
+        ensures succeeds { HasRoom (hash_in ⟦<H as Hashes<K>>⟧.hash_of self.old) self.old k → IsOk result }
+        ensures finds { OnOk result (FindsInstead K.eq (entries self.old) k (Some k) (entries self.new)) }
+        ensures same { OnErr result ((q : K) → find K.eq (entries self.new) q ≡ find K.eq (entries self.old) q) }
+        ensures unique { IsUnique K.eq self.new }
+        ensures array { GrowsByRule (λ q. q) (hash_in ⟦<H as Hashes<K>>⟧.hash_of self.old) (find K.eq (entries self.old) k) self.old k result self.new }
     {
         match self.swap_key(k) {
             Ok(old) => Ok(Some(old)),

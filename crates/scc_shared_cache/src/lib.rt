@@ -3,7 +3,6 @@
 
 ghost use Rattle.std.specs.Prelude.{◌≡◌, ℕ, max, IfOk};
 ghost use Rattle.scc_common.specs.Sizes.{IsArraySize};
-ghost use Rattle.scc_shared_cache.specs.SharedSizes.{IsSlotsAsked};
 
 mod calls;
 mod entries;
@@ -32,25 +31,29 @@ pub struct HashCache<K: Eq + Hash, V, H: BuildHasher = BuildHasherDefault<FoldHa
 }
 
 impl<K: Eq + Hash + Drop, V: Drop> HashCache<K, V> {
+    ghost use Rattle.scc_shared_cache.specs.SharedSizes.{IsSlotsAsked, maximum_of};
+
     /// Returns an empty cache of four stripes without arrays, with a maximum of 256 slots. Fails if memory is refused.
     pub fn new(alloc: Global) -> Result<Self, MakeError>
-        ensures maximum { IfOk result (λ c. c.maximum ≡ 256) }
+        ensures maximum { IfOk result (λ c. maximum_of c ≡ 256) }
     {
         HashCache::with_hasher(alloc, BuildHasherDefault::new())
     }
 
     /// Returns an empty cache of `capacity` and `maximum`, as `with_capacity_and_hasher` does.
     pub fn with_capacity(alloc: Global, capacity: usize, maximum: usize) -> Result<Self, MakeError>
-        ensures maximum { IfOk result (λ c. (n : ℕ) × IsSlotsAsked capacity n × IsArraySize (max maximum n) c.maximum) }
+        ensures maximum { IfOk result (λ c. (n : ℕ) × IsSlotsAsked capacity n × IsArraySize (max maximum n) (maximum_of c)) }
     {
         HashCache::with_capacity_and_hasher(alloc, capacity, maximum, BuildHasherDefault::new())
     }
 }
 
 impl<K: Eq + Hash + Drop, V: Drop, H: BuildHasher + Drop> HashCache<K, V, H> {
+    ghost use Rattle.scc_shared_cache.specs.SharedSizes.{IsSlotsAsked, maximum_of};
+
     /// Returns an empty cache of four stripes without arrays, with a maximum of 256 slots. Fails if memory is refused.
     pub fn with_hasher(alloc: Global, hasher: H) -> Result<Self, MakeError>
-        ensures maximum { IfOk result (λ c. c.maximum ≡ 256) }
+        ensures maximum { IfOk result (λ c. maximum_of c ≡ 256) }
     {
         HashCache::with_capacity_and_hasher(alloc, 0, DEFAULT_MAXIMUM_CAPACITY, hasher)
     }
@@ -66,7 +69,7 @@ impl<K: Eq + Hash + Drop, V: Drop, H: BuildHasher + Drop> HashCache<K, V, H> {
         maximum: usize,
         hasher: H,
     ) -> Result<Self, MakeError>
-        ensures maximum { IfOk result (λ c. (n : ℕ) × IsSlotsAsked capacity n × IsArraySize (max maximum n) c.maximum) }
+        ensures maximum { IfOk result (λ c. (n : ℕ) × IsSlotsAsked capacity n × IsArraySize (max maximum n) (maximum_of c)) }
     {
         let slots = if capacity == 0 {
             0

@@ -1,5 +1,6 @@
 //! Sizes. A call looks at the stripes one after another.
 ghost use Rattle.std.specs.Prelude.{◌≡◌};
+ghost use Rattle.scc_shared_cache.specs.SharedSizes.{maximum_of};
 
 use super::HashCache;
 use std::hash::{BuildHasher, Hash};
@@ -24,7 +25,7 @@ impl<K: Eq + Hash, V, H: BuildHasher> HashCache<K, V, H> {
 
     /// Returns the range from the minimum of the cache to the greatest number of slots that it may grow to.
     pub fn capacity_range(&self) -> RangeInclusive<usize>
-        ensures high { result.end ≡ self.now.maximum }
+        ensures high { result.end ≡ maximum_of self.now }
     {
         self.stripes.minimum()..=self.maximum
     }

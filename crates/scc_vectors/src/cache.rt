@@ -1,4 +1,5 @@
-// The cache for one owner. Under `Zero` all keys share a bucket; under `Same` the highest bits of a key name its bucket.
+// Tests of the single-threaded cache. Under `Zero` all keys share a bucket; under `Same` the highest bits of a key
+// name its bucket.
 use crate::expect::{expect, expect_eq};
 use scc::Verdict;
 use scc::hash_cache::Owned;
@@ -14,34 +15,34 @@ const HALF: u64 = 1 << 63;
 
 type Numbers<H> = Owned<u64, u64, H>;
 
-// A call on a cache, and what it has to answer. Each key is put with itself as value.
+// A call on a cache, with the result that it must return. Each key is put with itself as value.
 #[derive(Clone, Copy)]
 enum Call {
-    // Puts the keys from the first on and before the second: no pair goes for one.
+    // Puts the keys from the first number up to, but without, the second. No put evicts a pair.
     Fill(u64, u64),
-    // Removes them: each answers its pair.
+    // Removes the keys from the first number up to, but without, the second. Each removal returns the key's pair.
     Empty(u64, u64),
-    // Puts the first key, for which the second one goes.
+    // Puts the first key, which evicts the second key.
     Evict(u64, u64),
-    // The key has itself as value, by a call that makes it the most recent.
+    // Reads the key by a call that refreshes it. Its value is the key itself.
     Get(u64),
-    // Sets the value of a key that is there, through its entry.
+    // Sets the value of a present key through its entry.
     PutEntry(u64, u64),
-    // Replaces the key, which is there.
+    // Replaces a key that is present.
     Replace(u64),
     // Asks for the entry of the key.
     Enter(u64),
-    // The key has that value, by a call that leaves the order.
+    // Reads the key, whose value is the second number, by a call that doesn't refresh it.
     Read(u64, u64),
-    // The key is there.
+    // The key is present.
     Contains(u64),
-    // The length and the capacity.
+    // The cache has this length and this capacity.
     Sizes(usize, usize),
-    // How many buckets wait for their pairs.
+    // This many buckets wait.
     Waiting(usize),
 }
 
-// The key that goes for a key that is put, if one does; None if the put was refused.
+// Puts `key` with itself as value. Returns the key that the put evicts, if any, or `None` if the put fails.
 fn put<H: BuildHasher>(cache: &mut Numbers<H>, key: u64) -> Option<Option<u64>> {
     match cache.put_sync(key, key) {
         Ok(Some(pair)) => Some(Some(pair.0)),
@@ -93,7 +94,7 @@ fn read<H: BuildHasher>(cache: &Numbers<H>, key: u64) -> Option<u64> {
     cache.read_sync(&key, |_, value| *value)
 }
 
-// Whether a call answers what it has to.
+// Returns whether `call` returns what it must.
 fn holds<H: BuildHasher>(cache: &mut Numbers<H>, call: Call) -> bool {
     match call {
         Call::Fill(first, end) => fill(cache, first, end),
@@ -110,7 +111,7 @@ fn holds<H: BuildHasher>(cache: &mut Numbers<H>, call: Call) -> bool {
     }
 }
 
-// The number of the first call that answers something else.
+// Returns the number of the first call that doesn't return what it must.
 fn first_other<H: BuildHasher>(cache: &mut Numbers<H>, calls: &[Call]) -> Option<usize> {
     for (number, call) in calls.iter().enumerate() {
         if !holds(cache, *call) {
@@ -120,7 +121,7 @@ fn first_other<H: BuildHasher>(cache: &mut Numbers<H>, calls: &[Call]) -> Option
     None
 }
 
-// Makes the calls in turn on a cache without an array, of at most so many slots.
+// Makes `calls` in turn on a cache without an array, of at most `maximum` slots, and checks each result.
 fn expect_calls<H: BuildHasher + Drop, R: AllocGlobal + Abort>(
     rt: &R,
     hasher: H,
@@ -163,7 +164,8 @@ fn cache_put_entry_refreshes(rt: HostRuntime) {
     );
 }
 
-// A call on key 0 of the keys 0 to 31, and the key that then goes for key 32.
+// Replacing key 0 and asking for its entry refresh it, so key 32 evicts key 1. `read_sync` and `contains_sync` don't,
+// so key 32 evicts key 0.
 #[test]
 fn cache_which_calls_refresh(rt: HostRuntime) {
     for (call, evicted) in [
@@ -238,13 +240,14 @@ fn cache_get_relocates_its_target(rt: HostRuntime) {
     );
 }
 
-// The capacity and both ends of its range.
+// Returns the capacity and both ends of its range.
 fn range_of(cache: &Owned<u64, u64>) -> (usize, usize, usize) {
     let range = cache.capacity_range();
     (cache.capacity(), *range.start(), *range.end())
 }
 
-// Those of a cache that is made with at least and at most so many slots.
+// Returns the capacity and both ends of its range for a cache made with `minimum` and `maximum` slots, or `None` if
+// memory is refused.
 fn range_between(alloc: Global, minimum: usize, maximum: usize) -> Option<(usize, usize, usize)> {
     match Owned::with_capacity(alloc, minimum, maximum) {
         Ok(cache) => Some(range_of(&cache)),
@@ -291,7 +294,7 @@ fn put_three(cache: &mut Owned<u64, u64>) -> bool {
     true
 }
 
-// A walk with a closure that writes 9 and stops at its first call: whether it stopped.
+// Walks with a closure that writes 9 and returns `verdict` at once. Returns whether the walk stopped.
 fn write_and_stop(
     cache: &mut Owned<u64, u64>,
     taken: &mut Vec<(u64, u64)>,
@@ -307,7 +310,7 @@ fn write_and_stop(
     ended == Ok(false)
 }
 
-// How many pairs have the value 9, and how many 0.
+// Returns the number of pairs with the value 9, and the number of pairs with the value 0.
 fn nines_and_zeros(cache: &Owned<u64, u64>) -> (usize, usize) {
     let (mut nines, mut zeros) = (0usize, 0usize);
     cache.iter_sync(|_, value| {
@@ -321,7 +324,7 @@ fn nines_and_zeros(cache: &Owned<u64, u64>) -> (usize, usize) {
     (nines, zeros)
 }
 
-// How many of the pairs have the value 9.
+// Returns the number of pairs with the value 9.
 fn nines_of(pairs: &[(u64, u64)]) -> usize {
     let mut nines = 0usize;
     for pair in pairs {
@@ -332,8 +335,8 @@ fn nines_of(pairs: &[(u64, u64)]) -> usize {
     nines
 }
 
-// Puts 1, 2 and 3, and walks so. The walk stops; that are how many pairs were taken, how many of those have 9, and of
-// those that are left how many have 9 and how many 0.
+// Puts 1, 2 and 3, and walks with `verdict`. The walk must stop. `wanted` is the number of taken pairs, the number of
+// taken pairs with the value 9, and the numbers of pairs left with the value 9 and with 0.
 fn expect_stop<R: AllocGlobal + Abort>(rt: &R, verdict: Verdict, wanted: [usize; 4]) {
     let mut cache: Owned<u64, u64> = Owned::new(rt.alloc());
     let mut taken = Vec::new(rt.alloc());
@@ -360,7 +363,7 @@ fn cache_iter_mut_keep_stop_at_first(rt: HostRuntime) {
 
 type Marked = Owned<MaybeEqual, u64, Zero>;
 
-// Whether the keys (i, 100 + i) went in, each with the value i, and no pair went for one.
+// Puts the keys (i, 100 + i) below `end`, each with the value i. Returns whether each went in without an eviction.
 fn put_marked(cache: &mut Marked, end: u64) -> bool {
     for i in 0..end {
         match cache.put_sync(MaybeEqual(i, i.saturating_add(100)), i) {
@@ -371,7 +374,8 @@ fn put_marked(cache: &mut Marked, end: u64) -> bool {
     true
 }
 
-// Replaces a key. The mark of the old key, the mark of the new one and the value; None if there was none.
+// Replaces a key. Returns the mark of the old key, the mark of the new key and the value, or `None` if the key was
+// missing.
 fn replace(cache: &mut Marked, number: u64, mark: u64) -> Option<(u64, u64, u64)> {
     match cache.replace_sync(MaybeEqual(number, mark)) {
         ReplaceResult::Replaced(entry, old) => Some((old.1, entry.key().1, *entry.get())),
@@ -379,7 +383,7 @@ fn replace(cache: &mut Marked, number: u64, mark: u64) -> Option<(u64, u64, u64)
     }
 }
 
-// Whether each of them is replaced by the key (i, 200 + i).
+// Replaces each key below `end` by (i, 200 + i), and returns whether each replacement succeeded.
 fn replace_marked(cache: &mut Marked, end: u64) -> bool {
     for i in 0..end {
         let (old, new) = (i.saturating_add(100), i.saturating_add(200));
@@ -390,7 +394,7 @@ fn replace_marked(cache: &mut Marked, end: u64) -> bool {
     true
 }
 
-// Whether each is stored so, with its value.
+// Returns whether each key below `end` is stored as (i, 200 + i) with its value.
 fn are_replaced(cache: &Marked, end: u64) -> bool {
     for i in 0..end {
         let stored = cache.read_sync(&MaybeEqual(i, 0), |key, value| (key.1, *value));
@@ -416,8 +420,8 @@ fn cache_replace_under_one_hash_keeps_values(rt: HostRuntime) {
     }
 }
 
-// Puts the keys 1 and 2 into both, in another order, and then 3 into the first. Whether each put took no other pair's
-// place, and whether each is equal to the other, before and after that.
+// Puts the keys 1 and 2 into both caches in different order, and then 3 into `first`. Returns whether the puts evicted
+// nothing, and whether each cache equals the other, before and after the last put.
 fn compare(first: &mut Numbers<Zero>, second: &mut Numbers<Zero>) -> [bool; 6] {
     let filled = fill(first, 1, 3) && fill(second, 2, 3) && fill(second, 1, 2);
     let before = [first == second, second == first];

@@ -1,4 +1,4 @@
-// The index for one owner.
+// Tests of the single-threaded index.
 use crate::expect::{expect, expect_eq};
 use crate::reserving::{foreign_and_own_tokens, grows_and_gives_back, sizes_without_array};
 use scc::hash_index::Owned;
@@ -7,7 +7,7 @@ use std::process::Abort;
 
 const GREATEST: usize = 1 << 63;
 
-// The value of a key.
+// Returns the value of `key`.
 fn value_of(index: &Owned<u64, u64>, key: u64) -> Option<u64> {
     index.peek_with(&key, |_, value| *value)
 }
@@ -24,7 +24,7 @@ fn index_try_from_iter_first_wins(rt: HostRuntime) {
     }
 }
 
-// The value of the next version, None once each came.
+// Returns the value of the next version, or `None` after the last.
 fn next_value(versions: &mut Iter<u64, u64>) -> Option<u64> {
     match versions.next() {
         Some(version) => Some(*version.value()),
@@ -32,7 +32,7 @@ fn next_value(versions: &mut Iter<u64, u64>) -> Option<u64> {
     }
 }
 
-// Whether the key was there and has that value now.
+// Sets the value of `key`, and returns whether the key was present and now has `value`.
 fn update(index: &mut Owned<u64, u64>, key: u64, value: u64) -> bool {
     match index.get_sync(&key) {
         Some(mut entry) => entry.update(value).is_ok(),
@@ -40,7 +40,7 @@ fn update(index: &mut Owned<u64, u64>, key: u64, value: u64) -> bool {
     }
 }
 
-// What a snapshot shows that is taken before the key's value is updated: its first three values, and whether the update
+// Returns the first three values of a snapshot that is taken before the key's value is updated, and whether the update
 // succeeds.
 fn update_beside_snapshot(
     index: &mut Owned<u64, u64>,
@@ -73,7 +73,7 @@ fn index_snapshot_keeps_old_version(rt: HostRuntime) {
     );
 }
 
-// Takes out the first entry and the one that comes after it. Their keys, and whether none came after the second.
+// Removes the first entry and the entry that follows it. Returns both keys, and whether no entry followed the second.
 fn take_both(index: &mut Owned<u64, u64>) -> Option<(u64, u64, bool)> {
     let Some(first) = index.begin_sync() else {
         return None;

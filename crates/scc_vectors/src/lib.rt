@@ -1,4 +1,4 @@
-//! Worked cases: what a call answers and leaves, each case under its own name, over the public paths of `scc`.
+//! Worked cases over the public paths of `scc`: what a call returns and what it leaves, each case under its own name.
 #![tactic(auto)]
 
 #[cfg(test)]

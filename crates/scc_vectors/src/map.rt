@@ -1,4 +1,5 @@
-// The map for one owner. Under `Zero` all keys share a bucket; under `Same` the highest bits of a key name its bucket.
+// Tests of the single-threaded map. Under `Zero` all keys share a bucket; under `Same` the highest bits of a key name
+// its bucket.
 use crate::expect::{expect, expect_eq};
 use crate::reserving::{foreign_and_own_tokens, grows_and_gives_back, sizes_without_array};
 use scc::hash_map::Owned;
@@ -17,40 +18,41 @@ const GREATEST: usize = 1 << 63;
 
 type Numbers<H> = Owned<u64, u64, H>;
 
-// A call on a map, and what it has to answer.
+// A call on a map, with the result that it must return.
 #[derive(Clone, Copy)]
 enum Call {
-    // Inserts the keys from the first on and before the second, each with itself as value: each goes in.
+    // Inserts the keys from the first number up to, but without, the second, each with itself as value. Each insertion
+    // succeeds.
     Fill(u64, u64),
-    // Removes them: each answers its pair.
+    // Removes the keys from the first number up to, but without, the second. Each removal returns the key's pair.
     Empty(u64, u64),
-    // Inserts a pair, which goes in.
+    // Inserts a pair. The insertion succeeds.
     Insert(u64, u64),
-    // Inserts a pair of a key that is there, which comes back.
+    // Inserts a pair whose key is present. The pair comes back.
     InsertAgain(u64, u64),
-    // Sets the value of a key that has the second number, to the third.
+    // Sets the value of a key from the second number to the third.
     Upsert(u64, u64, u64),
-    // The same by a closure.
+    // Sets the value of a key by a closure.
     Update(u64, u64),
-    // Removes a key that has this value.
+    // Removes a key with this value.
     Remove(u64, u64),
-    // Removes all.
+    // Removes all pairs.
     Clear,
-    // Sets each value to 2, by a walk that keeps each pair.
+    // Sets each value to 2 by a walk that keeps each pair.
     WriteTwos,
-    // A walk stops at that key.
+    // A walk that stops at this key ends there.
     StopsAt(u64),
-    // Whether the bucket of the key has room.
+    // The bucket of the key has room, or has none.
     Room(u64, bool),
-    // The key has that value.
+    // The key has this value.
     Read(u64, u64),
-    // Each key before that one has itself as value.
+    // Each key below the number has itself as value.
     ReadBelow(u64),
-    // The length and the capacity.
+    // The map has this length and this capacity.
     Sizes(usize, usize),
-    // The capacity, and how many buckets wait for their pairs.
+    // The map has this capacity, and this many waiting buckets.
     Waiting(usize, usize),
-    // Reserves so many slots, and gives them back. In between, that are the capacity and the waiting buckets.
+    // Reserves slots and releases them. In between, the map has this capacity and this many waiting buckets.
     Reserve(usize, usize, usize),
 }
 
@@ -118,7 +120,7 @@ fn reserves<H: BuildHasher>(map: &mut Numbers<H>, slots: usize, then: (usize, us
     }
 }
 
-// Whether a call answers what it has to.
+// Returns whether `call` returns what it must.
 fn holds<H: BuildHasher>(map: &mut Numbers<H>, call: Call) -> bool {
     match call {
         Call::Fill(first, end) => fill(map, first, end),
@@ -134,7 +136,7 @@ fn holds<H: BuildHasher>(map: &mut Numbers<H>, call: Call) -> bool {
     }
 }
 
-// The same of a call on all pairs.
+// Returns whether `call`, a call on all pairs, returns what it must.
 fn holds_of_all<H: BuildHasher>(map: &mut Numbers<H>, call: Call) -> bool {
     match call {
         Call::WriteTwos => {
@@ -153,7 +155,7 @@ fn holds_of_all<H: BuildHasher>(map: &mut Numbers<H>, call: Call) -> bool {
     }
 }
 
-// The number of the first call that answers something else.
+// Returns the number of the first call that doesn't return what it must.
 fn first_other<H: BuildHasher>(map: &mut Numbers<H>, calls: &[Call]) -> Option<usize> {
     for (number, call) in calls.iter().enumerate() {
         if !holds(map, *call) {
@@ -163,13 +165,13 @@ fn first_other<H: BuildHasher>(map: &mut Numbers<H>, calls: &[Call]) -> Option<u
     None
 }
 
-// Makes the calls in turn on a map under that hasher.
+// Makes `calls` in turn on a map with `hasher`, and checks each result.
 fn expect_under<H: BuildHasher + Drop, R: AllocGlobal + Abort>(rt: &R, hasher: H, calls: &[Call]) {
     let mut map = Owned::with_hasher(rt.alloc(), hasher);
     expect_eq(rt, first_other(&mut map, calls), None);
 }
 
-// Makes them on a map under the default hasher.
+// Makes `calls` in turn on a map with the default hasher, and checks each result.
 fn expect_calls<R: AllocGlobal + Abort>(rt: &R, calls: &[Call]) {
     let mut map = Owned::new(rt.alloc());
     expect_eq(rt, first_other(&mut map, calls), None);
@@ -209,7 +211,7 @@ fn map_has_room_until_its_bucket_is_full(rt: HostRuntime) {
     );
 }
 
-// Takes out the first pair, and each that comes after it. How many they are, and the sum of their values.
+// Removes the first pair and each pair that follows. Returns the number of pairs and the sum of their values.
 fn take_each(map: &mut Numbers<Zero>) -> (u64, u64) {
     let (mut pairs, mut sum) = (0u64, 0u64);
     let mut here = map.begin_sync();
@@ -351,7 +353,7 @@ fn map_reserve_and_release_leave_all_pending(rt: HostRuntime) {
     );
 }
 
-// Adds one to the count of each letter.
+// Adds one to the count of each letter of `text`.
 fn count_all(map: &mut Owned<char, u64>, text: &str) -> bool {
     for letter in text.chars() {
         let is_counted = map
@@ -366,7 +368,7 @@ fn count_all(map: &mut Owned<char, u64>, text: &str) -> bool {
     true
 }
 
-// The count of a letter.
+// Returns the count of `letter`.
 fn count_of(map: &Owned<char, u64>, letter: char) -> Option<u64> {
     map.read_sync(&letter, |_, count| *count)
 }
@@ -387,8 +389,8 @@ fn map_counts_characters_through_entries(rt: HostRuntime) {
     );
 }
 
-// Inserts (1, 0), and asks for its removal under two conditions: one writes 1 and declines, and one wants what was
-// written.
+// Inserts (1, 0), and asks twice for its removal: one condition writes 1 and declines, and the other wants the value
+// that was written.
 fn decline_and_remove(map: &mut Owned<u64, u64>) -> [Option<(u64, u64)>; 2] {
     if map.insert_sync(1, 0).is_err() {
         return [None, None];
@@ -408,12 +410,13 @@ fn map_false_remove_if_keeps_what_it_wrote(rt: HostRuntime) {
 
 type Marked<H> = Owned<MaybeEqual, u64, H>;
 
-// The number and the mark of the stored key, and its value.
+// Returns the number and the mark of the stored key, and its value.
 fn marked<H: BuildHasher>(map: &Marked<H>, number: u64) -> Option<(u64, u64, u64)> {
     map.read_sync(&MaybeEqual(number, 0), |key, value| (key.0, key.1, *value))
 }
 
-// Replaces a key. The mark of the old key, the mark of the new one and the value; None if there was none.
+// Replaces a key. Returns the mark of the old key, the mark of the new key and the value, or `None` if the key was
+// missing.
 fn replace<H: BuildHasher>(map: &mut Marked<H>, number: u64, mark: u64) -> Option<(u64, u64, u64)> {
     match map.replace_sync(MaybeEqual(number, mark)) {
         ReplaceResult::Replaced(entry, old) => Some((old.1, entry.key().1, *entry.get())),
@@ -421,7 +424,8 @@ fn replace<H: BuildHasher>(map: &mut Marked<H>, number: u64, mark: u64) -> Optio
     }
 }
 
-// Sets a value twice, each time by a key with another mark. What was there before, and the stored key with its value.
+// Sets a value twice, each time by a key with another mark. Returns the former value each time, and the stored key
+// with its value.
 fn upsert_twice<H: BuildHasher>(
     map: &mut Marked<H>,
 ) -> ([Option<Option<u64>>; 2], Option<(u64, u64, u64)>) {
@@ -447,7 +451,7 @@ fn map_upsert_keeps_key_replace_swaps_it(rt: HostRuntime) {
     );
 }
 
-// Sets the value of a key through its entry. The number and the mark of the stored key, and its value.
+// Sets the value of a key through its entry. Returns the number and the mark of the stored key, and its value.
 fn set_through_entry<H: BuildHasher>(
     map: &mut Marked<H>,
     key: MaybeEqual,
@@ -471,7 +475,7 @@ fn map_insert_entry_keeps_the_stored_key(rt: HostRuntime) {
     );
 }
 
-// Whether the keys (i, 100 + i) went in, each with the value i.
+// Inserts the keys (i, 100 + i) below `end`, each with the value i, and returns whether each went in.
 fn insert_marked(map: &mut Marked<Zero>, end: u64) -> bool {
     for i in 0..end {
         let key = MaybeEqual(i, i.saturating_add(100));
@@ -482,7 +486,7 @@ fn insert_marked(map: &mut Marked<Zero>, end: u64) -> bool {
     true
 }
 
-// Whether each of them is replaced by the key (i, 200 + i).
+// Replaces each key below `end` by (i, 200 + i), and returns whether each replacement succeeded.
 fn replace_marked(map: &mut Marked<Zero>, end: u64) -> bool {
     for i in 0..end {
         let (old, new) = (i.saturating_add(100), i.saturating_add(200));
@@ -493,7 +497,7 @@ fn replace_marked(map: &mut Marked<Zero>, end: u64) -> bool {
     true
 }
 
-// Whether each is stored so, with its value.
+// Returns whether each key below `end` is stored as (i, 200 + i) with its value.
 fn are_replaced(map: &Marked<Zero>, end: u64) -> bool {
     for i in 0..end {
         if marked(map, i) != Some((i, i.saturating_add(200), i)) {
@@ -526,14 +530,14 @@ fn map_try_from_iter_last_wins(rt: HostRuntime) {
     }
 }
 
-// Inserts three pairs, the keys 1, 2 and 3 with these values.
+// Inserts the keys 1, 2 and 3 with `values`.
 fn insert_three(map: &mut Owned<u64, u64>, values: [u64; 3]) -> bool {
     map.insert_sync(1, values[0]).is_ok()
         && map.insert_sync(2, values[1]).is_ok()
         && map.insert_sync(3, values[2]).is_ok()
 }
 
-// A walk that takes out key 1 and stops: whether it stopped.
+// Walks with a closure that takes key 1 and stops. Returns whether the walk stopped.
 fn take_one(map: &mut Owned<u64, u64>, taken: &mut Vec<(u64, u64)>) -> bool {
     let ended = map.iter_mut_sync(
         |key, _| {
@@ -561,7 +565,7 @@ fn map_take_stop_takes_and_stops(rt: HostRuntime) {
     expect_eq(&rt, (held, map.len()), ([true; 4], 2));
 }
 
-// A walk with a closure that writes 9 and stops at its first call: whether it stopped.
+// Walks with a closure that writes 9 and returns `verdict` at once. Returns whether the walk stopped.
 fn write_and_stop(
     map: &mut Owned<u64, u64>,
     taken: &mut Vec<(u64, u64)>,
@@ -577,7 +581,7 @@ fn write_and_stop(
     ended == Ok(false)
 }
 
-// How many pairs have the value 9, and how many 0.
+// Returns the number of pairs with the value 9, and the number of pairs with the value 0.
 fn nines_and_zeros(map: &Owned<u64, u64>) -> (usize, usize) {
     let (mut nines, mut zeros) = (0usize, 0usize);
     map.iter_sync(|_, value| {
@@ -591,7 +595,7 @@ fn nines_and_zeros(map: &Owned<u64, u64>) -> (usize, usize) {
     (nines, zeros)
 }
 
-// How many of the pairs have the value 9.
+// Returns the number of pairs with the value 9.
 fn nines_of(pairs: &[(u64, u64)]) -> usize {
     let mut nines = 0usize;
     for pair in pairs {
@@ -602,8 +606,8 @@ fn nines_of(pairs: &[(u64, u64)]) -> usize {
     nines
 }
 
-// Inserts (1, 0), (2, 0) and (3, 0), and walks so. The walk stops; that are how many pairs were taken, how many of those
-// have 9, and of those that are left how many have 9 and how many 0.
+// Inserts (1, 0), (2, 0) and (3, 0), and walks with `verdict`. The walk must stop. `wanted` is the number of taken
+// pairs, the number of taken pairs with the value 9, and the numbers of pairs left with the value 9 and with 0.
 fn expect_stop<R: AllocGlobal + Abort>(rt: &R, verdict: Verdict, wanted: [usize; 4]) {
     let mut map: Owned<u64, u64> = Owned::new(rt.alloc());
     let mut taken = Vec::new(rt.alloc());
@@ -658,14 +662,14 @@ fn release_of_foreign_and_own_tokens(rt: HostRuntime) {
     expect(&rt, foreign_and_own_tokens(&mut first, &mut second));
 }
 
-// The capacity, and both ends of its range.
+// Returns the capacity and both ends of its range.
 fn range_of(map: &Owned<u64, u64>) -> (usize, usize, usize) {
     let range = map.capacity_range();
     (map.capacity(), *range.start(), *range.end())
 }
 
-// Reserves the greatest capacity. The minimum and the maximum then, whether one more slot is refused, and whether the
-// token is taken back.
+// Reserves the greatest capacity. Returns the minimum and the maximum then, whether one more slot is refused, and
+// whether the map takes the token back.
 fn reserve_all(map: &mut Owned<u64, u64>) -> (usize, usize, bool, bool) {
     match map.reserve(GREATEST) {
         Some(token) => {
@@ -688,8 +692,8 @@ fn map_reserve_to_the_greatest_capacity(rt: HostRuntime) {
     );
 }
 
-// Reserves 100 slots of the first map, and gives the token to the second. How many slots the token has that comes back,
-// the minimum of each then, and whether the first map takes it.
+// Reserves 100 slots of `first`, and hands the token to `second`. Returns the slots of the token that comes back, the
+// minimum of each map then, and whether `first` takes the token.
 fn release_elsewhere(
     first: &mut Owned<u64, u64>,
     second: &mut Owned<u64, u64>,
@@ -720,8 +724,8 @@ fn map_refuses_a_foreign_token(rt: HostRuntime) {
     );
 }
 
-// What a clone is: whether it equals its original, its length and capacity, and both ends of its range; and whether the
-// first 24 keys can be removed from it, and its length and capacity then.
+// Clones `map`, and returns whether the clone equals it, the clone's length, its capacity and both ends of its range;
+// and whether the first 24 keys can be removed from the clone, and its length and capacity then.
 fn shrink_clone(map: &Numbers<Zero>) -> Option<(bool, [usize; 4], bool, [usize; 2])> {
     match map.try_clone() {
         Ok(mut copy) => {
@@ -748,13 +752,13 @@ fn map_clone_has_its_capacity_as_minimum(rt: HostRuntime) {
     );
 }
 
-// The bucket of a key in a map without an array.
+// Returns the bucket of a key in a map without an array.
 fn place_without_array(alloc: Global) -> usize {
     let map: Owned<u64, u64> = Owned::new(alloc);
     map.bucket_index(&0)
 }
 
-// The capacity of a map with room for 1024 pairs, and the buckets of two keys in it.
+// Returns the capacity of a map with room for 1024 pairs, and the buckets of two keys in it.
 fn places(alloc: Global) -> Option<(usize, usize, usize)> {
     match Numbers::with_capacity_and_hasher(alloc, 1024, Same) {
         Ok(map) => Some((

@@ -1,4 +1,4 @@
-// A memo of squares. Under `Zero` all keys share a bucket.
+// Tests of a memo of squares. Under `Zero` all keys share a bucket.
 ghost use Rattle.std.specs.Prelude.{◌*◌};
 ghost use Rattle.std.proofs.Common.{ap};
 ghost use Rattle.std.proofs.lemmas.Bool.{eqb-true};
@@ -8,7 +8,7 @@ use scc::memo::{Memo, Pure};
 use std::process::Abort;
 use test_kit::zero::Zero;
 
-// The square of a number.
+// Computes the square of a number.
 #[derive(Drop)]
 struct Square;
 
@@ -27,7 +27,7 @@ impl Pure for Square {
     }
 }
 
-// Whether each key below 32 has its square.
+// Returns whether each key below 32 has its square.
 fn has_squares(memo: &mut Memo<Square, Zero>) -> bool {
     for key in 0..32u64 {
         if memo.get(key) != u128::from(key) * u128::from(key) {

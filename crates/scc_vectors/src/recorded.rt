@@ -1,4 +1,5 @@
-// Recorded maps of two stripes with two passes, in one thread. Under `Same` the highest bit of a key names its stripe.
+// Tests of recorded maps of two stripes with two passes, single-threaded. Under `Same` the highest bit of a key names
+// its stripe.
 ghost use Rattle.std.specs.Prelude.{◌≡◌, Some};
 ghost use Rattle.scc_recorded.specs.Setups.{request_of};
 
@@ -18,42 +19,42 @@ type Map = Owned<u64, u64, Shared<Same>>;
 
 const HIGH: u64 = 1 << 63;
 
-// Who of the two makes a call: the one with pass 0, or the one with pass 1.
+// Which pass makes a call: pass 0 or pass 1.
 #[derive(Clone, Copy)]
 enum Who {
     First,
     Second,
 }
 
-// What one of them does.
+// An act of one of the two.
 #[derive(Clone, Copy)]
 enum Act {
     Insert(u64, u64),
     Read(u64),
     Clear,
     Len,
-    // It is told of the other.
+    // The pass learns the other's clock.
     Told,
 }
 
-// What was seen, in its order.
+// An observation. A test lists its observations in their order.
 #[derive(Clone, Copy, Debug, PartialEq)]
 enum Note {
-    // A call answered that.
+    // A call got this reply.
     Answer(Reply<u64, u64>),
-    // Nothing was answered, since nothing was called.
+    // No call was made, so there is no reply.
     Told,
     // Memory was refused.
     Refused,
-    // A finish was refused. So many stripes and passes came back.
+    // A finish was refused. This many stripes and passes came back.
     Back(FinishError, usize, usize),
-    // In the order of the finished run: a step in the stripe with that number.
+    // A step in the stripe with this number. Steps stand in the order of the finished run.
     Step(usize, Step<MapCall<u64, u64>, Reply<u64, u64>>),
-    // So many pairs are left in all stripes.
+    // This many pairs are left in all stripes.
     Left(usize),
 }
 
-// A call by a pass in a stripe, as its record has it.
+// Returns the step of a call by `pass` in `stripe`, as its record has it.
 fn call(
     stripe: usize,
     stamp: u64,
@@ -72,12 +73,12 @@ fn call(
     )
 }
 
-// The array of two buckets that the first insertion in a stripe makes, as the history has it.
+// Returns the step of the first insertion's array in a stripe, two buckets, as the history has it.
 fn array(stripe: usize, stamp: u64) -> Note {
     Note::Step(stripe, Step::Resize { stamp, buckets: 2 })
 }
 
-// What the act of a pass answers.
+// Makes an act by a pass, and returns what is seen of it.
 fn answer<L: Ledger, M: Site<Shared<Same>>, R: Wait>(
     rt: &R,
     recorded: &Recorded<Map, L, M>,
@@ -109,7 +110,7 @@ fn answer<L: Ledger, M: Site<Shared<Same>>, R: Wait>(
     }
 }
 
-// Notes what each act answers.
+// Makes the acts in turn, and notes what is seen of each.
 fn act_in_turn<L: Ledger, M: Site<Shared<Same>>, R: Wait>(
     rt: &R,
     recorded: &Recorded<Map, L, M>,
@@ -127,12 +128,12 @@ fn act_in_turn<L: Ledger, M: Site<Shared<Same>>, R: Wait>(
     }
 }
 
-// Adds a note. One that finds no room is missing where all are compared.
+// Adds a note. If memory is refused, the note is lost, and the comparison of all notes fails.
 fn add(notes: &mut Vec<Note>, note: Note) {
     let _ = notes.push(note);
 }
 
-// Notes the step at that place.
+// Notes the step at `place`.
 fn note_step(finished: &Finished<Map>, place: (usize, usize), notes: &mut Vec<Note>) {
     if let Some(history) = finished.histories.get(place.0) {
         if let Some(step) = history.get(place.1) {
@@ -141,7 +142,7 @@ fn note_step(finished: &Finished<Map>, place: (usize, usize), notes: &mut Vec<No
     }
 }
 
-// How many pairs are left in all stripes.
+// Returns the number of pairs in all of `parts`.
 fn left_in(parts: &[Map]) -> usize {
     let mut left = 0usize;
     for part in parts {
@@ -150,7 +151,7 @@ fn left_in(parts: &[Map]) -> usize {
     left
 }
 
-// Notes each step along the order of the run, and how many pairs are left.
+// Notes each step in the order of the run, and the number of pairs left.
 fn note_run(finished: &Finished<Map>, notes: &mut Vec<Note>) {
     for place in finished.order.as_slice() {
         note_step(finished, *place, notes);
@@ -158,7 +159,7 @@ fn note_run(finished: &Finished<Map>, notes: &mut Vec<Note>) {
     add(notes, Note::Left(left_in(finished.parts.as_slice())));
 }
 
-// Finishes the run with these passes, and notes it. What came back is answered.
+// Finishes the run with `passes`, and notes what is seen. Returns what came back if the finish was refused.
 fn finish<L: Ledger, M: Site<Shared<Same>>>(
     closed: Closed<Map, L, M>,
     passes: Vec<Pass<Map, L>>,
@@ -177,7 +178,7 @@ fn finish<L: Ledger, M: Site<Shared<Same>>>(
     }
 }
 
-// Finishes the run with the first pass alone, and then with both.
+// Finishes the run with the first pass alone, and then with both passes.
 fn finish_again<L: Ledger, M: Site<Shared<Same>>>(
     closed: Closed<Map, L, M>,
     passes: Vec<Pass<Map, L>>,
@@ -193,7 +194,7 @@ fn finish_again<L: Ledger, M: Site<Shared<Same>>>(
     }
 }
 
-// Finishes the run with one pass more.
+// Finishes the run with `passes` and `last`.
 fn finish_with<L: Ledger, M: Site<Shared<Same>>>(
     closed: Closed<Map, L, M>,
     passes: Vec<Pass<Map, L>>,
@@ -207,13 +208,14 @@ fn finish_with<L: Ledger, M: Site<Shared<Same>>>(
 // Which passes the run is finished with.
 #[derive(Clone, Copy)]
 enum Ends {
-    // With both.
+    // With both passes.
     WithBoth,
-    // With the first alone, and then with both.
+    // With the first pass alone, and then with both.
     WithOneThenBoth,
 }
 
-// What two do by turns with their passes, and how the run ends, all noted. False where memory was refused.
+// Makes the acts of both passes in turn, ends the run, and notes all that is seen. Returns false if memory was
+// refused.
 fn play<L: Ledger, M: Site<Shared<Same>>, R: Wait>(
     rt: &R,
     alloc: Global,
@@ -239,7 +241,7 @@ fn play<L: Ledger, M: Site<Shared<Same>>, R: Wait>(
     }
 }
 
-// The same with the two passes that were handed out.
+// Makes the acts and ends the run, as `play` does, with the two passes that were handed out.
 fn play_on<L: Ledger, M: Site<Shared<Same>>, R: Wait>(
     rt: &R,
     recorded: Recorded<Map, L, M>,
@@ -257,7 +259,7 @@ fn play_on<L: Ledger, M: Site<Shared<Same>>, R: Wait>(
     }
 }
 
-// Has both act with their passes.
+// Makes the acts of both passes in turn.
 fn act_by_both<L: Ledger, M: Site<Shared<Same>>, R: Wait>(
     rt: &R,
     recorded: &Recorded<Map, L, M>,
@@ -270,7 +272,7 @@ fn act_by_both<L: Ledger, M: Site<Shared<Same>>, R: Wait>(
     }
 }
 
-// Plays, and compares all that was noted.
+// Plays the acts, and compares all notes with those wanted.
 fn expect_notes<R: AllocGlobal + Abort + Wait>(
     rt: &R,
     acts: &[(Who, Act)],
@@ -294,8 +296,8 @@ fn expect_notes<R: AllocGlobal + Abort + Wait>(
     expect_eq(rt, (is_played, notes.as_slice()), (true, wanted));
 }
 
-// A stamp is one more than the greater of what its pass knows of and the last one of its stripe, so two calls in two
-// stripes may have the same. The order of the run is by stamps, and for one stamp by stripes.
+// A stamp is one more than the greater of the pass's clock and the stripe's last stamp, so two calls in two stripes
+// may have equal stamps. The order of the run is by stamps, and by stripes if the stamps are equal.
 #[test]
 fn recorded_stamps_and_order(rt: HostRuntime) {
     let acts = [

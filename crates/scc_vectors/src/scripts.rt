@@ -1,11 +1,11 @@
-// Scripts: what the program writes of one, and its status.
+// Tests of scripts: the text that the program writes, and its exit status.
 use crate::expect::expect_eq;
 use scc_play::play::{BAD_CALL, FINISHED, play};
 use std::process::Abort;
 use std::sync::Wait;
 use std::thread::Threads;
 
-// Plays a script. It writes that text and ends in that status.
+// Plays a script, and checks the text that it writes and the status that it ends with.
 fn expect_run<R: AllocGlobal + Abort + Threads + Wait + Sync>(
     rt: &R,
     script: &str,
@@ -61,7 +61,7 @@ fn run_map_on_two_stripes_len_and_clear(rt: HostRuntime) {
     );
 }
 
-// Keys 0 to 32 share a bucket of 32 slots, so the last put takes the place of the first.
+// Keys 0 to 32 share a bucket of 32 slots, so the last put evicts key 0.
 #[test]
 fn run_cache_evicts_the_first(rt: HostRuntime) {
     expect_run(

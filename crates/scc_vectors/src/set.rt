@@ -1,4 +1,4 @@
-// The set for one owner.
+// Tests of the single-threaded set.
 use crate::expect::{expect, expect_eq};
 use crate::reserving::{foreign_and_own_tokens, grows_and_gives_back, sizes_without_array};
 use scc::Verdict;
@@ -10,7 +10,8 @@ use test_kit::zero::Zero;
 
 const GREATEST: usize = 1 << 63;
 
-// Replaces a key: the mark of the old one, None if there was none, and None if the call was refused.
+// Replaces a key. Returns the mark of the old key, with `None` inside if the key was missing, or `None` if the call
+// fails.
 fn replace<H: BuildHasher>(
     set: &mut Owned<MaybeEqual, H>,
     number: u64,
@@ -23,7 +24,7 @@ fn replace<H: BuildHasher>(
     }
 }
 
-// The mark of the stored key.
+// Returns the mark of the stored key.
 fn mark_of<H: BuildHasher>(set: &Owned<MaybeEqual, H>, number: u64) -> Option<u64> {
     set.read_sync(&MaybeEqual(number, 0), |key| key.1)
 }
@@ -47,7 +48,7 @@ fn set_try_from_iter_counts_once(rt: HostRuntime) {
     }
 }
 
-// The first key, and the same one that is then taken out.
+// Returns the first key, and the key that is then removed through its entry.
 fn take_first(set: &mut Owned<u64>) -> Option<(u64, u64)> {
     match set.begin_sync() {
         Some(first) => {
@@ -80,7 +81,7 @@ fn insert_three(set: &mut Owned<u64>) -> bool {
     true
 }
 
-// Whether none of the keys is there.
+// Returns whether none of `keys` is present.
 fn are_gone(set: &Owned<u64>, keys: &[u64]) -> bool {
     for key in keys {
         if set.contains_sync(key) {
@@ -90,8 +91,8 @@ fn are_gone(set: &Owned<u64>, keys: &[u64]) -> bool {
     true
 }
 
-// Inserts 1, 2 and 3, and walks with a closure that stops at its first call. The walk stops; so many keys are taken, which
-// are gone, and so many are left.
+// Inserts 1, 2 and 3, and walks with a closure that stops at its first call. The walk must stop. `taken` keys are
+// removed, and `left` keys stay.
 fn expect_stop<R: AllocGlobal + Abort>(rt: &R, verdict: Verdict, taken: usize, left: usize) {
     let mut set: Owned<u64> = Owned::new(rt.alloc());
     let mut keys = Vec::new(rt.alloc());
@@ -118,8 +119,8 @@ fn set_iter_mut_keep_stop_at_first(rt: HostRuntime) {
     expect_stop(&rt, Verdict::KeepStop, 0, 3);
 }
 
-// Replaces the keys below 40 by such with that mark above their number. Whether each of them had this mark, or was
-// missing.
+// Replaces each key below 40 by one whose mark is the number plus `above`. Returns whether each key had the mark
+// number plus `old`, or was missing if `old` is `None`.
 fn replace_all(set: &mut Owned<MaybeEqual, Zero>, above: u64, old: Option<u64>) -> bool {
     for i in 0..40u64 {
         let wanted = match old {
@@ -133,7 +134,7 @@ fn replace_all(set: &mut Owned<MaybeEqual, Zero>, above: u64, old: Option<u64>) 
     true
 }
 
-// Whether each of them is stored with that mark.
+// Returns whether each key below 40 is stored with the mark number plus `above`.
 fn have_marks(set: &Owned<MaybeEqual, Zero>, above: u64) -> bool {
     for i in 0..40u64 {
         if mark_of(set, i) != Some(i.saturating_add(above)) {

@@ -1,5 +1,5 @@
-// The containers that threads share, in one thread. Under `Zero` all keys share a stripe and a bucket; under `Same` the
-// highest bits of a key name its stripe, and those after them its bucket.
+// Tests of the shared containers in one thread. Under `Zero` all keys share a stripe and a bucket; under `Same` the
+// highest bits of a key name its stripe, and the bits after them its bucket.
 use crate::expect::{expect, expect_eq};
 use scc::{HashCache, HashIndex, HashMap, HashSet};
 use scc_script::same::Same;
@@ -12,8 +12,8 @@ const HALF: u64 = 1 << 63;
 
 const GREATEST: usize = 1 << 63;
 
-// Whether a thread that holds the entry of key 1 gets through a call on another key. In one stripe it would wait for
-// itself, up to the limit of a test.
+// Returns whether a thread that holds the entry of key 1 gets through a call on `other`. If both were in one stripe,
+// the thread would wait for itself, up to the limit of a test.
 fn comes_through(rt: &impl Wait, map: &HashMap<u64, u64, Same>, other: u64) -> bool {
     match map.get_sync(rt, &1) {
         Some(entry) => map.contains_sync(rt, &other) && *entry.key() == 1,
@@ -21,7 +21,7 @@ fn comes_through(rt: &impl Wait, map: &HashMap<u64, u64, Same>, other: u64) -> b
     }
 }
 
-// Inserts a key of each stripe. Whether both went in, and the stripes of both and of the greatest key.
+// Inserts a key of each stripe. Returns whether both went in, and the stripes of both keys and of the greatest key.
 fn insert_in_both(rt: &impl Wait, map: &HashMap<u64, u64, Same>) -> (bool, [usize; 3]) {
     let are_inserted = map.insert_sync(rt, 1, 10).is_ok()
         && map.insert_sync(rt, HALF + 1, 20).is_ok();
@@ -49,7 +49,7 @@ fn shared_map_of_two_stripes(rt: HostRuntime) {
     }
 }
 
-// Puts a key with itself as value. The key that went for it, if one did; None if the put was refused.
+// Puts a key with itself as value. Returns the key that the put evicts, if any, or `None` if the put fails.
 fn put<H: BuildHasher>(
     rt: &impl Wait,
     cache: &HashCache<u64, u64, H>,
@@ -62,7 +62,7 @@ fn put<H: BuildHasher>(
     }
 }
 
-// Puts the keys 0 to 31. Whether no pair went for one.
+// Puts the keys 0 to 31, and returns whether no put evicted a pair.
 fn fill<H: BuildHasher>(rt: &impl Wait, cache: &HashCache<u64, u64, H>) -> bool {
     for key in 0..32 {
         if put(rt, cache, key) != Some(None) {
@@ -72,7 +72,7 @@ fn fill<H: BuildHasher>(rt: &impl Wait, cache: &HashCache<u64, u64, H>) -> bool 
     true
 }
 
-// The length and the capacity, and both ends of its range.
+// Returns the length, the capacity, and both ends of its range.
 fn cache_sizes<H: BuildHasher>(rt: &impl Wait, cache: &HashCache<u64, u64, H>) -> [usize; 4] {
     let range = cache.capacity_range();
     [
@@ -83,7 +83,7 @@ fn cache_sizes<H: BuildHasher>(rt: &impl Wait, cache: &HashCache<u64, u64, H>) -
     ]
 }
 
-// Each of the four stripes has at most 64 slots, so that 32 pairs in a bucket double nothing.
+// Each of the four stripes has at most 64 slots, so 32 pairs in a bucket don't double a stripe.
 #[test]
 fn shared_cache_of_four_stripes_evicts(rt: HostRuntime) {
     match HashCache::with_hasher(rt.alloc(), Zero) {
@@ -99,8 +99,8 @@ fn shared_cache_of_four_stripes_evicts(rt: HostRuntime) {
     }
 }
 
-// Whether a thread that holds the entry of key 1 gets through a put of another key. In one stripe it would wait for
-// itself, up to the limit of a test.
+// Returns whether a thread that holds the entry of key 1 gets through a put of `other`. If both were in one stripe,
+// the thread would wait for itself, up to the limit of a test.
 fn puts_beside_an_entry(rt: &impl Wait, cache: &HashCache<u64, u64, Same>, other: u64) -> bool {
     match cache.get_sync(rt, &1) {
         Some(entry) => put(rt, cache, other) == Some(None) && *entry.key() == 1,
@@ -108,8 +108,8 @@ fn puts_beside_an_entry(rt: &impl Wait, cache: &HashCache<u64, u64, Same>, other
     }
 }
 
-// Two stripes of 64 slots each: the 33rd key of a bucket finds its stripe half full, which doubles, and the other stays.
-// One stripe of 128 slots wouldn't be half full, and four would have 256.
+// Two stripes of 64 slots each: the 33rd key of a bucket finds its stripe half full, which doubles, and the other
+// stripe stays. One stripe of 128 slots wouldn't be half full, and four stripes would have 256 slots.
 #[test]
 fn shared_cache_capacities(rt: HostRuntime) {
     match HashCache::with_capacity_and_hasher(rt.alloc(), 100, 2000, Same) {
@@ -140,7 +140,7 @@ fn shared_cache_capacities(rt: HostRuntime) {
     }
 }
 
-// The value of each of the next three versions, None where none came.
+// Returns the values of the next three versions, with `None` for a missing version.
 fn next_three(index: &HashIndex<u64, u64>, rt: &impl Wait) -> Option<[Option<u64>; 3]> {
     match index.iter(rt) {
         Ok(mut versions) => {
@@ -154,7 +154,7 @@ fn next_three(index: &HashIndex<u64, u64>, rt: &impl Wait) -> Option<[Option<u64
     }
 }
 
-// Whether the key was there and has that value now.
+// Sets the value of `key`, and returns whether the key was present and now has `value`.
 fn update(index: &HashIndex<u64, u64>, rt: &impl Wait, key: u64, value: u64) -> bool {
     match index.get_sync(rt, &key) {
         Some(mut entry) => entry.update(value).is_ok(),
@@ -162,14 +162,14 @@ fn update(index: &HashIndex<u64, u64>, rt: &impl Wait, key: u64, value: u64) -> 
     }
 }
 
-// Whether the key has that value, now that it got it, and whether a walk over versions shows that alone.
+// Returns whether `key` has `value`, and a walk over versions shows this value alone.
 fn shows_alone(index: &HashIndex<u64, u64>, rt: &impl Wait, key: u64, value: u64) -> bool {
     index.peek_with(rt, &key, |_, value| *value) == Some(value)
         && next_three(index, rt) == Some([Some(value), None, None])
 }
 
-// The value of a version of the key that is held while the index gets another one, and goes. None where a call on the
-// index answers something else.
+// Returns the value of a version of a key that is held while the index updates the key and is dropped. Returns `None`
+// if a call on the index returns something else.
 fn peek_across<R: Wait>(rt: &R, index: HashIndex<u64, u64>) -> Option<u64> {
     if index.entry_sync(rt, 37).or_insert(11).is_err() {
         return None;
@@ -192,30 +192,31 @@ fn shared_index_peeked_version_stays(rt: HostRuntime) {
     }
 }
 
-// A container that is filled, and refuses reservations.
+// A container that is filled, and that refuses impossible reservations.
 trait Filling {
-    // Adds a key that is missing.
+    // Adds a key that is missing, and returns whether it went in.
     fn add<R: Wait>(&self, rt: &R, key: u64) -> bool;
 
-    // The capacity, and both ends of its range.
+    // Returns the capacity, and both ends of its range.
     fn sizes<R: Wait>(&self, rt: &R) -> [usize; 3];
 
-    // Whether so many slots are refused.
+    // Returns whether a reservation of `slots` is refused.
     fn refuses<R: Wait>(&self, rt: &R, slots: usize) -> bool;
 }
 
-// One that takes reservations, each for as long as it is held.
+// A container that takes reservations, each for as long as it is held.
 trait Reserving: Filling {
-    // The sizes with so many slots reserved, and then with the keys from `first` on and before `end` as well. None where
-    // the reservation has another number of slots, the greatest number of slots or none isn't refused, or a key doesn't go
-    // in.
+    // Returns the sizes while `slots` are reserved, and then also with the keys from `first` up to, but without, `end`
+    // added. Returns `None` if the reservation has another number of slots, if the greatest number of slots or 0 isn't
+    // refused, or if a key doesn't go in.
     fn hold<R: Wait>(&self, rt: &R, slots: usize, first: u64, end: u64) -> Option<[[usize; 3]; 2]>;
 
-    // The sizes with 100 and 200 slots reserved, then with 200 alone, and then with none.
+    // Returns the sizes with 100 and 200 slots reserved, then with 200 alone, and then with none.
     fn hold_both<R: Wait>(&self, rt: &R) -> Option<[[usize; 3]; 3]>;
 }
 
-// Whether the greatest number of slots and none are refused, and the keys go in.
+// Adds the keys from `first` up to, but without, `end`. Returns whether each went in and reservations of the greatest
+// number of slots and of 0 are refused.
 fn refuses_and_adds<C: Filling, R: Wait>(rt: &R, form: &C, first: u64, end: u64) -> bool {
     for key in first..end {
         if !form.add(rt, key) {
@@ -354,7 +355,7 @@ impl Reserving for HashIndex<u64, u64> {
     }
 }
 
-// A container of 1024 slots grows by a reservation, and gives back what it took, also with 16 keys.
+// A container of 1024 slots grows by a reservation, and releases the extra capacity afterwards, also with 16 keys.
 fn expect_growth<C: Reserving, R: Abort + Wait>(rt: &R, form: &C) {
     let bare = form.sizes(rt);
     let held = form.hold(rt, 10_000, 0, 16);
@@ -394,7 +395,7 @@ fn shared_index_reserve_grows_and_gives_back(rt: HostRuntime) {
     }
 }
 
-// Each of the 16 stripes has its sixteenth of the 1000 slots, rounded up: 63, for which an array of 64 slots is made.
+// Each of the 16 stripes has a sixteenth of the 1000 slots, rounded up: 63, for which an array of 64 slots is made.
 fn expect_first_array<C: Reserving, R: Abort + Wait>(rt: &R, form: &C) {
     let bare = form.sizes(rt);
     let held = form.hold(rt, 1000, 1, 2);
@@ -432,7 +433,7 @@ fn shared_index_reserve_without_array(rt: HostRuntime) {
     }
 }
 
-// Two reservations add up, and each gives back its own.
+// Two reservations add up, and each releases its own slots.
 fn expect_sums<C: Reserving, R: Abort + Wait>(rt: &R, form: &C) {
     let sums = [[0, 300, GREATEST], [0, 200, GREATEST], [0, 0, GREATEST]];
     expect_eq(rt, form.hold_both(rt), Some(sums));

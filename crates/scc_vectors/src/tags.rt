@@ -1,4 +1,4 @@
-// The search of 32 tags at once.
+// Tests of the search of 32 tags at once.
 use crate::expect::expect_eq;
 use scc::hash_table::tags::tag_mask;
 

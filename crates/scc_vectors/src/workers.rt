@@ -1,16 +1,16 @@
-// Workers on threads of their own, who make turns and pass a gate before each.
+// Workers on threads of their own, which make turns and pass a gate before each.
 use crate::expect::expect_eq;
 use scc::stripes::{Gate, Open, RunError, Work, run};
 use std::process::Abort;
 
-// A worker of five turns. It counts those that it made; one turn may answer false.
+// A worker of five turns that counts the turns that it made. One turn may return false.
 #[derive(Drop)]
 struct Turns {
     made: usize,
     last: usize,
 }
 
-// A worker whose turn with that number answers false, if it has one.
+// Returns a worker whose turn with the number `last` returns false. If `last` is 5 or more, none does.
 fn up_to(last: usize) -> Turns {
     Turns { made: 0, last }
 }
@@ -26,7 +26,7 @@ impl Work for Turns {
     }
 }
 
-// Gives up worker 1 before its turn 3.
+// A gate that gives up worker 1 before its turn 3.
 #[derive(Drop)]
 struct GivesUp;
 

@@ -1,4 +1,4 @@
-// A cache whose keys share a bucket of 32 slots, and whose new array is refused.
+// Tests of a cache whose keys share a bucket of 32 slots, and whose new array is refused.
 use crate::expect::{expect, expect_eq};
 use scc::InsertError;
 use scc::hash_cache::Owned;
@@ -9,11 +9,11 @@ use test_kit::zero::Zero;
 
 type Cache = Owned<u64, u64, Zero>;
 
-// More than the requests that are refused in a row.
+// The limit of tries of a call. It is greater than the number of requests that are refused in a row.
 const TRIES: u64 = 32;
 
-// Puts a key with its complement as value. The pair that went for it, if one did; or its own pair, which comes back for want
-// of memory, and None where an equal key is there.
+// Puts a key with its complement as value. Returns the evicted pair, if any. If memory is refused, returns the pair
+// that was to be put, and `None` if an equal key is present.
 fn put(cache: &mut Cache, key: u64) -> Result<Option<(u64, u64)>, Option<(u64, u64)>> {
     match cache.put_sync(key, !key) {
         Ok(evicted) => Ok(evicted),
@@ -22,7 +22,8 @@ fn put(cache: &mut Cache, key: u64) -> Result<Option<(u64, u64)>, Option<(u64, u
     }
 }
 
-// Whether the cache holds the keys from `first` on and below `end`, each with its complement as value, and no other.
+// Returns whether the cache holds the keys from `first` up to, but without, `end`, each with its complement as value,
+// and no other key.
 fn holds(cache: &Cache, first: u64, end: u64) -> bool {
     for key in first..end {
         if cache.read_sync(&key, |_, value| *value) != Some(!key) {
@@ -32,7 +33,7 @@ fn holds(cache: &Cache, first: u64, end: u64) -> bool {
     cache.len() as u64 == end.saturating_sub(first)
 }
 
-// Whether the keys 1 to 31 go in, and no pair goes for one.
+// Puts the keys 1 to 31, and returns whether each went in without an eviction.
 fn put_after_the_first(cache: &mut Cache) -> bool {
     for key in 1..32 {
         if put(cache, key) != Ok(None) {
@@ -42,7 +43,7 @@ fn put_after_the_first(cache: &mut Cache) -> bool {
     true
 }
 
-// Puts the keys 0 to 31. Only the first one takes memory, for its array; it is put again until it goes in.
+// Puts the keys 0 to 31. Only the first put allocates, for the array, and it is made again until it succeeds.
 fn fill<R: Abort + Print>(rt: &R, refusal: &mut Refusal, cache: &mut Cache) {
     for _ in 0..TRIES {
         match put(cache, 0) {
@@ -57,8 +58,8 @@ fn fill<R: Abort + Print>(rt: &R, refusal: &mut Refusal, cache: &mut Cache) {
     expect_eq(rt, (cache.capacity(), holds(cache, 0, 32)), (64, true));
 }
 
-// A put whose new array is refused takes the place of the least recent pair in the old array, and the next put asks for
-// the new one again.
+// A put whose new array is refused evicts the least recent pair of the old array, and the next put asks for the new
+// array again.
 #[test]
 fn cache_refused_array_evicts(rt: HostRuntime) {
     let mut refusal = Refusal::new();
@@ -71,7 +72,7 @@ fn cache_refused_array_evicts(rt: HostRuntime) {
     }
 }
 
-// Puts the keys from 32 on, up to the second one that has the new array.
+// Puts the keys from 32 on until the new array is there. Each put must evict the least recent key.
 fn expect_evictions<R: Abort + Print>(rt: &R, refusal: &mut Refusal, cache: &mut Cache) {
     for least in 0..TRIES {
         let key = least.saturating_add(32);

@@ -1,4 +1,4 @@
-// A finish that is refused hands all back, and is made again until it succeeds.
+// A refused finish hands everything back, and is made again until it succeeds.
 use crate::expect::expect_eq;
 use crate::texts::TRIES;
 use scc::recorded::{Calls, Closed, FinishError, Finished, Pass, Site, Unfinished};
@@ -7,7 +7,7 @@ use std::process::Abort;
 use std::sync::ledger::Ledger;
 use test_kit::refusals::Refusal;
 
-// The clock of each pass, and how many receipts it has, one after another.
+// Returns the number of passes, the sum of their clocks, and the number of their receipts.
 fn clocks_of<C: Calls, L: Ledger>(passes: &[Pass<C, L>]) -> (usize, u64, usize) {
     let (mut clocks, mut receipts) = (0u64, 0usize);
     for pass in passes {
@@ -17,7 +17,7 @@ fn clocks_of<C: Calls, L: Ledger>(passes: &[Pass<C, L>]) -> (usize, u64, usize) 
     (passes.len(), clocks, receipts)
 }
 
-// How many steps the stripes have recorded.
+// Returns the number of stripes, and the number of steps in their histories.
 fn steps_of<C: Calls + Drop, L: Ledger, M: Site<C::Hasher>>(
     closed: &Closed<C, L, M>,
 ) -> (usize, usize)
@@ -31,7 +31,8 @@ where
     (closed.stripes.len(), steps)
 }
 
-// What can be seen of a run that isn't finished: its stripes and their steps, its passes, their clocks and receipts.
+// Returns what can be seen of an unfinished run: the numbers of stripes, steps and passes, the sum of the passes'
+// clocks, and the number of their receipts.
 fn seen_of<C: Calls + Drop, L: Ledger, M: Site<C::Hasher>>(
     closed: &Closed<C, L, M>,
     passes: &[Pass<C, L>],
@@ -44,7 +45,7 @@ where
     [stripes, steps, passes, clocks as usize, receipts]
 }
 
-// What a refused finish handed back, which is what was handed in.
+// Returns what a refused finish handed back, and checks that it is seen as it was `before` the finish.
 fn handed_back<C: Calls + Drop, L: Ledger, M: Site<C::Hasher>, R: Abort + Print>(
     rt: &R,
     refusal: &mut Refusal,
@@ -60,7 +61,7 @@ where
     (back.recorded, back.passes)
 }
 
-// The finished run. None where it is refused each time.
+// Finishes the run. Returns `None` if the finish is refused each time.
 pub(crate) fn finished<C: Calls + Drop, L: Ledger, M: Site<C::Hasher>, R: Abort + Print>(
     rt: &R,
     refusal: &mut Refusal,

@@ -1,6 +1,6 @@
-//! Worked cases of refused memory, each under its own name. Each test holds with all memory there, and whichever
-//! requests in a row are refused: it makes a refused call again until it succeeds, and looks at what is left after each
-//! refusal.
+//! Worked cases of refused memory, each under its own name. Each test holds if no request is refused, and whichever
+//! requests in a row are refused. It makes a refused call again until the call succeeds, and checks what is left after
+//! each refusal.
 #![tactic(auto)]
 
 #[cfg(test)]

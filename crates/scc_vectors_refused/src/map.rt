@@ -1,4 +1,5 @@
-// Maps whose keys share a bucket of 32 slots: a new array, an overflow list and a list of taken pairs that are refused.
+// Tests of maps whose keys share a bucket of 32 slots, and whose new array, overflow list or list of taken pairs is
+// refused.
 use crate::expect::{expect, expect_eq};
 use scc::hash_map::Owned;
 use scc::{InsertError, Verdict};
@@ -9,10 +10,11 @@ use test_kit::zero::Zero;
 
 type Map = Owned<u64, u64, Zero>;
 
-// More than the requests that are refused in a row.
+// The limit of tries of a call. It is greater than the number of requests that are refused in a row.
 const TRIES: u64 = 32;
 
-// Inserts a key with its complement as value. The pair comes back for want of memory, and None where an equal key is there.
+// Inserts a key with its complement as value. If memory is refused, returns the pair, and `None` if an equal key is
+// present.
 fn insert(map: &mut Map, key: u64) -> Result<(), Option<(u64, u64)>> {
     match map.insert_sync(key, !key) {
         Ok(()) => Ok(()),
@@ -21,7 +23,7 @@ fn insert(map: &mut Map, key: u64) -> Result<(), Option<(u64, u64)>> {
     }
 }
 
-// Whether the map holds the keys below `end`, each with its complement as value, and no other.
+// Returns whether the map holds the keys below `end`, each with its complement as value, and no other key.
 fn holds_below(map: &Map, end: u64) -> bool {
     for key in 0..end {
         if map.read_sync(&key, |_, value| *value) != Some(!key) {
@@ -31,7 +33,7 @@ fn holds_below(map: &Map, end: u64) -> bool {
     map.len() as u64 == end
 }
 
-// Whether the keys 1 to 31 go in.
+// Inserts the keys 1 to 31, and returns whether each went in.
 fn insert_after_the_first(map: &mut Map) -> bool {
     for key in 1..32 {
         if insert(map, key).is_err() {
@@ -41,7 +43,7 @@ fn insert_after_the_first(map: &mut Map) -> bool {
     true
 }
 
-// Inserts the keys 0 to 31, each again until it goes in. Only the first one takes memory, for its array.
+// Inserts the keys 0 to 31. Only the first insertion allocates, for the array, and it is made again until it succeeds.
 fn fill<R: Abort + Print>(rt: &R, refusal: &mut Refusal, map: &mut Map) {
     for _ in 0..TRIES {
         match insert(map, 0) {
@@ -56,7 +58,8 @@ fn fill<R: Abort + Print>(rt: &R, refusal: &mut Refusal, map: &mut Map) {
     expect_eq(rt, (map.capacity(), holds_below(map, 32)), (64, true));
 }
 
-// Inserts the key after those below it once. A refused insertion hands its pair back and leaves the others as they are.
+// Inserts `key` once, after the keys below it, and returns whether it went in. A refused insertion hands its pair back
+// and leaves the other keys as they are.
 fn insert_next<R: Abort + Print>(rt: &R, map: &mut Map, key: u64) -> bool {
     let answer = insert(map, key);
     if answer.is_ok() {
@@ -71,7 +74,8 @@ fn insert_next<R: Abort + Print>(rt: &R, map: &mut Map, key: u64) -> bool {
     false
 }
 
-// A refused array leaves the old one, and the key goes to the overflow list. The next insertion asks for the array again.
+// A refused array leaves the old array, and the key goes to the overflow list. The next insertion asks for the array
+// again.
 #[test]
 fn map_refused_array_uses_overflow(rt: HostRuntime) {
     let mut refusal = Refusal::new();
@@ -91,7 +95,7 @@ fn map_refused_array_uses_overflow(rt: HostRuntime) {
     expect(&rt, false);
 }
 
-// Where the overflow list is refused as well, the pair comes back. The call is made again until it succeeds.
+// If the overflow list is refused as well, the pair comes back. The insertion is made again until it succeeds.
 #[test]
 fn map_refused_array_and_overflow(rt: HostRuntime) {
     let mut refusal = Refusal::new();
@@ -111,7 +115,7 @@ fn map_refused_array_and_overflow(rt: HostRuntime) {
     expect(&rt, false);
 }
 
-// An empty list with room for one pair.
+// Returns an empty list with room for one pair, or `None` if memory is refused each time.
 fn listed<R: AllocGlobal + Print>(rt: &R, refusal: &mut Refusal) -> Option<Vec<(u64, u64)>> {
     for _ in 0..TRIES {
         match Vec::with_capacity(rt.alloc(), 1) {
@@ -122,7 +126,8 @@ fn listed<R: AllocGlobal + Print>(rt: &R, refusal: &mut Refusal) -> Option<Vec<(
     None
 }
 
-// Walks with a closure that takes each pair. How often it was called, and whether the walk came to its end.
+// Walks with a closure that takes each pair. Returns the number of the closure's calls, and whether the walk came to
+// its end.
 fn take_all(map: &mut Map, taken: &mut Vec<(u64, u64)>) -> (usize, bool) {
     let mut calls = 0usize;
     let ended = map.iter_mut_sync(
@@ -135,7 +140,8 @@ fn take_all(map: &mut Map, taken: &mut Vec<(u64, u64)>) -> (usize, bool) {
     (calls, ended == Ok(true))
 }
 
-// Takes all three pairs into a list with room for one. A refused walk has called its closure as often as it took a pair.
+// Takes all three pairs into a list with room for one. A refused walk has called its closure once for each pair that
+// it took.
 fn expect_taken<R: Abort + Print>(
     rt: &R,
     refusal: &mut Refusal,

@@ -1,4 +1,4 @@
-// A recorded map that finds no room for a record, and then none for its finish.
+// Tests of a recorded map whose records and whose finish are refused memory.
 ghost use Rattle.std.specs.Prelude.{◌≡◌, Some};
 ghost use Rattle.scc_recorded.specs.Setups.{request_of};
 
@@ -19,13 +19,13 @@ use test_kit::zero::Zero;
 
 type Map = Owned<u64, u64, Shared<Zero>>;
 
-// What a pass says: its clock, and how many receipts it has.
+// Returns the clock of `pass`, and the number of its receipts.
 fn said<L: Ledger>(pass: &Pass<Map, L>) -> (u64, usize) {
     (pass.clock(), pass.receipts().len())
 }
 
-// Inserts (1, 10) until it goes in, under stamp 1. A refused call leaves the clock at 0 and no receipt. Whether one found
-// no room.
+// Inserts (1, 10) until it goes in, under stamp 1. A refused call leaves the clock at 0 and no receipt. Returns
+// whether a call was refused room for its record.
 fn insert<L: Ledger, M: Site<Shared<Zero>>, R: Abort + Print + Wait>(
     rt: &R,
     refusal: &mut Refusal,
@@ -51,7 +51,7 @@ fn insert<L: Ledger, M: Site<Shared<Zero>>, R: Abort + Print + Wait>(
     lacks_room
 }
 
-// The run is the first array and the insertion, both under stamp 1, and the pair is there.
+// Checks that the run is the first array and the insertion, both under stamp 1, and that the pair is present.
 fn expect_run<R: Abort>(rt: &R, run: &Finished<Map>) {
     let steps = [
         Step::Resize {
@@ -78,7 +78,7 @@ fn expect_run<R: Abort>(rt: &R, run: &Finished<Map>) {
     );
 }
 
-// The insertion and the finish by the one pass.
+// Makes the insertion and the finish with the only pass.
 fn insert_and_finish<L: Ledger, M: Site<Shared<Zero>>, R: Abort + Print + Wait>(
     rt: &R,
     refusal: &mut Refusal,
@@ -100,7 +100,7 @@ fn insert_and_finish<L: Ledger, M: Site<Shared<Zero>>, R: Abort + Print + Wait>(
     }
 }
 
-// All on one stripe. False where the container was refused.
+// Runs the test on one stripe. Returns false if the container was refused.
 fn on_one_stripe<L: Ledger, M: Site<Shared<Zero>>, R: AllocGlobal + Abort + Print + Wait>(
     rt: &R,
     refusal: &mut Refusal,

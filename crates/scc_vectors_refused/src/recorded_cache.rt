@@ -1,5 +1,5 @@
-// A recorded cache of numbers and texts. The copies of an evicted pair are made before anything is changed, so a put
-// that is refused one evicts nothing.
+// Tests of a recorded cache of numbers and texts. A put copies the pair that it evicts before it changes anything, so
+// a put whose copy is refused evicts nothing.
 ghost use Rattle.std.specs.Prelude.{◌≡◌, Some};
 ghost use Rattle.scc_recorded.specs.Setups.{request_of};
 
@@ -17,7 +17,8 @@ use test_kit::zero::Zero;
 
 type Names = Owned<u64, String, Shared<Zero>>;
 
-// Whether that is what the put of the key answers: that of key 32 evicts key 0 with its text, and no other evicts.
+// Returns whether `reply` is the reply of the put of `key`: the put of key 32 evicts key 0 with its text, and no other
+// put evicts.
 fn is_answer(key: u64, reply: &Reply<u64, String>) -> bool {
     match reply {
         Reply::Evicted(None) => key < 32,
@@ -26,7 +27,7 @@ fn is_answer(key: u64, reply: &Reply<u64, String>) -> bool {
     }
 }
 
-// How many pairs the cache has, asked for until it is told.
+// Returns the number of pairs in the cache, asking again until the call succeeds.
 fn length<L: Ledger, M: Site<Shared<Zero>>, R: AllocGlobal + Print + Wait>(
     rt: &R,
     refusal: &mut Refusal,
@@ -42,13 +43,14 @@ fn length<L: Ledger, M: Site<Shared<Zero>>, R: AllocGlobal + Print + Wait>(
     None
 }
 
-// What a pass says: its clock, and how many receipts it has.
+// Returns the clock of `pass`, and the number of its receipts.
 fn said<L: Ledger>(pass: &Pass<Names, L>) -> (u64, usize) {
     (pass.clock(), pass.receipts().len())
 }
 
-// Puts a key once, key 0 with the text "x", and every other with an empty one, which takes no memory: whether its answer
-// is right. None where it was refused, as only that of key 32 is for its container.
+// Puts a key once, and returns whether its reply is right, or `None` if the put was refused. Key 0 has the text "x",
+// and every other key an empty text, which allocates nothing. A container refuses only the put of key 32; a refusal by
+// it of another put is wrong.
 fn put<L: Ledger, M: Site<Shared<Zero>>, R: AllocGlobal + Print + Wait>(
     rt: &R,
     refusal: &mut Refusal,
@@ -72,7 +74,7 @@ fn put<L: Ledger, M: Site<Shared<Zero>>, R: AllocGlobal + Print + Wait>(
     }
 }
 
-// Puts a key until it goes in. A refused put leaves the pass as it was, and the pairs below the key.
+// Puts a key until it goes in. A refused put leaves the pass as it was, and the pairs of the keys below.
 fn expect_put<L: Ledger, M: Site<Shared<Zero>>, R: AllocGlobal + Abort + Print + Wait>(
     rt: &R,
     refusal: &mut Refusal,
@@ -92,7 +94,7 @@ fn expect_put<L: Ledger, M: Site<Shared<Zero>>, R: AllocGlobal + Abort + Print +
     expect(rt, false);
 }
 
-// The puts of the keys 0 to 32 by the one pass, in a bucket of 32 slots.
+// Puts the keys 0 to 32 with the only pass, in a bucket of 32 slots.
 fn put_all<L: Ledger, M: Site<Shared<Zero>>, R: AllocGlobal + Abort + Print + Wait>(
     rt: &R,
     refusal: &mut Refusal,
@@ -107,7 +109,7 @@ fn put_all<L: Ledger, M: Site<Shared<Zero>>, R: AllocGlobal + Abort + Print + Wa
     }
 }
 
-// All on one stripe of 64 slots. False where the container was refused.
+// Runs the test on one stripe of 64 slots. Returns false if the container was refused.
 fn on_one_stripe<L: Ledger, M: Site<Shared<Zero>>, R: AllocGlobal + Abort + Print + Wait>(
     rt: &R,
     refusal: &mut Refusal,

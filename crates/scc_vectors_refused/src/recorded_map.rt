@@ -1,4 +1,5 @@
-// A recorded map of texts. Each clone is made before anything is changed, so a refused call leaves all as it was.
+// Tests of a recorded map of texts. A call makes each clone before it changes anything, so a refused call leaves
+// everything as it was.
 ghost use Rattle.std.specs.Prelude.{◌≡◌, IfSome, IsSome, Some};
 ghost use Rattle.scc_calls.specs.MapCalls.{map_key};
 ghost use Rattle.scc_recorded.specs.Setups.{request_of};
@@ -18,7 +19,7 @@ use test_kit::zero::Zero;
 
 type Names = Owned<String, String, Shared<Zero>>;
 
-// The call of that number: an insertion, an upsertion, a removal.
+// Returns the call with this number: an insertion, an upsertion or a removal.
 fn call_of(number: u64, key: String, value: String) -> MapCall<String, String>
     ensures { IsSome (map_key result) }
 {
@@ -29,7 +30,8 @@ fn call_of(number: u64, key: String, value: String) -> MapCall<String, String>
     }
 }
 
-// Whether that is what the call of that number answers: nothing, the old "x", the pair of "a" and "y".
+// Returns whether `reply` is the reply of the call with this number: inserted, the old value "x", or the pair of "a"
+// and "y".
 fn is_answer(number: u64, reply: &Reply<String, String>) -> bool {
     match reply {
         Reply::Inserted => number == 0,
@@ -39,7 +41,7 @@ fn is_answer(number: u64, reply: &Reply<String, String>) -> bool {
     }
 }
 
-// The call of that number with its texts. None where a text is refused each time.
+// Returns the call with this number and its texts, or `None` if a text is refused each time.
 fn made<R: AllocGlobal + Print>(
     rt: &R,
     refusal: &mut Refusal,
@@ -56,12 +58,12 @@ fn made<R: AllocGlobal + Print>(
     }
 }
 
-// What a pass says: its clock, and how many receipts it has.
+// Returns the clock of `pass`, and the number of its receipts.
 fn said<L: Ledger>(pass: &Pass<Names, L>) -> (u64, usize) {
     (pass.clock(), pass.receipts().len())
 }
 
-// Makes the call of that number once: whether its answer is right. None where it was refused.
+// Makes the call with this number once. Returns whether its reply is right, or `None` if the call was refused.
 fn ask<L: Ledger, M: Site<Shared<Zero>>, R: AllocGlobal + Print + Wait>(
     rt: &R,
     refusal: &mut Refusal,
@@ -81,7 +83,7 @@ fn ask<L: Ledger, M: Site<Shared<Zero>>, R: AllocGlobal + Print + Wait>(
     }
 }
 
-// Makes the call of that number until it is answered. A refused one leaves the pass as it was.
+// Makes the call with this number until it succeeds. A refused call leaves the pass as it was.
 fn expect_answer<L: Ledger, M: Site<Shared<Zero>>, R: AllocGlobal + Abort + Print + Wait>(
     rt: &R,
     refusal: &mut Refusal,
@@ -99,8 +101,8 @@ fn expect_answer<L: Ledger, M: Site<Shared<Zero>>, R: AllocGlobal + Abort + Prin
     expect(rt, false);
 }
 
-// Whether the steps are call records with the stamps from 1 on, each with its answer, beside resizes; and how many calls
-// they are.
+// Returns whether the records of `history` have the stamps from 1 on, each with the right reply, and the number of
+// records. Resizes may stand between them.
 fn records_of(history: &[Step<MapCall<String, String>, Reply<String, String>>]) -> (bool, u64) {
     let mut records = 0u64;
     let mut are_right = true;
@@ -114,7 +116,7 @@ fn records_of(history: &[Step<MapCall<String, String>, Reply<String, String>>]) 
     (are_right, records)
 }
 
-// The one stripe has three call records, and nothing is left.
+// Checks that the one stripe has three records, and that nothing is left.
 fn expect_run<R: Abort>(rt: &R, run: &Finished<Names>) {
     for history in run.histories.as_slice() {
         expect_eq(rt, records_of(history.as_slice()), (true, 3));
@@ -125,7 +127,7 @@ fn expect_run<R: Abort>(rt: &R, run: &Finished<Names>) {
     expect_eq(rt, (run.histories.len(), run.parts.len()), (1, 1));
 }
 
-// The three calls by the one pass, and the finish.
+// Makes the three calls with the only pass, and the finish.
 fn call_and_finish<L: Ledger, M: Site<Shared<Zero>>, R: AllocGlobal + Abort + Print + Wait>(
     rt: &R,
     refusal: &mut Refusal,
@@ -144,7 +146,7 @@ fn call_and_finish<L: Ledger, M: Site<Shared<Zero>>, R: AllocGlobal + Abort + Pr
     }
 }
 
-// All on one stripe. False where the container was refused.
+// Runs the test on one stripe. Returns false if the container was refused.
 fn on_one_stripe<L: Ledger, M: Site<Shared<Zero>>, R: AllocGlobal + Abort + Print + Wait>(
     rt: &R,
     refusal: &mut Refusal,

@@ -1,4 +1,4 @@
-// What the recorded cases are made of, asked for again until it is given.
+// The parts that the recorded cases are made of, each asked for again until memory is given.
 use scc::recorded::Shared;
 use std::alloc::Global;
 use std::hash::BuildHasher;
@@ -7,10 +7,10 @@ use std::sync::Arc;
 use test_kit::refusals::Refusal;
 use test_kit::zero::Zero;
 
-// More than the requests that are refused in a row.
+// The limit of tries of a call. It is greater than the number of requests that are refused in a row.
 pub(crate) const TRIES: u64 = 32;
 
-// A text.
+// Returns a text, or `None` if memory is refused each time.
 pub(crate) fn text<R: AllocGlobal + Print>(
     rt: &R,
     refusal: &mut Refusal,
@@ -25,7 +25,7 @@ pub(crate) fn text<R: AllocGlobal + Print>(
     None
 }
 
-// One owner of the hasher.
+// Returns one owner of the hasher, or `None` if memory is refused each time.
 pub(crate) fn shared<R: AllocGlobal + Print>(
     rt: &R,
     refusal: &mut Refusal,

@@ -1,4 +1,4 @@
-// What the calls of a cache answer, and which of them leave the order of a bucket.
+// What the calls of a cache return, and which of them keep the order of a bucket.
 use crate::expect::{expect, expect_eq};
 use crate::rows::{Call, expect_answers};
 use scc::hash_cache::Owned;
@@ -11,7 +11,7 @@ use test_kit::zero::Zero;
 
 type Row = (Call, Answer);
 
-// A put of the key with itself as value, that drives that pair out.
+// A put of `key` with itself as value, which evicts the pair `evicted`.
 fn puts(key: u64, evicted: (u64, u64)) -> Row {
     let pair = (evicted.0, 0, evicted.1);
     (
@@ -41,7 +41,7 @@ fn cache_which_calls_leave_the_order(rt: HostRuntime) {
     expect_in_one_bucket(&rt, &rows);
 }
 
-// What a declined removal wrote stays, and what an accepted one wrote comes back.
+// A declined removal keeps the value that its condition wrote, and an accepted removal returns it.
 #[test]
 fn cache_false_remove_if_keeps_what_it_wrote(rt: HostRuntime) {
     let rows = [
@@ -71,7 +71,7 @@ fn cache_walks_keep_the_order(rt: HostRuntime) {
     expect_in_one_bucket(&rt, &rows);
 }
 
-// A put drives out a pair of its own bucket alone.
+// A put evicts a pair of its own bucket alone.
 #[test]
 fn cache_evicts_from_the_keys_own_bucket(rt: HostRuntime) {
     let other = 1 << 63;

@@ -1,4 +1,4 @@
-// What single calls and entries answer.
+// What single calls and entries return.
 use crate::expect::expect;
 use crate::rows::{Call, expect_answers};
 use scc::{hash_index, hash_map, hash_set};
@@ -10,7 +10,7 @@ use test_forms::form::{Act, At, Way};
 use test_kit::maybe_equal::MaybeEqual;
 use test_kit::zero::Zero;
 
-// The same calls over any hasher: the answers don't depend on it.
+// Calls that return the same under each hasher.
 const CALLS: [(Call, Answer); 11] = [
     (Call::Add(Way::Insert, 11, 7, 17), Answer::Added(None)),
     (
@@ -28,7 +28,7 @@ const CALLS: [(Call, Answer); 11] = [
     (Call::Read(12), Answer::Found(Some((12, 0, 19)))),
 ];
 
-// Makes the calls on a map under that hasher.
+// Makes the calls on a map under `hasher`.
 fn expect_under<H: BuildHasher + Clone + Drop, R: AllocGlobal + Abort>(rt: &R, hasher: H) {
     expect_answers(
         rt,
@@ -48,7 +48,8 @@ fn map_calls_under_each_hasher(rt: HostRuntime) {
     }
 }
 
-// A way through the entry of a key that is there keeps the stored key, and but for `insert_entry` the value.
+// A way through the entry of a key that is there keeps the stored key. All ways but `insert_entry` keep the value
+// too.
 const MAP_ENTRIES: [(Call, Answer); 16] = [
     (
         Call::Add(Way::OrDefault, 1, 0, 7),

@@ -1,4 +1,4 @@
-// When arrays grow and shrink in a map, a set and an index: at the edges of the rules.
+// When the arrays of a map, a set and an index grow and shrink, at the edges of the rules.
 use crate::expect::{expect, expect_eq};
 use crate::rows::{Call, expect_answers, expect_sizes};
 use scc::{Verdict, hash_index, hash_map, hash_set};
@@ -20,7 +20,7 @@ type Index<H> = hash_index::Owned<MaybeEqual, u64, H>;
 
 type Sizes = (Call, (usize, usize, usize));
 
-// Makes the calls on a map under that hasher.
+// Makes the calls on a map under `hasher`.
 fn expect_of_map<H: BuildHasher + Clone + Drop, R: AllocGlobal + Abort>(
     rt: &R,
     hasher: H,
@@ -29,7 +29,7 @@ fn expect_of_map<H: BuildHasher + Clone + Drop, R: AllocGlobal + Abort>(
     expect_sizes(rt, &mut Map::with_hasher(rt.alloc(), hasher), rows);
 }
 
-// The same on a set.
+// Makes the calls on a set under `hasher`.
 fn expect_of_set<H: BuildHasher + Clone + Drop, R: AllocGlobal + Abort>(
     rt: &R,
     hasher: H,
@@ -38,7 +38,7 @@ fn expect_of_set<H: BuildHasher + Clone + Drop, R: AllocGlobal + Abort>(
     expect_sizes(rt, &mut Set::with_hasher(rt.alloc(), hasher), rows);
 }
 
-// The same on an index.
+// Makes the calls on an index under `hasher`.
 fn expect_of_index<H: BuildHasher + Clone + Drop, R: AllocGlobal + Abort>(
     rt: &R,
     hasher: H,
@@ -47,7 +47,7 @@ fn expect_of_index<H: BuildHasher + Clone + Drop, R: AllocGlobal + Abort>(
     expect_sizes(rt, &mut Index::with_hasher(rt.alloc(), hasher), rows);
 }
 
-// The 33rd key of a bucket doubles an array that is half full, and moves two of the new buckets.
+// The 33rd key of a bucket doubles an array that is half full, and relocates the entries of two buckets.
 const IN_ONE_BUCKET: [Sizes; 4] = [
     (Call::Fill(0, 32), (32, 64, 0)),
     (Call::Fill(32, 33), (33, 128, 2)),
@@ -70,7 +70,7 @@ fn index_grows_with_all_keys_in_one_bucket(rt: HostRuntime) {
     expect_of_index(&rt, Zero, &IN_ONE_BUCKET);
 }
 
-// A bucket of 32 pairs has a slot free, since one pair is in its overflow list: that counts as full.
+// A bucket with 32 pairs counts as full, although a slot is free while one pair is in its overflow list.
 const WITH_A_SLOT_FREE: [Sizes; 6] = [
     (Call::Fill(0, 32), (32, 64, 0)),
     (Call::Fill(HALF, HALF + 1), (33, 64, 0)),
@@ -95,7 +95,7 @@ fn index_grows_at_32_pairs_with_a_slot_free(rt: HostRuntime) {
     expect_of_index(&rt, Same, &WITH_A_SLOT_FREE);
 }
 
-// An array that is an eighth full shrinks, also when a pair goes through its entry.
+// An array that is an eighth full shrinks, also if a pair is removed through its entry.
 const BY_ENTRIES: [Sizes; 3] = [
     (Call::Fill(0, 40), (40, 128, 0)),
     (Call::EmptyByEntry(0, 23), (17, 128, 0)),
@@ -117,7 +117,7 @@ fn index_removal_through_an_entry_shrinks(rt: HostRuntime) {
     expect_of_index(&rt, Zero, &BY_ENTRIES);
 }
 
-// A walk that takes one pair and stops shrinks as well.
+// A walk that takes one pair and stops shrinks the array too.
 const SPARSE: [Sizes; 2] = [
     (Call::Fill(0, 40), (40, 128, 0)),
     (Call::Empty(17, 40), (17, 128, 0)),
@@ -141,7 +141,7 @@ fn set_stop_in_a_sparse_set_shrinks_it(rt: HostRuntime) {
     expect_stop_shrinks(&rt, &mut Set::with_hasher(rt.alloc(), Zero));
 }
 
-// Whole walks shrink too, and a clone has nothing waiting.
+// Whole walks shrink the array too, and a clone has no waiting bucket.
 const BY_WALKS: [Sizes; 4] = [
     (Call::Fill(0, 33), (33, 128, 2)),
     (Call::Copy, (33, 128, 2)),
@@ -177,7 +177,7 @@ fn map_past_65536_slots(rt: HostRuntime) {
     }
 }
 
-// A full bucket has no room, and the other of the two has.
+// A full bucket has no room, and the other of the two buckets has room.
 const BY_THE_BUCKET: [(Call, Answer); 4] = [
     (Call::Place(0), Answer::Place(0, true)),
     (Call::Fill(0, 32), Answer::Yes(true)),

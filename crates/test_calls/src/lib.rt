@@ -1,4 +1,4 @@
-//! Calls of containers for one owner in one thread: entries, walks, sizes, room, clones and comparisons.
+//! Single-threaded calls of owned containers: entries, walks, sizes, room, clones and comparisons.
 #![tactic(auto)]
 
 #[cfg(test)]

@@ -1,4 +1,4 @@
-// Calls as rows of data, and who makes them on a container of any kind.
+// Calls as rows of data, and functions that make them on a container of any kind.
 use crate::expect::{expect, expect_eq};
 use std::alloc::Global;
 use std::process::Abort;
@@ -6,40 +6,40 @@ use test_forms::answers::{Answer, Rule};
 use test_forms::form::{Act, At, Form, Way};
 use test_kit::maybe_equal::MaybeEqual;
 
-// A key is a number, by which keys are compared, and a mark, which tells equal keys apart.
+// A call. A key has a number, by which keys are compared, and a mark, which tells equal keys apart.
 #[derive(Clone, Copy)]
 pub(crate) enum Call {
     // Adds the keys from the first number on and before the second, each with itself as value: `Yes`.
     Fill(u64, u64),
-    // Takes them out: `Yes`.
+    // Removes the keys from the first number on and before the second: `Yes`.
     Empty(u64, u64),
-    // Takes them out, each through its entry: `Yes`.
+    // Removes the keys from the first number on and before the second, each through its entry: `Yes`.
     EmptyByEntry(u64, u64),
     // Adds so many keys that differ in their highest bits, and reads each: `Yes`.
     Spread(u64),
-    // Adds a key of that number and mark with that value.
+    // Adds a key with the number, the mark and the value.
     Add(Way, u64, u64, u64),
-    // Replaces the key of that number by one with that mark.
+    // Replaces the key with the number by an equal key with the mark.
     Replace(u64, u64),
-    // Sets the value of a key by its entry. The key that is asked for has mark 1.
+    // Sets the value of a key by its entry. The key in the call has the mark 1.
     Modify(u64, u64),
-    // Does that with an occupied entry, and that value.
+    // Does the act with an occupied entry, and the value.
     On(At, Act, u64, u64),
     Remove(u64),
-    // Adds 1 to the value, and takes the pair out if that is even.
+    // Adds 1 to the value, and removes the pair if the value is even then.
     RemoveIf(u64),
     Read(u64),
     Place(u64),
-    // Adds 1 to each value, and takes out the keys with that rest by 8: `Yes`.
+    // Adds 1 to each value, and removes the keys that leave the given rest when divided by 8: `Yes`.
     Retain(u64),
     Take(Rule),
-    // Whether a walk that stops at that key comes to its end: `Yes`.
+    // Walks until the key, and tells whether the walk comes to its end: `Yes`.
     Passes(u64),
     Copy,
     Clear,
 }
 
-// Whether each key from `first` on and before `end` was added.
+// Adds the keys from `first` on and before `end`. Returns whether each was added.
 fn fill<F: Form<MaybeEqual, u64>>(form: &mut F, first: u64, end: u64) -> bool {
     for key in first..end {
         if form.add(Way::Insert, MaybeEqual(key, 0), key) != Answer::Added(None) {
@@ -49,7 +49,7 @@ fn fill<F: Form<MaybeEqual, u64>>(form: &mut F, first: u64, end: u64) -> bool {
     true
 }
 
-// Whether each of them is gone.
+// Removes the keys from `first` on and before `end`. Returns whether each is gone.
 fn empty<F: Form<MaybeEqual, u64>>(form: &mut F, first: u64, end: u64) -> bool {
     for key in first..end {
         form.remove(&MaybeEqual(key, 0));
@@ -60,7 +60,7 @@ fn empty<F: Form<MaybeEqual, u64>>(form: &mut F, first: u64, end: u64) -> bool {
     true
 }
 
-// The same through their entries.
+// Removes the keys from `first` on and before `end`, each through its entry. Returns whether each is gone.
 fn empty_by_entry<F: Form<MaybeEqual, u64>>(form: &mut F, first: u64, end: u64) -> bool {
     for key in first..end {
         form.act(At::Any, Act::RemoveEntry, &MaybeEqual(key, 0), 0);
@@ -71,7 +71,7 @@ fn empty_by_entry<F: Form<MaybeEqual, u64>>(form: &mut F, first: u64, end: u64) 
     true
 }
 
-// Whether so many keys that differ in their highest bits were added, and each is read.
+// Adds `keys` keys that differ in their highest bits. Returns whether each was added and is read.
 fn spread<F: Form<MaybeEqual, u64>>(form: &mut F, keys: u64) -> bool {
     for i in 0..keys {
         if form.add(Way::Insert, MaybeEqual(i << 40, i), 0) != Answer::Added(None) {
@@ -125,13 +125,13 @@ fn answer<F: Form<MaybeEqual, u64>>(alloc: Global, form: &mut F, call: Call) -> 
     }
 }
 
-// The number of pairs, the capacity, and how many buckets wait.
+// Returns the number of pairs, the capacity, and the number of waiting buckets.
 fn sizes<F: Form<MaybeEqual, u64>>(form: &F) -> (usize, usize, usize) {
     let sizes = form.sizes();
     (sizes.len, sizes.capacity, form.waiting().unwrap_or(0))
 }
 
-// The first row with another answer, by its number, and that answer.
+// Returns the number of the first row with a wrong answer, and what the call returned.
 fn first_other<F: Form<MaybeEqual, u64>>(
     alloc: Global,
     form: &mut F,
@@ -146,7 +146,7 @@ fn first_other<F: Form<MaybeEqual, u64>>(
     None
 }
 
-// Makes the calls in turn: each has its answer.
+// Makes the calls in turn. Each must return the answer of its row.
 pub(crate) fn expect_answers<R: AllocGlobal + Abort, F: Form<MaybeEqual, u64>>(
     rt: &R,
     form: &mut F,
@@ -155,8 +155,8 @@ pub(crate) fn expect_answers<R: AllocGlobal + Abort, F: Form<MaybeEqual, u64>>(
     expect_eq(rt, first_other(rt.alloc(), form, rows), None);
 }
 
-// Makes calls on many keys in turn: each answers true, and then the number of pairs, the capacity and how many buckets
-// wait are as the row says.
+// Makes calls on many keys in turn. Each must return true, and leave the number of pairs, the capacity and the number
+// of waiting buckets of its row.
 pub(crate) fn expect_sizes<R: AllocGlobal + Abort, F: Form<MaybeEqual, u64>>(
     rt: &R,
     form: &mut F,

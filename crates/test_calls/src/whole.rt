@@ -1,4 +1,4 @@
-// Whole containers: how large they are made, clones, comparisons, and steps from entry to entry.
+// Whole containers: the sizes at making, clones, comparisons, and steps from entry to entry.
 use crate::expect::{expect, expect_eq};
 use crate::rows::{Call, expect_sizes};
 use scc::{hash_index, hash_map, hash_set};
@@ -10,10 +10,10 @@ use test_forms::numbered::Seen;
 use test_kit::maybe_equal::MaybeEqual;
 use test_kit::zero::Zero;
 
-// Slots that are asked for, and the capacity.
+// The number of slots that a test asks for, and the capacity that it gets.
 const CAPACITIES: [(usize, usize); 5] = [(0, 0), (1, 64), (64, 64), (65, 128), (800, 1024)];
 
-// The length and the capacity of a map with room for so many pairs, None if it is refused.
+// Returns the length and the capacity of a map made for `slots` slots, or `None` if it is refused.
 fn sizes_of_map(alloc: Global, slots: usize) -> Option<(usize, usize)> {
     match hash_map::Owned::<u64, u64>::with_capacity(alloc, slots) {
         Ok(map) => Some((map.len(), map.capacity())),
@@ -29,7 +29,7 @@ fn map_with_capacity_rounds_up(rt: HostRuntime) {
     expect_eq(&rt, sizes_of_map(rt.alloc(), usize::MAX), None);
 }
 
-// The same of an index.
+// Returns the length and the capacity of an index made for `slots` slots, or `None` if it is refused.
 fn sizes_of_index(alloc: Global, slots: usize) -> Option<(usize, usize)> {
     match hash_index::Owned::<u64, u64>::with_capacity(alloc, slots) {
         Ok(index) => Some((index.len(), index.capacity())),
@@ -45,7 +45,8 @@ fn index_with_capacity_rounds_up(rt: HostRuntime) {
     expect_eq(&rt, sizes_of_index(rt.alloc(), usize::MAX), None);
 }
 
-// Whether its clone equals the map, and the clone's capacity and how many of its buckets wait. None if it is refused.
+// Returns whether a clone equals the map, the clone's capacity, and the number of its waiting buckets. Returns `None`
+// if the clone is refused.
 fn clone_of(map: &Map) -> Option<(bool, usize, usize)> {
     match map.try_clone() {
         Ok(copy) => Some((copy == *map, copy.capacity(), copy.pending())),
@@ -53,7 +54,7 @@ fn clone_of(map: &Map) -> Option<(bool, usize, usize)> {
     }
 }
 
-// Whether the keys from `first` on and before `end` went in.
+// Inserts the keys from `first` on and before `end`. Returns whether each went in.
 fn fill(map: &mut Map, first: u64, end: u64) -> bool {
     for key in first..end {
         if map.insert_sync(key, key).is_err() {
@@ -63,7 +64,7 @@ fn fill(map: &mut Map, first: u64, end: u64) -> bool {
     true
 }
 
-// Its clone has its pairs and its capacity, and nothing waits in it.
+// A clone has the pairs and the capacity of its map, and no waiting bucket.
 #[test]
 fn map_clone_has_nothing_pending(rt: HostRuntime) {
     let mut map = hash_map::Owned::with_hasher(rt.alloc(), Zero);
@@ -76,7 +77,7 @@ fn map_clone_has_nothing_pending(rt: HostRuntime) {
     );
 }
 
-// The capacity of a clone of the map with 100 slots reserved, and both ends of its range.
+// Reserves 100 slots and clones the map. Returns the clone's capacity and both ends of its range.
 fn clone_reserved(map: &mut hash_map::Owned<u64, u64>) -> Option<[usize; 3]> {
     if map.reserve(100).is_none() {
         return None;
@@ -90,7 +91,7 @@ fn clone_reserved(map: &mut hash_map::Owned<u64, u64>) -> Option<[usize; 3]> {
     }
 }
 
-// What is reserved isn't cloned.
+// A clone doesn't get the reserved slots.
 #[test]
 fn map_clone_without_array_has_none(rt: HostRuntime) {
     let sizes = clone_reserved(&mut hash_map::Owned::new(rt.alloc()));
@@ -99,12 +100,13 @@ fn map_clone_without_array_has_none(rt: HostRuntime) {
 
 type Map = hash_map::Owned<u64, u64, Zero>;
 
-// Whether the first is equal to the second, and the second to the first.
+// Returns whether `a` equals `b`, and whether `b` equals `a`.
 fn equal(a: &Map, b: &Map) -> (bool, bool) {
     (*a == *b, *b == *a)
 }
 
-// Compares two empty maps, and again after each step on the way to the same pairs in both. Whether each step succeeds.
+// Compares two empty maps, and again after each step on the way to the same pairs in both. Returns the comparisons,
+// and whether each step succeeds.
 fn compare(a: &mut Map, b: &mut Map) -> ([(bool, bool); 5], bool) {
     let bare = equal(a, b);
     let first = a.insert_sync(1, 10).is_ok();
@@ -132,7 +134,8 @@ fn map_equality_looks_both_ways(rt: HostRuntime) {
 
 type Keys = hash_set::Owned<u64>;
 
-// Whether the sets are equal, and whether they differ once the first has one key more, which goes in.
+// Compares two sets, inserts a key into the first, and compares again. Returns whether they are equal, whether the
+// key goes in, and whether the sets then differ.
 fn compare_keys(a: &mut Keys, b: &Keys) -> [bool; 3] {
     let before = *a == *b;
     [before, a.insert_sync(4).is_ok(), *a != *b]
@@ -149,7 +152,7 @@ fn set_equality_looks_at_keys(rt: HostRuntime) {
     }
 }
 
-// The first of equal keys stays in a set of items.
+// A set made of items keeps the first of equal keys.
 #[test]
 fn set_of_items_keeps_the_first_key(rt: HostRuntime) {
     match hash_set::Owned::try_from_iter(rt.alloc(), [MaybeEqual(5, 1), MaybeEqual(5, 2)]) {
@@ -162,7 +165,7 @@ fn expect_first_mark<R: Abort>(rt: &R, set: &hash_set::Owned<MaybeEqual>) {
     expect_eq(rt, set.read_sync(&MaybeEqual(5, 9), |key| key.1), Some(1));
 }
 
-// The pairs by steps from entry to entry, and by taking each out on the way, are those of a walk, in its order.
+// Steps from entry to entry, and steps that remove each pair, meet the pairs of a walk in its order.
 fn expect_steps<R: AllocGlobal + Abort, F: Form<MaybeEqual, u64>>(rt: &R, form: &mut F) {
     expect_sizes(rt, form, &[(Call::Fill(0, 40), (40, 128, 0))]);
     let mut walked = Vec::new(rt.alloc());

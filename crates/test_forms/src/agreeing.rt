@@ -1,4 +1,4 @@
-//! Whether a call answered as the plain list says, which then does the same.
+//! Compares what a call returned with the plain list, and makes the call on the list.
 
 use crate::answers::{Answer, Kind};
 use crate::calls::{What, is_of};
@@ -7,7 +7,7 @@ use crate::list::List;
 use crate::numbered::Seen;
 use std::alloc::{AllocError, Global};
 
-/// A call by its numbers: what it does, its key with the hash and the mark, and its value.
+/// A call by its numbers.
 #[derive(Clone, Copy)]
 pub struct Asked {
     /// What it does.
@@ -23,7 +23,7 @@ pub struct Asked {
 }
 
 impl Asked {
-    // The pair of the call with that value, as the kind shows it.
+    // Returns the pair of the call with `value`, as the kind shows it.
     fn pair(&self, kind: Kind, value: u64) -> Seen {
         let shown = if kind.shows_values() { value } else { 0 };
         (self.number, self.mark, shown)
@@ -49,7 +49,7 @@ fn add_missing(
     Ok(list.add(asked.hash, pair, evicted)? && is_right)
 }
 
-// The pair of a key that is there after that way, and what has to be answered.
+// Returns the pair after adding by `way` to a key that is there, and the answer that the call must return.
 fn after_adding(asked: &Asked, way: Way, kind: Kind, old: Seen) -> (Seen, Answer) {
     let written = (old.0, old.1, asked.value);
     let swapped = (asked.number, asked.mark, old.2);
@@ -75,7 +75,7 @@ fn add(list: &mut List, asked: &Asked, way: Way, answer: Answer) -> Result<bool,
         return add_missing(list, asked, way, answer);
     };
     let (new, wanted) = after_adding(asked, way, list.kind(), old);
-    // An insertion that is refused for its key asks for no entry.
+    // An insertion that fails because the key is there doesn't refresh the entry.
     if way == Way::Insert {
         return Ok(answer == wanted);
     }
@@ -91,7 +91,7 @@ fn replace(list: &mut List, asked: &Asked, answer: Answer) -> Result<bool, Alloc
     add(list, asked, Way::Replace, answer)
 }
 
-// Sets the value of a key that is there, and says whether that was answered.
+// Sets the value of a key that is there, and returns the new pair.
 fn write(list: &mut List, asked: &Asked, old: Seen) -> Result<Seen, AllocError> {
     let new = (old.0, old.1, asked.value);
     list.renew(asked.hash, new)?;
@@ -118,7 +118,7 @@ fn modify(list: &mut List, asked: &Asked, answer: Answer) -> Result<bool, AllocE
     }
 }
 
-// Whether the entry that came is another one of the list, if one came.
+// Returns whether `next` is another pair of the list, or `None`.
 fn is_other(list: &List, old: Seen, next: Option<Seen>) -> bool {
     match next {
         Some(pair) => pair.0 != old.0 && list.has(pair),
@@ -126,13 +126,13 @@ fn is_other(list: &List, old: Seen, next: Option<Seen>) -> bool {
     }
 }
 
-// Takes a pair out by its entry.
+// Removes the pair of an entry. Returns `is_right`.
 fn take_out(list: &mut List, old: Seen, is_right: bool) -> bool {
     list.remove(old.0);
     is_right
 }
 
-// An act on the entry of a pair that is there.
+// Does `act` on the entry of a pair that is there. Returns whether `answer` is right.
 fn act_on(
     list: &mut List,
     asked: &Asked,
@@ -176,7 +176,7 @@ fn act_on(
     })
 }
 
-// An act on the first entry, which is any of the list's.
+// Does `act` on the first entry, which may be any of the list. Returns whether `answer` is right.
 fn act_on_first(list: &mut List, act: Act, answer: Answer) -> bool {
     match (act, answer) {
         (Act::Next, Answer::Found(None)) => list.len() < 2,
@@ -203,7 +203,7 @@ fn act(
     }
     match list.find(asked.number) {
         Some(old) => {
-            // A cache makes the pair of an entry that is got the one used last.
+            // A cache refreshes an entry that is got.
             list.renew(asked.hash, old)?;
             act_on(list, asked, act, old, answer)
         }
@@ -211,7 +211,7 @@ fn act(
     }
 }
 
-// What a removal answers that takes out that pair, or none.
+// Returns the answer for a removal that removes `pair`, or nothing.
 fn gone(kind: Kind, pair: Option<Seen>) -> Answer {
     if kind == Kind::Index {
         Answer::Yes(pair.is_some())
@@ -239,7 +239,8 @@ fn remove_if(list: &mut List, asked: &Asked, answer: Answer) -> bool {
     answer == gone(kind, there)
 }
 
-// Whether those are the pairs that a walk takes out, which go.
+// Adds 1 to each value, and removes the pairs that a walk takes. Returns whether `met`, if it is there, are the
+// removed pairs.
 fn take(
     alloc: Global,
     list: &mut List,
@@ -259,7 +260,8 @@ fn take(
     })
 }
 
-// Takes out the pairs that were met, at most so many.
+// Removes the pairs of `met`. Returns whether they are pairs of the list, as many as the call's number modulo 8, or
+// all if the list has fewer.
 fn drain(list: &mut List, asked: &Asked, met: &[Seen]) -> bool {
     let most = (asked.number % 8) as usize;
     let mut is_right = met.len() == most.min(list.len());
@@ -270,7 +272,7 @@ fn drain(list: &mut List, asked: &Asked, met: &[Seen]) -> bool {
     is_right
 }
 
-// A call that goes over all pairs, or takes many out.
+// Makes a call that meets or removes many pairs. Returns whether `answer` and `met` are right.
 fn walk(
     alloc: Global,
     list: &mut List,
@@ -295,7 +297,8 @@ fn walk(
     })
 }
 
-/// Whether a call answered as on the list, and met those pairs.
+/// Makes a call on the list. Returns whether `answer` and `met` are what the list gives. If the kind lacks the call,
+/// `met` must be empty.
 pub fn agrees(
     alloc: Global,
     list: &mut List,

@@ -1,4 +1,4 @@
-//! What a container answers a driver, by numbers.
+//! What calls on a container return, by numbers.
 
 use crate::numbered::{Numbered, Seen, keeps, raise, seen, seen_key};
 use scc_common::{InsertError, KeyError, Verdict};
@@ -17,51 +17,51 @@ pub enum Kind {
 }
 
 impl Kind {
-    /// Whether values are shown.
+    /// Returns whether the kind shows values.
     pub fn shows_values(self) -> bool {
         self != Kind::Set
     }
 
-    /// Whether closures write to values.
+    /// Returns whether closures may write the values of the kind.
     pub fn writes_values(self) -> bool {
         matches!(self, Kind::Map | Kind::Cache)
     }
 }
 
-/// What a call answered. A pair is known by its numbers.
+/// What a call returned. Numbers stand for a pair.
 #[derive(Clone, Copy, Debug, PartialEq)]
 pub enum Answer {
     /// The kind has no such call.
     Absent,
-    /// The calls that make up this one contradict each other.
+    /// The look-ups that make up the call contradict each other.
     Wrong,
-    /// Memory was refused, and that came back: a pair, or a value beside the key of its entry.
+    /// Memory was refused. The pair came back, or the value with the key of its entry.
     Refused(Option<Seen>),
-    /// An equal key is there, and what was supplied came back.
+    /// An equal key is there. The supplied pair or key came back.
     Exists(Seen),
-    /// It was added, and drove that pair out.
+    /// The pair was added, and evicted the given pair, if any.
     Added(Option<Seen>),
-    /// The number of the value that the key had, if it was there.
+    /// The number of the key's old value, if the key was there.
     Old(Option<u64>),
-    /// The mark of the key that went, if one was there, and the pair that is there now, if the kind lends it.
+    /// The mark of the replaced key, if one was there, and the new pair, if the kind returns its entry.
     Swapped(Option<u64>, Option<Seen>),
-    /// What was driven out, and the pair of the entry.
+    /// The evicted pair, if any, and the pair of the entry.
     Entry(Option<Seen>, Seen),
     /// The pair, if the key was there.
     Found(Option<Seen>),
-    /// The entry was vacant, and gave back the key of that number and mark.
+    /// The entry was vacant, and returned the key with the given number and mark.
     Vacant(u64, u64),
-    /// The pair that was taken out, and the pair of the entry that came instead.
+    /// The removed pair, and the pair of the next entry.
     Gone(Seen, Option<Seen>),
-    /// Whether it was so.
+    /// The result of a call that returns yes or no.
     Yes(bool),
-    /// The bucket of a key, and whether it has room.
+    /// The bucket of a key, and whether the bucket has room.
     Place(usize, bool),
-    /// How many slots were reserved in all, the capacity then, and the minimum then.
+    /// The number of reserved slots, and the capacity and the minimum with the reservation.
     Reserved(usize, usize, usize),
 }
 
-/// What a refused insertion answers.
+/// Returns the answer for an insertion that failed.
 pub fn refused<K: Numbered + Drop, V: Numbered + Drop>(error: InsertError<K, V>) -> Answer {
     match error {
         InsertError::Exists(pair) => Answer::Exists(seen(&pair.0, &pair.1)),
@@ -69,7 +69,7 @@ pub fn refused<K: Numbered + Drop, V: Numbered + Drop>(error: InsertError<K, V>)
     }
 }
 
-/// What a refused insertion of a key answers.
+/// Returns the answer for an insertion of a key that failed.
 pub fn refused_key<K: Numbered + Drop>(error: KeyError<K>) -> Answer {
     match error {
         KeyError::Exists(key) => Answer::Exists(seen_key(&key)),
@@ -77,16 +77,16 @@ pub fn refused_key<K: Numbered + Drop>(error: KeyError<K>) -> Answer {
     }
 }
 
-/// What a walk that may take pairs out does.
+/// What the closure of a walk that may take pairs does.
 #[derive(Clone, Copy, Debug, PartialEq)]
 pub enum Rule {
-    /// It adds 1 to each value, and takes the pairs whose key's number has that rest by 8.
+    /// Adds 1 to each value, and takes the pairs whose key's number leaves the given rest when divided by 8.
     Rest(u64),
-    /// It writes 9 and answers that, whatever the pair.
+    /// Writes 9 and returns the given verdict, whatever the pair.
     Always(Verdict),
 }
 
-/// What the walk answers on a pair, whose value it writes.
+/// Writes `value` by `rule`, and returns the verdict on the pair.
 pub fn verdict<K: Numbered, V: Numbered>(rule: Rule, key: &K, value: &mut V) -> Verdict {
     match rule {
         Rule::Rest(_) => raise(value),
@@ -95,7 +95,7 @@ pub fn verdict<K: Numbered, V: Numbered>(rule: Rule, key: &K, value: &mut V) -> 
     key_verdict(rule, key)
 }
 
-/// The same of a key of a set.
+/// Returns the verdict on a key, as `verdict` does for a pair.
 pub fn key_verdict<K: Numbered>(rule: Rule, key: &K) -> Verdict {
     match rule {
         Rule::Rest(rest) => {
@@ -109,7 +109,7 @@ pub fn key_verdict<K: Numbered>(rule: Rule, key: &K) -> Verdict {
     }
 }
 
-/// Adds 1 to the value, and answers whether the key's number has another rest by 8.
+/// Adds 1 to the value. Returns whether the key's number leaves another rest than `rest` when divided by 8.
 pub fn raise_and_keep<K: Numbered, V: Numbered>(key: &K, value: &mut V, rest: u64) -> bool {
     raise(value);
     keeps(key, rest)

@@ -1,4 +1,4 @@
-//! The calls that drivers draw, and how one is made on a container of any form.
+//! The calls that tests draw at random, and how one is made on a container of any form.
 
 use crate::answers::{Answer, Kind, Rule};
 use crate::form::{Act, At, Form, WAYS, Way};
@@ -8,47 +8,47 @@ use std::alloc::Global;
 /// What a call does.
 #[derive(Clone, Copy, Debug, PartialEq)]
 pub enum What {
-    /// Adds the pair by that way.
+    /// Adds the pair by the given way.
     Add(Way),
-    /// Puts the key in the place of its equal.
+    /// Replaces an equal key by the key.
     Replace,
     /// Sets the value of the key.
     Update,
     /// Sets the value of the key's entry.
     Modify,
-    /// Does that with an occupied entry.
+    /// Does the given act with an occupied entry.
     Act(At, Act),
-    /// Takes the key out.
+    /// Removes the key.
     Remove,
-    /// Takes the key out under a condition.
+    /// Removes the key if a condition holds.
     RemoveIf,
     /// Looks the key up.
     Read,
     /// Asks for the key's bucket.
     Place,
-    /// Goes over all pairs up to the key.
+    /// Walks up to the key.
     Pass,
-    /// Goes over all pairs.
+    /// Walks over all pairs.
     Collect,
-    /// Goes from entry to entry.
+    /// Steps from entry to entry.
     Step,
-    /// Goes over a snapshot.
+    /// Walks over a snapshot.
     Snapshot,
-    /// Clones and compares.
+    /// Clones the container and compares.
     Copy,
-    /// Reserves slots and gives them back.
+    /// Reserves slots and releases them.
     Reserve,
-    /// Takes out what a walk takes.
+    /// Removes the pairs that a walk takes.
     Take,
-    /// Takes out what a walk doesn't keep.
+    /// Removes the pairs that a walk doesn't keep.
     Retain,
-    /// Takes out the pairs of some entries, one after the other.
+    /// Removes the pairs of some entries, one after the other.
     Drain,
-    /// Takes out all.
+    /// Removes all pairs.
     Clear,
 }
 
-/// The calls that take out at most one pair.
+/// The calls that remove at most one pair.
 pub const GENTLE: [What; 37] = [
     What::Add(Way::Insert),
     What::Add(Way::Upsert),
@@ -89,10 +89,10 @@ pub const GENTLE: [What; 37] = [
     What::Reserve,
 ];
 
-/// The calls that may take out many pairs.
+/// The calls that may remove many pairs.
 pub const DRASTIC: [What; 4] = [What::Take, What::Retain, What::Drain, What::Clear];
 
-/// The calls that add no pair and take none out.
+/// The calls that neither add nor remove a pair.
 pub const LOOKS: [What; 8] = [
     What::Read,
     What::Modify,
@@ -104,10 +104,10 @@ pub const LOOKS: [What; 8] = [
     What::Place,
 ];
 
-/// How many slots a reservation of a driver asks for.
+/// The number of slots that a test reserves.
 pub const SLOTS: usize = 300;
 
-/// The ways to add, one after the other.
+/// Returns the way to add with the number `number` modulo 9.
 pub fn way_of(number: u64) -> Way {
     match usize::try_from(number % 9) {
         Ok(place) => match WAYS.get(place) {
@@ -118,7 +118,7 @@ pub fn way_of(number: u64) -> Way {
     }
 }
 
-// What a walk answers that adds to a list, or says that it had no room.
+// Returns what a walk returns that adds pairs to a list: `Yes`, or `Refused` if the list had no room.
 fn walked(had_room: bool) -> Answer {
     if had_room {
         Answer::Yes(true)
@@ -127,7 +127,7 @@ fn walked(had_room: bool) -> Answer {
     }
 }
 
-// Makes a call that looks at all pairs or takes many out.
+// Makes a call that meets or removes many pairs, or a call on the whole container.
 fn make_walk<K: Drop + Numbered, V: Drop + Numbered, F: Form<K, V>>(
     alloc: Global,
     form: &mut F,
@@ -156,7 +156,7 @@ fn make_walk<K: Drop + Numbered, V: Drop + Numbered, F: Form<K, V>>(
     }
 }
 
-/// Makes a call on a container. The pairs that it meets or takes out are added to the list.
+/// Makes the call `what` on a container. Adds the pairs that the call meets or removes to `met`.
 pub fn make<K: Drop + Numbered, V: Drop + Numbered, F: Form<K, V>>(
     alloc: Global,
     form: &mut F,
@@ -179,7 +179,7 @@ pub fn make<K: Drop + Numbered, V: Drop + Numbered, F: Form<K, V>>(
     }
 }
 
-/// Whether the call needs a key that is there or missing, so that it has to be made on both.
+/// Returns whether the call depends on whether its key is there, so that a test must make it in both cases.
 pub fn has_key(what: What) -> bool {
     !matches!(
         what,
@@ -196,7 +196,7 @@ pub fn has_key(what: What) -> bool {
     )
 }
 
-/// Whether the kind has such a call.
+/// Returns whether containers of `kind` have the call.
 pub fn is_of(what: What, kind: Kind) -> bool {
     match what {
         What::Add(way) => way.is_of(kind),

@@ -1,29 +1,29 @@
-//! The calls of a container of any kind, in any form, as drivers make them.
+//! The trait `Form`: the calls that a test makes on a container of any kind and form.
 
 use crate::answers::{Answer, Kind, Rule};
 use crate::numbered::{Numbered, Seen};
 use std::alloc::Global;
 
-/// A way to add a pair. On a key that is there each does what its call is named for.
+/// A way to add a pair. If the key is there, each way does what the call it is named after does.
 #[derive(Clone, Copy, Debug, PartialEq)]
 pub enum Way {
-    /// `insert_sync`, and `put_sync` of a cache.
+    /// `insert_sync`, or `put_sync` of a cache.
     Insert,
     /// `upsert_sync` of a map.
     Upsert,
-    /// `replace_sync`; a vacant entry gets the value.
+    /// `replace_sync`. A vacant entry gets the value.
     Replace,
-    /// `or_insert` of the entry, and `or_put` of a cache's.
+    /// `or_insert` of an entry, or `or_put` of a cache's entry.
     OrInsert,
-    /// `or_insert_with`, and `or_put_with`.
+    /// `or_insert_with`, or `or_put_with`.
     OrInsertWith,
-    /// `or_insert_with_key`, and `or_put_with_key`: the value gets the key's number.
+    /// `or_insert_with_key`, or `or_put_with_key`. The value gets the key's number.
     OrInsertWithKey,
-    /// `or_default`: the value's number is 0.
+    /// `or_default`. The value's number is 0.
     OrDefault,
-    /// `insert_entry` of a map's entry, and `put_entry` of a cache's: it sets the value if the key is there.
+    /// `insert_entry` of a map's entry, or `put_entry` of a cache's. If the key is there, it sets the value.
     InsertEntry,
-    /// `insert_entry` and `put_entry` of the vacant entry; an occupied one is let go.
+    /// `insert_entry` or `put_entry` of a vacant entry. An occupied entry is dropped.
     Vacant,
 }
 
@@ -41,7 +41,7 @@ pub const WAYS: [Way; 9] = [
 ];
 
 impl Way {
-    /// The number of the value that a missing key gets.
+    /// Returns the number of the value that a missing key gets.
     pub fn value(self, key: u64, value: u64) -> u64 {
         match self {
             Way::OrInsertWithKey => key,
@@ -50,12 +50,12 @@ impl Way {
         }
     }
 
-    /// Whether it answers an entry where the key is missing.
+    /// Returns whether the call returns an entry if the key is missing.
     pub fn lends(self, kind: Kind) -> bool {
         !matches!(self, Way::Insert | Way::Upsert) && kind != Kind::Set
     }
 
-    /// Whether the kind has it.
+    /// Returns whether containers of `kind` have such calls.
     pub fn is_of(self, kind: Kind) -> bool {
         match kind {
             Kind::Map => true,
@@ -66,19 +66,19 @@ impl Way {
     }
 }
 
-/// Which occupied entry is asked for.
+/// Which occupied entry a call asks for.
 #[derive(Clone, Copy, Debug, PartialEq)]
 pub enum At {
-    /// That of the key, by `get_sync`.
+    /// The entry of the key, by `get_sync`.
     Key,
-    /// The first one with the key's number, by `any_sync`.
+    /// The first entry whose key has the number, by `any_sync`.
     Any,
-    /// The first one of all, by `begin_sync`.
+    /// The first entry of all, by `begin_sync`.
     First,
 }
 
 impl At {
-    /// Whether the kind has it.
+    /// Returns whether containers of `kind` have such calls.
     pub fn is_of(self, kind: Kind) -> bool {
         match self {
             At::Key => kind != Kind::Set,
@@ -87,27 +87,27 @@ impl At {
     }
 }
 
-/// What is done with an occupied entry.
+/// What a call does with an occupied entry.
 #[derive(Clone, Copy, Debug, PartialEq)]
 pub enum Act {
-    /// Its pair is seen: `Found`.
+    /// Reads the pair. Returns `Found`.
     Look,
-    /// Its value is written by `get_mut`: `Found`, the pair then.
+    /// Writes the value by `get_mut`. Returns `Found` with the new pair.
     Write,
-    /// It gets the value, by `insert`, `put` or `update`: `Old`; an index answers `Yes`.
+    /// Sets the value by `insert`, `put` or `update`. Returns `Old`, or `Yes` for an index.
     Set,
-    /// It goes by `remove`: `Old`.
+    /// Removes the pair by `remove`. Returns `Old`.
     Remove,
-    /// It goes by `remove_entry`: `Found`; an index answers `Yes`.
+    /// Removes the pair by `remove_entry`. Returns `Found`, or `Yes` for an index.
     RemoveEntry,
-    /// The next one is asked for by `next_sync`: `Found`.
+    /// Asks for the next entry by `next_sync`. Returns `Found`.
     Next,
-    /// It goes, and the next one comes, by `remove_and_sync`: `Gone`.
+    /// Removes the pair and asks for the next entry, by `remove_and_sync`. Returns `Gone`.
     RemoveNext,
 }
 
 impl Act {
-    /// Whether the kind has it.
+    /// Returns whether containers of `kind` have such calls.
     pub fn is_of(self, kind: Kind) -> bool {
         match self {
             Act::Look | Act::RemoveEntry => true,
@@ -123,9 +123,9 @@ impl Act {
 pub struct Sizes {
     /// The number of pairs.
     pub len: usize,
-    /// Whether it says that there is none.
+    /// What `is_empty` returns.
     pub is_empty: bool,
-    /// The slots of its arrays.
+    /// The number of slots of its arrays.
     pub capacity: usize,
     /// The least capacity.
     pub minimum: usize,
@@ -134,105 +134,108 @@ pub struct Sizes {
 }
 
 impl Sizes {
-    /// The number of pairs, and the slots.
+    /// Returns the number of pairs and the number of slots.
     pub fn used(&self) -> (usize, usize) {
         (self.len, self.capacity)
     }
 }
 
-/// A container of any kind, in any form. A kind without a call answers `Absent`, and adds nothing to a list.
+/// A container of any kind and form. A call that the kind lacks returns `Absent` and adds nothing to `met`.
 pub trait Form<K: Drop + Numbered, V: Drop + Numbered> {
-    /// Its kind.
+    /// Returns the kind.
     fn kind(&self) -> Kind;
 
-    /// Adds the pair by that way.
+    /// Adds the pair by `way`.
     fn add(&mut self, way: Way, key: K, value: V) -> Answer;
 
-    /// Puts the key in the place of its equal, by `replace_sync`: `Swapped`. A set inserts a missing key; else a vacant
-    /// entry is let go.
+    /// Replaces an equal key by `key`, by `replace_sync`. Returns `Swapped`. If the key is missing, a set inserts it,
+    /// and another kind drops the vacant entry.
     fn replace(&mut self, _key: K) -> Answer {
         Answer::Absent
     }
 
-    /// Sets the value of the key by `update_sync`, whose closure answers the value that was there: `Old`.
+    /// Sets the value of `key` by `update_sync`, whose closure returns the old value. Returns `Old`.
     fn update(&mut self, _key: &K, _value: V) -> Answer {
         Answer::Absent
     }
 
-    /// Sets the value of the key's entry by `and_modify`: `Found`, the pair then, or `Vacant`.
+    /// Sets the value of the key's entry by `and_modify`. Returns `Found` with the new pair, or `Vacant`.
     fn modify(&mut self, _key: K, _value: V) -> Answer {
         Answer::Absent
     }
 
-    /// Does that with an occupied entry, and answers `Found(None)` if there is none.
+    /// Does `act` with the occupied entry that `at` names. Returns `Found(None)` if there is no such entry.
     fn act(&mut self, at: At, act: Act, key: &K, value: V) -> Answer;
 
-    /// Takes the key out: `Found`; an index answers `Yes`.
+    /// Removes the key. Returns `Found`, or `Yes` for an index.
     fn remove(&mut self, key: &K) -> Answer;
 
-    /// Adds 1 to the value, and takes the pair out if that is even. An index writes nothing, and a set asks only
-    /// whether the key's number is even.
+    /// Adds 1 to the value, and removes the pair if the value is even then. An index writes nothing. A set removes
+    /// the key if the key's number is even.
     fn remove_if(&mut self, key: &K) -> Answer;
 
-    /// The pair of the key: `Found`. All look-ups are made, and `Wrong` is answered if two of them differ.
+    /// Makes all look-ups of `key`. Returns `Found` with the pair, or `Wrong` if two of the look-ups differ.
     fn read(&self, key: &K) -> Answer;
 
-    /// The number of the key's bucket, and whether it has room: `Place`. An index says only the bucket.
+    /// Returns `Place` with the number of the key's bucket and whether the bucket has room. An index gives the bucket
+    /// alone.
     fn place(&self, _key: &K) -> Answer {
         Answer::Absent
     }
 
-    /// Adds 1 to each value, and takes out the pairs whose key's number has that rest by 8. An index writes nothing.
+    /// Adds 1 to each value, and removes the pairs whose key's number leaves `rest` when divided by 8. An index
+    /// writes nothing.
     fn retain(&mut self, rest: u64);
 
-    /// A walk by the rule, whose taken pairs are added to the list: `Yes`, or `Refused`.
+    /// Walks by `rule`, and adds the pairs that it takes to `met`. Returns `Yes`, or `Refused` if memory is refused.
     fn take(&mut self, _alloc: Global, _rule: Rule, _met: &mut Vec<Seen>) -> Answer {
         Answer::Absent
     }
 
-    /// Adds all pairs to the list in the order of a walk, and says whether there was room.
+    /// Adds all pairs to `met` in the order of a walk. Returns whether there was room.
     fn collect(&self, met: &mut Vec<Seen>) -> bool;
 
-    /// Whether a walk that stops at the key of that number went on to its end.
+    /// Returns whether a walk that stops at the key with `number` went on to its end.
     fn passes(&self, number: u64) -> bool;
 
-    /// Adds all pairs to the list by going from entry to entry, at most so many.
+    /// Adds pairs to `met` by steps from entry to entry, at most `most` pairs.
     fn step(&mut self, _most: usize, _met: &mut Vec<Seen>) -> Answer {
         Answer::Absent
     }
 
-    /// Takes pairs out and goes from entry to entry, at most so many, and adds them to the list.
+    /// Removes pairs by steps from entry to entry, at most `most` pairs, and adds them to `met`.
     fn drain(&mut self, _most: usize, _met: &mut Vec<Seen>) -> Answer {
         Answer::Absent
     }
 
-    /// Adds the pairs of a snapshot to the list: `Yes`, or `Refused`.
+    /// Adds the pairs of a snapshot to `met`. Returns `Yes`, or `Refused` if memory is refused.
     fn snapshot(&self, _met: &mut Vec<Seen>) -> Answer {
         Answer::Absent
     }
 
-    /// Whether a clone is equal to it, and says so from both sides: `Yes`, or `Refused`.
+    /// Returns `Yes` with whether a clone equals the container, compared from both sides, or `Refused` if memory is
+    /// refused.
     fn copy(&self) -> Answer {
         Answer::Absent
     }
 
-    /// Takes out all pairs.
+    /// Removes all pairs.
     fn clear(&mut self);
 
-    /// Reserves so many slots and gives them back: `Reserved`, or `Refused` if that many can't be reserved.
+    /// Reserves `slots` slots and releases them. Returns `Reserved`, or `Refused` if they can't be reserved.
     fn reserve(&mut self, _slots: usize) -> Answer {
         Answer::Absent
     }
 
-    /// Its sizes.
+    /// Returns the sizes.
     fn sizes(&self) -> Sizes;
 
-    /// How many buckets wait, if it says so: a container for one owner does.
+    /// Returns the number of waiting buckets if the container tells it. An owned container does.
     fn waiting(&self) -> Option<usize> {
         None
     }
 
-    /// Whether it has one stripe, so that its buckets are those of one table.
+    /// Returns whether the container has one stripe, so that its buckets are those of one table.
     fn is_one(&self) -> bool {
         true
     }

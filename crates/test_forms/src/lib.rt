@@ -1,4 +1,5 @@
-//! Calls of a container of any kind and form, what they answer by numbers, and the plain list that has to answer so.
+//! Calls of a container of any kind and form, their results by numbers, and the plain list that they are compared
+//! with.
 #![tactic(auto)]
 
 pub mod agreeing;

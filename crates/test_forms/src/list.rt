@@ -1,16 +1,16 @@
-//! The plain-list model: pairs in a list, with what a container of each kind may do to them.
+//! The model of a container: a plain list of pairs, and what a container of each kind may do to them.
 
 use crate::answers::Kind;
 use crate::numbered::Seen;
 use std::alloc::{AllocError, Global};
 
-/// How many pairs a bucket of a cache holds.
+/// The most pairs in a bucket of a cache.
 const BUCKET: usize = 32;
 
-/// Where a pair of a cache stands: the hash of its key, by which its bucket is found.
+/// A pair and the hash of its key, which leads to its bucket in a cache.
 type Hashed = (u64, Seen);
 
-/// Pairs by their numbers, from the one that was used least recently.
+/// Pairs by their numbers, the least recent one first.
 #[derive(Drop)]
 pub struct List {
     kind: Kind,
@@ -20,14 +20,15 @@ pub struct List {
     until_forgotten: Option<u64>,
 }
 
-// The bucket of a hash among those of so many slots: as many first bits of it as their number has zeros.
+// Returns the bucket of `hash` in an array of `capacity` slots: the first bits of `hash`, enough to number the
+// buckets.
 fn bucket_of(hash: u64, capacity: usize) -> u64 {
     let wide = u128::from(hash) * (capacity / BUCKET) as u128;
     (wide >> 64) as u64
 }
 
 impl List {
-    /// Without a pair. A container of one stripe drives out just the pair that its table says.
+    /// Returns an empty list. If `is_one`, an eviction must take exactly the pair that one table evicts.
     pub fn new(alloc: Global, kind: Kind, is_one: bool) -> List {
         List {
             kind,
@@ -38,30 +39,30 @@ impl List {
         }
     }
 
-    /// The same, but it forgets the pair that is added after so many others: a wrong model, which a driver has to
-    /// find out.
+    /// Returns an empty list that forgets the pair which is added after `others` other pairs. It is a wrong model,
+    /// which a test must find out.
     pub fn forgetful(alloc: Global, kind: Kind, is_one: bool, others: u64) -> List {
         let mut list = List::new(alloc, kind, is_one);
         list.until_forgotten = Some(others);
         list
     }
 
-    /// The kind of the container.
+    /// Returns the kind of the container.
     pub fn kind(&self) -> Kind {
         self.kind
     }
 
-    /// The number of pairs.
+    /// Returns the number of pairs.
     pub fn len(&self) -> usize {
         self.pairs.len()
     }
 
-    // The place of the key with that number.
+    // Returns the position of the key with `number`.
     fn place_of(&self, number: u64) -> Option<usize> {
         self.pairs.iter().position(|pair| pair.1.0 == number)
     }
 
-    /// The pair of the key with that number.
+    /// Returns the pair of the key with `number`.
     pub fn find(&self, number: u64) -> Option<Seen> {
         match self.pairs.iter().find(|pair| pair.1.0 == number) {
             Some(pair) => Some(pair.1),
@@ -69,12 +70,12 @@ impl List {
         }
     }
 
-    /// Whether it has that pair.
+    /// Returns whether the list has `pair`.
     pub fn has(&self, pair: Seen) -> bool {
         self.find(pair.0) == Some(pair)
     }
 
-    /// The number of one of its keys, the other if it has none.
+    /// Returns the number of the key that `choice` picks from the list, or `other` if the list is empty.
     pub fn some_number(&self, choice: u64, other: u64) -> u64 {
         let Some(place) = (choice as usize).checked_rem(self.pairs.len()) else {
             return other;
@@ -85,7 +86,7 @@ impl List {
         }
     }
 
-    /// Takes out the pair of the key with that number.
+    /// Removes the pair of the key with `number`.
     pub fn remove(&mut self, number: u64) {
         if let Some(place) = self.place_of(number) {
             if place < self.pairs.len() {
@@ -94,7 +95,7 @@ impl List {
         }
     }
 
-    /// Gives the key another pair in its place.
+    /// Replaces the pair of the key by `new`, at its position.
     pub fn rewrite(&mut self, new: Seen) {
         for pair in self.pairs.iter_mut() {
             if pair.1.0 == new.0 {
@@ -103,14 +104,14 @@ impl List {
         }
     }
 
-    /// Gives the key another pair, and makes it the one used last.
+    /// Replaces the pair of the key by `pair`, and makes it the most recent.
     pub fn renew(&mut self, hash: u64, pair: Seen) -> Result<(), AllocError> {
         self.remove(pair.0);
         self.pairs.push((hash, pair))?;
         Ok(())
     }
 
-    // The least recent pair of a hash's bucket, and how many pairs that has.
+    // Returns the least recent pair in the bucket of `hash`, and the number of pairs in that bucket.
     fn least_of(&self, hash: u64) -> (Option<Seen>, usize) {
         let bucket = bucket_of(hash, self.capacity);
         let mut least = None;
@@ -126,7 +127,8 @@ impl List {
         (least, count)
     }
 
-    // Whether that, or nothing, is driven out for a new pair: in a cache the least recent pair of a full bucket.
+    // Returns whether a new pair may evict `evicted`, or nothing if it is `None`. Only a cache evicts, from a full
+    // bucket. With one stripe it evicts the least recent pair of the bucket.
     fn can_lose(&self, hash: u64, evicted: Option<Seen>) -> bool {
         if self.kind != Kind::Cache {
             return evicted.is_none();
@@ -141,7 +143,8 @@ impl List {
         }
     }
 
-    /// Adds a new pair in the place of what it drove out, and says whether just that could go.
+    /// Removes `evicted` and adds `pair`, unless the list forgets `pair`. Returns whether a container may evict
+    /// `evicted`, or nothing if it is `None`.
     pub fn add(
         &mut self,
         hash: u64,
@@ -159,7 +162,7 @@ impl List {
         Ok(could_go)
     }
 
-    // Whether the pair that is added now is the one that is forgotten.
+    // Returns whether the list forgets the pair that is being added.
     fn forgets(&mut self) -> bool {
         match self.until_forgotten {
             Some(others) => {
@@ -170,7 +173,7 @@ impl List {
         }
     }
 
-    /// Adds 1 to the value of the key with that number, as a condition does that may write.
+    /// Adds 1 to the value of the key with `number`, if the kind writes values.
     pub fn raise(&mut self, number: u64) {
         let writes = self.kind.writes_values();
         for pair in self.pairs.iter_mut() {
@@ -180,7 +183,7 @@ impl List {
         }
     }
 
-    /// Adds 1 to each value, as a walk does that may write.
+    /// Adds 1 to each value, if the kind writes values.
     pub fn raise_all(&mut self) {
         let writes = self.kind.writes_values();
         for pair in self.pairs.iter_mut() {
@@ -190,7 +193,7 @@ impl List {
         }
     }
 
-    /// Takes out the pairs whose numbers have that rest by 8, and hands them out.
+    /// Removes and returns the pairs whose numbers leave `rest` when divided by 8.
     pub fn split_off(&mut self, alloc: Global, rest: u64) -> Result<Vec<Seen>, AllocError> {
         let mut kept = Vec::new(alloc);
         let mut gone = Vec::new(alloc);
@@ -205,12 +208,12 @@ impl List {
         Ok(gone)
     }
 
-    /// Takes out all pairs.
+    /// Removes all pairs.
     pub fn clear(&mut self) {
         self.pairs.clear();
     }
 
-    // The pairs by the buckets of that many slots, each bucket's in its order.
+    // Returns the pairs sorted by bucket in an array of `capacity` slots, each bucket's in its order.
     fn grouped(&self, alloc: Global, capacity: usize) -> Result<Vec<Hashed>, AllocError> {
         let mut pairs = Vec::new(alloc);
         for bucket in 0..(capacity / BUCKET) as u64 {
@@ -223,8 +226,8 @@ impl List {
         Ok(pairs)
     }
 
-    /// Notes the capacity after a call. Where buckets of a cache were joined, the pairs of one stand before those of
-    /// the next.
+    /// Sets the capacity after a call. If buckets of a cache were joined, the pairs of one bucket stand before those
+    /// of the next.
     pub fn resize(&mut self, alloc: Global, capacity: usize) -> Result<(), AllocError> {
         let orders = self.is_one && self.kind == Kind::Cache;
         if orders && capacity < self.capacity && capacity > 0 {
@@ -234,7 +237,7 @@ impl List {
         Ok(())
     }
 
-    /// Whether a walk that met those pairs met just these. In a cache of one stripe their order is told too.
+    /// Returns whether `met` are the pairs of the list. For a cache of one stripe the order must be right too.
     pub fn is_met_by(&self, alloc: Global, met: &[Seen]) -> Result<bool, AllocError> {
         if self.is_one && self.kind == Kind::Cache {
             let pairs = self.grouped(alloc, self.capacity)?;
@@ -247,7 +250,7 @@ impl List {
         Ok(self.is_just(met))
     }
 
-    /// Whether these are its pairs, in any order.
+    /// Returns whether `met` are the pairs of the list, in any order.
     pub fn is_just(&self, met: &[Seen]) -> bool {
         self.pairs.len() == met.len()
             && self

@@ -1,16 +1,16 @@
-//! Keys and values that tests know by their numbers.
+//! Keys and values with numbers, by which tests know them.
 
 use test_kit::maybe_equal::MaybeEqual;
 
-/// A key or a value that has a number.
+/// A key or a value with a number.
 pub trait Numbered {
-    /// The number by which keys are compared, or that of a value.
+    /// Returns the number by which keys are compared, or the number of a value.
     fn number(&self) -> u64;
 
-    /// What tells equal keys apart.
+    /// Returns the mark, which tells equal keys apart.
     fn mark(&self) -> u64;
 
-    /// Gives a value another number. A key keeps its own.
+    /// Sets the number of a value. A key keeps its number.
     fn write(&mut self, number: u64);
 }
 
@@ -40,20 +40,20 @@ impl Numbered for MaybeEqual {
     fn write(&mut self, _number: u64) {}
 }
 
-/// A pair by its numbers: the number and the mark of the key, and the number of the value, which is 0 in a set.
+/// A pair by its numbers: the key's number, the key's mark and the value's number, which is 0 in a set.
 pub type Seen = (u64, u64, u64);
 
-/// The numbers of a pair.
+/// Returns the numbers of a pair.
 pub fn seen<K: Numbered, V: Numbered>(key: &K, value: &V) -> Seen {
     (key.number(), key.mark(), value.number())
 }
 
-/// The numbers of a key of a set.
+/// Returns the numbers of a key of a set.
 pub fn seen_key<K: Numbered>(key: &K) -> Seen {
     (key.number(), key.mark(), 0)
 }
 
-/// The numbers of a pair, if there is one.
+/// Returns the numbers of a pair, if there is one.
 pub fn seen_pair<K: Numbered + Drop, V: Numbered + Drop>(pair: Option<(K, V)>) -> Option<Seen> {
     match pair {
         Some(pair) => Some(seen(&pair.0, &pair.1)),
@@ -61,7 +61,7 @@ pub fn seen_pair<K: Numbered + Drop, V: Numbered + Drop>(pair: Option<(K, V)>) -
     }
 }
 
-/// Adds the numbers of the pairs that a walk took out, and says whether there was room.
+/// Adds the numbers of `pairs` to `met`. Returns whether there was room.
 pub fn note_pairs<K: Numbered, V: Numbered>(pairs: &[(K, V)], met: &mut Vec<Seen>) -> bool {
     for pair in pairs {
         if met.push(seen(&pair.0, &pair.1)).is_err() {
@@ -71,7 +71,7 @@ pub fn note_pairs<K: Numbered, V: Numbered>(pairs: &[(K, V)], met: &mut Vec<Seen
     true
 }
 
-/// The same of the keys that a walk over a set took out.
+/// Adds the numbers of `keys` to `met`, as `note_pairs` does for pairs.
 pub fn note_keys<K: Numbered>(keys: &[K], met: &mut Vec<Seen>) -> bool {
     for key in keys {
         if met.push(seen_key(key)).is_err() {
@@ -86,20 +86,20 @@ pub fn raise<V: Numbered>(value: &mut V) {
     value.write(value.number().wrapping_add(1));
 }
 
-/// Adds 1 to the number of a value, and answers whether it is even then.
+/// Adds 1 to the number of a value. Returns whether the number is even then.
 pub fn raise_to_even<V: Numbered>(value: &mut V) -> bool {
     raise(value);
     value.number() % 2 == 0
 }
 
-/// The value, with the number of that key.
+/// Returns the value with the number of `key`.
 pub fn value_of<K: Numbered, V: Numbered>(key: &K, value: V) -> V {
     let mut made = value;
     made.write(key.number());
     made
 }
 
-/// Whether the number of a key has another rest by 8.
+/// Returns whether the number of `key` leaves another rest than `rest` when divided by 8.
 pub fn keeps<K: Numbered>(key: &K, rest: u64) -> bool {
     key.number() % 8 != rest
 }

@@ -1,4 +1,4 @@
-//! The containers for one owner behind the trait of forms.
+//! The owned containers as implementations of `Form`.
 
 pub mod cache;
 pub mod index;

@@ -1,17 +1,17 @@
-//! Reservations of the containers for one owner, behind one trait.
+//! The trait `Reserving`: reservations of the owned containers.
 
 use scc_table::Reservation;
 use std::hash::{BuildHasher, Hash};
 
-/// A container for one owner that takes reservations.
+/// An owned container that takes reservations.
 pub trait Reserving {
-    /// Raises the minimum by so many slots, and answers the token that gives them back.
+    /// Adds `additional` slots to the minimum. Returns the token that releases them, or `None`.
     fn reserve_slots(&mut self, additional: usize) -> Option<Reservation>;
 
-    /// Gives a token back.
+    /// Releases `token`. Returns the token if the container refuses it.
     fn release_slots(&mut self, token: Reservation) -> Result<(), Reservation>;
 
-    /// The minimum.
+    /// Returns the minimum.
     fn minimum(&self) -> usize;
 }
 

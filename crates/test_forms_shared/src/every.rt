@@ -1,4 +1,4 @@
-//! A case that is tried in every kind and form of container.
+//! A case, tried in every kind and form of container.
 
 use crate::held::Held;
 use scc_shared_cache::HashCache;
@@ -12,16 +12,16 @@ use test_forms::form::Form;
 use test_forms::numbered::Numbered;
 use test_kit::lines::{HELD, say};
 
-/// A case on keys and values of those types.
+/// A case on keys and values of the given types.
 pub trait Case<K: Drop + Numbered, V: Drop + Numbered> {
-    /// Whether it holds of an empty container.
+    /// Tries the case on `form`, which is empty. Returns whether the case holds.
     fn check<F: Form<K, V>>(&self, alloc: Global, form: &mut F) -> Result<bool, AllocError>;
 
-    /// Whether all is well once that container is gone.
+    /// Returns whether the case still holds after the container is dropped.
     fn has_ended(&self) -> bool;
 }
 
-/// How many slots and stripes a shared container begins with.
+/// The size of a shared container.
 #[derive(Clone, Copy)]
 struct Size {
     slots: usize,
@@ -30,7 +30,7 @@ struct Size {
 }
 
 impl Size {
-    // The name of a container of that size.
+    // Returns `of_one` if the size has one stripe, else `of_several`.
     fn name(self, of_one: &'static str, of_several: &'static str) -> &'static str {
         if self.is_one { of_one } else { of_several }
     }
@@ -149,7 +149,7 @@ fn in_cache<
     case.check(alloc, &mut Held::of_stripes(rt, cache, size.is_one))
 }
 
-// What became of a case whose container is gone. It is printed if the case didn't hold.
+// Prints `what` and `form` if the case didn't hold. Returns the status of the case, whose container is gone.
 fn tell<R: Print, K: Drop + Numbered, V: Drop + Numbered, C: Case<K, V>>(
     rt: &R,
     case: &C,
@@ -164,7 +164,7 @@ fn tell<R: Print, K: Drop + Numbered, V: Drop + Numbered, C: Case<K, V>>(
     }
 }
 
-// Tries a case in each kind for one owner, and answers the worst status.
+// Tries a case in each owned kind. Returns the worst status.
 fn in_owned_forms<
     R: AllocGlobal + Print,
     K: Eq + Hash + Clone + Drop + Numbered,
@@ -183,7 +183,7 @@ fn in_owned_forms<
     worst.max(tell(rt, case, "owned cache", what, cache))
 }
 
-// The same in each shared kind of a size.
+// Tries a case in each shared kind of the given size. Returns the worst status.
 fn in_shared_forms<
     R: Wait + AllocGlobal + Print,
     K: Eq + Hash + Clone + Drop + Numbered,
@@ -205,8 +205,8 @@ fn in_shared_forms<
     worst.max(tell(rt, case, form, what, cache))
 }
 
-/// Tries a case in each kind: for one owner, shared on one stripe, and shared on several. Prints a line for the case,
-/// and one for each form in which it doesn't hold. The answer is the worst status.
+/// Tries a case in each kind: owned, shared on one stripe, and shared on several. Prints a line for the case, and one
+/// for each form in which it doesn't hold. Returns the worst status.
 pub fn in_every_form<
     R: Wait + AllocGlobal + Print,
     K: Eq + Hash + Clone + Drop + Numbered,

@@ -1,7 +1,7 @@
-//! A container that threads share, beside the runtime by which its calls wait. All calls are made by one thread.
+//! A shared container with the runtime by which its calls wait. All calls are made by one thread.
 //!
-//! A call that holds an entry stands in a function of its own: the check doesn't follow an entry of a container beside
-//! the runtime in one struct.
+//! A call that holds an entry stands in a function of its own, because the check doesn't follow an entry of a
+//! container that stands beside the runtime in one struct.
 
 mod cache;
 mod index;
@@ -10,7 +10,7 @@ mod set;
 
 use test_forms::answers::Answer;
 
-/// A shared container and what its calls wait by.
+/// A shared container, and the runtime by which its calls wait.
 #[derive(Drop)]
 pub struct Held<'a, R, C> {
     rt: &'a R,
@@ -19,7 +19,7 @@ pub struct Held<'a, R, C> {
 }
 
 impl<'a, R, C> Held<'a, R, C> {
-    /// That container, which may have several stripes.
+    /// Returns `shared` with its runtime, for several stripes.
     pub fn new(rt: &'a R, shared: C) -> Self {
         Held {
             rt,
@@ -28,13 +28,13 @@ impl<'a, R, C> Held<'a, R, C> {
         }
     }
 
-    /// That container, and whether it has one stripe.
+    /// Returns `shared` with its runtime. `is_one` says whether it has one stripe.
     pub fn of_stripes(rt: &'a R, shared: C, is_one: bool) -> Self {
         Held { rt, shared, is_one }
     }
 }
 
-// What a walk answers that adds to a list, or says that it had no room.
+// Returns what a walk returns that adds pairs to a list: `Yes`, or `Refused` if the list had no room.
 fn walked(had_room: bool) -> Answer {
     if had_room {
         Answer::Yes(true)

@@ -1,4 +1,4 @@
-//! What tests of all crates are made with: hashers, keys, numbers, refusals that are outlasted, and lines.
+//! What the tests of all crates use: hashers, keys, numbers, calls that outlast refused memory, and lines.
 #![tactic(auto)]
 
 pub mod lines;

@@ -1,4 +1,4 @@
-//! A line for each case, and the status that it gives.
+//! A line for each case, and its status.
 ghost use Rattle.std.specs.Prelude.{◌≡◌, true, Ok};
 
 use std::alloc::AllocError;
@@ -6,13 +6,13 @@ use std::alloc::AllocError;
 /// The case held.
 pub const HELD: u8 = 0;
 
-/// An answer or what was held was wrong.
+/// A result or the contents were wrong.
 pub const WRONG: u8 = 1;
 
 /// Memory was refused, or the line could not be written.
 pub const REFUSED: u8 = 3;
 
-/// Prints what became of a case, and answers its status, which is `HELD` only where the case held.
+/// Prints what became of a case. Returns its status, which is `HELD` only if the case held.
 pub fn say<R: Print>(rt: &R, what: &str, how: &str, outcome: Result<bool, AllocError>) -> u8
     ensures { result ≡ 0 → outcome ≡ Ok true }
 {

@@ -1,25 +1,25 @@
-//! A hasher by which a key is its own hash under a mask, so that one type has keys that spread, that are equal in their
-//! tags, and that all collide.
+//! A hasher by which a key under a mask is its own hash. One key type thus has keys that spread, keys with equal
+//! tags, and keys that all collide.
 ghost use Rattle.std.specs.Int.Bits.{bit_and};
 ghost use Rattle.test_kit.specs.Masks.{masked_write};
 
 use std::hash::{BuildHasher, Hasher};
 
-/// Builds hashers by which the hash of a `u64` is what the mask leaves of it.
+/// Builds hashers by which the hash of a `u64` is the number under the mask.
 #[derive(Clone, Copy, Debug, PartialEq)]
 pub struct Masked(pub u64);
 
 /// Every key has the hash 0.
 pub const ZERO: Masked = Masked(0);
 
-/// The lowest 7 bits of each hash are 0, so that all slots have one tag.
+/// The lowest 7 bits of each hash are 0, so that all entries have one tag.
 pub const ALIKE: Masked = Masked(0xFFFF_FFFF_FFFF_FF80);
 
 /// Each key is its own hash.
 pub const SAME: Masked = Masked(u64::MAX);
 
-/// Finishes with what the mask leaves of the last write of exactly eight bytes, as a native `u64`; with 0 where there
-/// was none.
+/// Finishes with the last write of exactly eight bytes, as a native `u64` under the mask. Finishes with 0 if there
+/// was no such write.
 #[derive(Clone, Copy, Debug, PartialEq)]
 pub struct MaskedHasher {
     last: u64,

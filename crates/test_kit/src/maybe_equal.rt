@@ -1,4 +1,4 @@
-//! A key of which only a part is compared, so that one can see which of two equal keys is stored.
+//! A key of which only a part is compared, so that a test can see which of two equal keys is stored.
 ghost use Rattle.std.specs.Prelude.{◌==◌};
 ghost use Rattle.std.proofs.Common.{rules};
 ghost use Rattle.std.specs.Cmp.Rules.{comparing, hashing};
@@ -6,7 +6,7 @@ ghost use Rattle.std.specs.Hash as fed;
 
 use std::hash::{Hash, Hasher};
 
-/// Two numbers. Equality compares the first, and hashing writes the first; the second tells equal keys apart.
+/// Two numbers. Equality compares the first number, and hashing writes it. The second number tells equal keys apart.
 #[derive(Clone, Copy, Debug)]
 pub struct MaybeEqual(pub u64, pub u64);
 

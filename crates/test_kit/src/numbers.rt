@@ -1,7 +1,7 @@
-//! Numbers that look random, and are the same in each run.
+//! Numbers that look random and are the same in each run.
 ghost use Rattle.std.specs.Prelude.{◌≡◌, ◌+◌, ◌*◌, ◌/◌, ◌%◌, ◌^◌};
 
-/// The next number of a linear congruential generator, its upper half.
+/// Returns the upper half of the next state of a linear congruential generator.
 pub fn next(seed: &mut u64) -> u64
     ensures state { seed.new ≡ (seed.old * 6364136223846793005 + 1442695040888963407) % 2 ^ 64 }
     ensures upper { result ≡ seed.new / 2 ^ 32 }

@@ -1,37 +1,37 @@
-//! Calls that are refused memory, and made again until they succeed.
+//! Calls that are refused memory, and repeated until they succeed.
 use std::io::Print;
 
-/// How often a call is made at most. The driver of refused memory refuses fewer requests in a row, and a call that
-/// answers a refusal was refused one of them at least.
+/// The most times that a call is made. The driver of refused memory refuses fewer requests in a row, and a call that
+/// fails for memory had at least one of these requests refused.
 pub const TRIES: usize = 32;
 
-/// Whether a refusal was met in a run of a test.
+/// Whether a test was refused memory in a run.
 #[derive(Drop)]
 pub struct Refusal {
     is_met: bool,
 }
 
 impl Refusal {
-    /// None was met yet.
+    /// Returns a `Refusal` that isn't met yet.
     pub fn new() -> Refusal {
         Refusal { is_met: false }
     }
 
-    /// Whether one was met.
+    /// Returns whether a refusal was met.
     pub fn is_met(&self) -> bool {
         self.is_met
     }
 
-    /// Says on standard output what was refused. `./test` fails where what a source names here is refused in no run,
-    /// or where a test says so that wasn't refused.
+    /// Notes a refusal, and prints what was refused. `./test` fails if a call that a source names here is refused in
+    /// no run, or if a test prints a refusal that didn't happen.
     pub fn meet<R: Print>(&mut self, rt: &R, what: &str) {
         self.is_met = true;
-        // A line that isn't written is missed by `./test`, which looks for what each test names.
+        // If the line can't be written, `./test` misses it, because it looks for each name that a test gives.
         let _ = println!(rt; "refused: {what}");
     }
 
-    /// Makes something until it isn't refused, and looks at what is left after each refusal. None where that isn't
-    /// right, or where it is refused each time.
+    /// Calls `make` until it isn't refused, and calls `is_left_right` after each refusal. Returns `None` if
+    /// `is_left_right` returns false, or if each call of `make` is refused.
     pub fn outlast<T, E: Drop, R: Print, F: Fn() -> Result<T, E>, G: Fn() -> bool>(
         &mut self,
         rt: &R,

@@ -1,5 +1,5 @@
-// What a clone is that was refused before it was made: the keys and the slots of the original, which both change alone
-// from then on.
+// Clones that are refused before they are made: a clone has the keys and the slots of its original, and from then on
+// each of the two changes alone.
 use crate::expect::{expect, expect_eq};
 use crate::looks::{expect_keys, fill, put};
 use scc::{HashIndex, HashMap, HashSet, hash_index, hash_map, hash_set};
@@ -10,7 +10,7 @@ use test_forms::form::{Form, Way};
 use test_kit::refusals::{Refusal, TRIES};
 use test_kit::zero::Zero;
 
-// A clone of three keys in 64 slots, to which a fourth is added.
+// Checks a clone of three keys in 64 slots, and adds a fourth key to the clone alone.
 fn expect_copy<F: Form<u64, u64>, R: Abort>(rt: &R, original: &F, copy: &mut F) {
     expect_keys(rt, copy, Way::Insert, 0, 3);
     put(copy, 3, !3);
@@ -92,7 +92,7 @@ fn a_clone_of_an_index_is_whole(rt: HostRuntime) {
     expect_index(&rt, &mut Refusal::new(), &index);
 }
 
-// The one loses its key 2, and the other keeps it.
+// Removes key 2 from the map, which the clone keeps.
 fn expect_two_maps<R: Abort + Wait>(
     rt: &R,
     map: &HashMap<u64, u64, Zero>,
@@ -136,7 +136,7 @@ fn a_clone_of_a_shared_map_is_whole(rt: HostRuntime) {
     expect(&rt, false);
 }
 
-// The one loses its key 2, and the other keeps it.
+// Removes key 2 from the set, which the clone keeps.
 fn expect_two_sets<R: Abort + Wait>(rt: &R, set: &HashSet<u64, Zero>, copy: &HashSet<u64, Zero>) {
     expect(rt, set.remove_sync(rt, &2).is_some());
     expect(rt, copy.contains_sync(rt, &2));
@@ -176,7 +176,7 @@ fn a_clone_of_a_shared_set_is_whole(rt: HostRuntime) {
     expect(&rt, false);
 }
 
-// The one loses its key 2, and the other keeps it.
+// Removes key 2 from the index, which the clone keeps.
 fn expect_two_indexs<R: Abort + Wait>(
     rt: &R,
     index: &HashIndex<u64, u64, Zero>,

@@ -1,4 +1,4 @@
-// Clones and snapshots: nothing is made, or the whole, and the original stays.
+// Clones and snapshots: a call makes the whole or nothing, and the original stays.
 use crate::expect::expect_eq;
 use crate::looks::{Look, expect_keys, fill, put};
 use crate::makers::{Job, Of, with};

@@ -1,5 +1,5 @@
-// An index of which all keys, 33 or more in one bucket, wait in the old array: the next insertion takes memory for all of them at
-// once, and where that is refused, they go on waiting.
+// An index whose keys, 33 or more in one bucket, all wait in the old array. The next insertion asks for memory for all
+// of them at once, and if it is refused, they go on waiting.
 use crate::expect::{expect, expect_eq};
 use crate::insertions::{Looks, expect_added};
 use crate::looks::{expect_keys, fill_to_growth};

@@ -1,5 +1,5 @@
-// Every way to add a pair, in each state in which it asks for memory. Refused, it hands the pair back and changes
-// nothing; made again until it succeeds, it adds the pair.
+// Every way to add a pair, in each state in which it asks for memory. A refused insertion hands the pair back and
+// changes nothing. It is made again until it adds the pair.
 use crate::expect::{expect, expect_eq};
 use crate::looks::{Look, expect_keys, fill, pair_of, value_of};
 use crate::makers::{Job, Of, with};
@@ -12,20 +12,20 @@ use test_forms::form::{Form, WAYS, Way};
 use test_forms::numbered::Seen;
 use test_kit::refusals::{Refusal, TRIES};
 
-// What a container is like before the insertion.
+// The state of a container before the insertion.
 #[derive(Clone, Copy, Debug, PartialEq)]
 enum State {
-    // It has no array: one is asked for.
+    // The container has no array. The insertion asks for one.
     Bare,
-    // It has 64 slots, of which half are in use, and all of the key's bucket: a growth is asked for, and then, but in
-    // a cache, the overflow list.
+    // The container has 64 slots, half of them in use, and the key's bucket is full. The insertion asks for a growth,
+    // and then, but in a cache, for the overflow list.
     Full,
-    // Its array has 128 slots, of which less than half are in use, and all of the key's bucket: the overflow list is
-    // asked for alone.
+    // The container has an array of 128 slots, less than half of them in use, and the key's bucket is full. The
+    // insertion asks for the overflow list alone.
     Wide,
 }
 
-// The pairs that an insertion of the key drives out of a bucket of 32.
+// Returns the pair that an insertion of `key` evicts from a bucket of 32, if any.
 fn driven_out(kind: Kind, way: Way, key: u64) -> Option<Seen> {
     if kind == Kind::Cache && key >= 32 {
         let oldest = key.saturating_sub(32);
@@ -35,7 +35,7 @@ fn driven_out(kind: Kind, way: Way, key: u64) -> Option<Seen> {
     }
 }
 
-// What the way answers where the key is missing, and memory is there.
+// Returns the answer of `way` if the key is missing and memory is given.
 fn wanted(kind: Kind, way: Way, key: u64) -> Answer {
     let evicted = driven_out(kind, way, key);
     if way.lends(kind) {
@@ -48,7 +48,7 @@ fn wanted(kind: Kind, way: Way, key: u64) -> Answer {
     }
 }
 
-// The first of the keys that are there once so many were added, from 0 on.
+// Returns the first key that is present once `count` keys were added, from 0 on.
 fn first_kept(kind: Kind, count: u64) -> u64 {
     if kind == Kind::Cache {
         count.saturating_sub(32)
@@ -57,7 +57,7 @@ fn first_kept(kind: Kind, count: u64) -> u64 {
     }
 }
 
-// Two looks, from before and after a call.
+// Two looks, one before a call and one after it.
 #[derive(Drop)]
 pub(crate) struct Looks {
     before: Look,
@@ -72,7 +72,7 @@ impl Looks {
     }
 }
 
-// Adds the key by that way, after the keys below it, until that succeeds.
+// Adds `key` by `way`, after the keys below it, until the insertion succeeds. A refused insertion must change nothing.
 pub(crate) fn expect_added<F: Form<u64, u64>, R: Abort + Print>(
     rt: &R,
     refusal: &mut Refusal,
@@ -101,7 +101,7 @@ pub(crate) fn expect_added<F: Form<u64, u64>, R: Abort + Print>(
     expect_keys(rt, form, way, first_kept(kind, end), end);
 }
 
-// An insertion by a way in a state.
+// An insertion by one way in one state.
 #[derive(Drop)]
 struct Insertion {
     way: Way,
@@ -138,8 +138,8 @@ impl Job for Insertion {
     }
 }
 
-// Adds keys to a full bucket until the array has doubled. The first one does that; where the growth is refused, it is
-// added all the same, and the next one tries again.
+// Adds keys to a full bucket until the array has doubled. The first key doubles it. If the growth is refused, the key
+// is added all the same, and the next key tries again.
 fn expect_growth<F: Form<u64, u64>, R: Abort + Print>(
     rt: &R,
     refusal: &mut Refusal,
@@ -161,10 +161,10 @@ fn expect_growth<F: Form<u64, u64>, R: Abort + Print>(
     expect_eq(rt, form.sizes().capacity, 128);
 }
 
-// The ways that are tried where the keys before take much memory.
+// The ways that are tried if the keys before take much memory.
 const SOME: [Way; 4] = [Way::Insert, Way::Replace, Way::OrInsert, Way::Vacant];
 
-// Tries each of the ways that the kind has.
+// Tries each of `ways` that the kind has.
 fn expect_insertions<R: AllocGlobal + Abort + Print + Wait>(
     rt: &R,
     of: Of,

@@ -1,6 +1,6 @@
-//! Tests of every call of the owned and the shared containers that can be refused memory, which hold whichever requests
-//! are refused: a refused call hands back what was supplied and leaves what it has to leave, and is made again until it
-//! succeeds.
+//! Tests of every call of the owned and the shared containers that can be refused memory. They hold whichever requests
+//! are refused: a refused call hands back what was supplied, leaves the container as it must, and is made again until
+//! it succeeds.
 #![tactic(auto)]
 
 #[cfg(test)]

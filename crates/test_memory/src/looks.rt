@@ -1,4 +1,4 @@
-// What a container holds, looked at without asking for memory.
+// Looks at the contents of a container, which ask for no memory.
 use crate::expect::{expect, expect_eq};
 use std::io::Print;
 use std::process::Abort;
@@ -7,12 +7,12 @@ use test_forms::form::{Form, Sizes, Way};
 use test_forms::numbered::Seen;
 use test_kit::refusals::{Refusal, TRIES};
 
-// The value of a key that was added by that way: its complement, where the way doesn't give it another.
+// Returns the value of a key that was added by `way`: its complement, unless the way gives it another value.
 pub(crate) fn value_of(way: Way, key: u64) -> u64 {
     way.value(key, !key)
 }
 
-// The numbers of a pair; a set shows no value.
+// Returns the numbers of a pair. A set shows no value.
 pub(crate) fn pair_of(kind: Kind, key: u64, value: u64) -> Seen {
     if kind.shows_values() {
         (key, 0, value)
@@ -21,8 +21,8 @@ pub(crate) fn pair_of(kind: Kind, key: u64, value: u64) -> Seen {
     }
 }
 
-// Fails where one of the keys from `first` on, before `end`, is missing or hasn't the value of that way, or where
-// another key is there.
+// Fails if a key from `first` up to, but without, `end` is missing or hasn't the value of `way`, or if another key is
+// present.
 pub(crate) fn expect_keys<F: Form<u64, u64>, R: Abort>(
     rt: &R,
     form: &F,
@@ -39,7 +39,7 @@ pub(crate) fn expect_keys<F: Form<u64, u64>, R: Abort>(
     expect_eq(rt, form.read(&end), Answer::Found(None));
 }
 
-// Adds a key until it isn't refused.
+// Adds a key until the insertion isn't refused.
 pub(crate) fn put<F: Form<u64, u64>>(form: &mut F, key: u64, value: u64) {
     for _ in 0..TRIES {
         if !matches!(form.add(Way::Insert, key, value), Answer::Refused(_)) {
@@ -48,7 +48,7 @@ pub(crate) fn put<F: Form<u64, u64>>(form: &mut F, key: u64, value: u64) {
     }
 }
 
-// Adds the keys below `count`, with the values of that way.
+// Adds the keys below `count`, with the values of `way`.
 pub(crate) fn fill<F: Form<u64, u64>, R: Abort>(rt: &R, form: &mut F, way: Way, count: u64) {
     for key in 0..count {
         put(form, key, value_of(way, key));
@@ -56,8 +56,8 @@ pub(crate) fn fill<F: Form<u64, u64>, R: Abort>(rt: &R, form: &mut F, way: Way, 
     expect_keys(rt, form, way, 0, count);
 }
 
-// Adds keys, each with its complement as value, to a container of 64 slots until it has 128, which the 33rd key does if
-// the growth isn't refused. Answers how many there are then; a cache has lost all but the last 32.
+// Adds keys, each with its complement as value, to a container of 64 slots until it has 128. The 33rd key makes it
+// grow if the growth isn't refused. Returns the number of added keys; a cache has lost all but the last 32.
 pub(crate) fn fill_to_growth<F: Form<u64, u64>, R: Abort>(rt: &R, form: &mut F) -> u64 {
     let mut count = 0u64;
     for _ in 0..80 {
@@ -71,7 +71,7 @@ pub(crate) fn fill_to_growth<F: Form<u64, u64>, R: Abort>(rt: &R, form: &mut F) 
     count
 }
 
-// The pairs in the order of a walk, how large the container is, and how many buckets wait.
+// The pairs in the order of a walk, the sizes of the container, and the number of waiting buckets.
 #[derive(Drop)]
 pub(crate) struct Look {
     pub(crate) pairs: Vec<Seen>,
@@ -80,7 +80,7 @@ pub(crate) struct Look {
 }
 
 impl Look {
-    // An empty look with room for all pairs of a case.
+    // Returns an empty look with room for all pairs of a case.
     pub(crate) fn new<R: AllocGlobal + Abort + Print>(rt: &R, refusal: &mut Refusal) -> Look {
         for _ in 0..TRIES {
             match Vec::with_capacity(rt.alloc(), 96) {
@@ -97,7 +97,7 @@ impl Look {
         panic!(rt; "a list is refused each time")
     }
 
-    // Looks at the container.
+    // Looks at `form`.
     pub(crate) fn see<F: Form<u64, u64>, R: Abort>(&mut self, rt: &R, form: &F) {
         self.pairs.clear();
         expect(rt, form.collect(&mut self.pairs));
@@ -105,8 +105,8 @@ impl Look {
         self.waiting = form.waiting();
     }
 
-    // Fails where a look after a refused call shows other pairs, another order of them or other sizes than this one
-    // from before. A growth that came before the refusal stays; an index makes none.
+    // Fails if the look `after` a refused call shows other pairs, another order or other sizes than this look before
+    // the call. If `may_grow`, the array may have doubled before the refusal. An index makes no such growth.
     pub(crate) fn expect_same<R: Abort>(&self, rt: &R, after: &Look, may_grow: bool) {
         expect_eq(rt, after.pairs.as_slice(), self.pairs.as_slice());
         match (self.sizes, after.sizes) {

@@ -30,7 +30,7 @@ impl Of {
         }
     }
 
-    // So many slots that each array has 128.
+    // Returns a number of slots for which each array has 128 slots.
     pub(crate) fn wide(self) -> usize {
         match self {
             Of::Map | Of::Set | Of::Index | Of::Cache => 128,
@@ -39,7 +39,7 @@ impl Of {
     }
 }
 
-// What is done with a container.
+// A job that is done with a container.
 pub(crate) trait Job {
     fn run<F: Form<u64, u64>, R: AllocGlobal + Abort + Print + Wait>(
         &self,
@@ -50,8 +50,8 @@ pub(crate) trait Job {
     );
 }
 
-// Makes an empty container with so many slots, and does the job with it. With 64 slots a shared one has one stripe. A
-// cache has 128 slots at most.
+// Makes an empty container with `slots` slots, and does the job with it. A shared container of 64 slots has one
+// stripe. A cache has at most 128 slots.
 pub(crate) fn with<J: Job, R: AllocGlobal + Abort + Print + Wait>(
     rt: &R,
     refusal: &mut Refusal,
@@ -90,7 +90,7 @@ pub(crate) fn of_items<J: Job, R: AllocGlobal + Abort + Print + Wait>(
     }
 }
 
-// The items of which containers are made: so many keys that an array grows, each with its complement as value.
+// Returns the items of which containers are made: so many keys that an array grows, each with its complement as value.
 pub(crate) fn items() -> [(u64, u64); 34] {
     let mut items = [(0u64, 0u64); 34];
     let mut key = 0u64;
@@ -101,7 +101,7 @@ pub(crate) fn items() -> [(u64, u64); 34] {
     items
 }
 
-// Their keys.
+// Returns the keys of the items.
 pub(crate) fn keys() -> [u64; 34] {
     let mut keys = [0u64; 34];
     let mut next = 0u64;

@@ -1,5 +1,5 @@
-// Constructors and collections of items: nothing is made, or the whole. Slots that no memory has are refused in each
-// run.
+// Constructors and collections of items: a call makes the whole or nothing. Slots for which no memory is enough are
+// refused in each run.
 use crate::expect::{expect, expect_eq};
 use crate::looks::expect_keys;
 use crate::makers::{Job, Of, of_items, with};
@@ -11,10 +11,10 @@ use test_forms::answers::Kind;
 use test_forms::form::{Form, Way};
 use test_kit::refusals::{Refusal, TRIES};
 
-// The slots that are asked for, and those that are made.
+// The slots that are asked for, and the slots that are made.
 const SIZES: [(usize, usize); 3] = [(0, 0), (1, 64), (65, 128)];
 
-// The container is empty, and has so many slots.
+// Checks that the container is empty and has `capacity` slots.
 #[derive(Drop)]
 struct Empty {
     capacity: usize,
@@ -33,8 +33,8 @@ impl Job for Empty {
     }
 }
 
-// The container has the keys below 34, or the last 32 of them if it is a cache, and has grown where that wasn't
-// refused.
+// Checks that the container has the keys below 34, or only the last 32 of them if it is a cache, and has 64 slots if
+// its growth was refused, or 128.
 #[derive(Drop)]
 struct Collected;
 

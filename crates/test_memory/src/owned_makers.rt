@@ -1,4 +1,4 @@
-// The kinds for one owner.
+// Makers of the owned kinds.
 use crate::makers::{Job, Of, items, keys};
 use scc::{hash_cache, hash_index, hash_map, hash_set};
 use std::io::Print;

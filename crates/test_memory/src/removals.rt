@@ -1,5 +1,5 @@
-// Every removal that may shrink the array. Where that is refused the pair is removed all the same, the array stays, and
-// a later removal shrinks it.
+// Every removal that may shrink the array. If the shrink is refused, the pair is removed all the same, the array
+// stays, and a later removal shrinks it.
 use crate::expect::expect_eq;
 use crate::looks::{Look, fill_to_growth, pair_of, value_of};
 use crate::makers::{Job, Of, with};
@@ -35,7 +35,7 @@ const REMOVALS: [Removal; 7] = [
 ];
 
 impl Removal {
-    // Whether the kind has it.
+    // Returns whether the kind has this removal.
     fn is_of(self, kind: Kind) -> bool {
         match self {
             Removal::Value => kind.writes_values(),
@@ -44,7 +44,7 @@ impl Removal {
         }
     }
 
-    // Whether it takes that key out, where `key` is the one that it is asked for.
+    // Returns whether the removal of `key` takes out `other`.
     fn takes(self, key: u64, other: u64) -> bool {
         match self {
             Removal::Walk | Removal::Clear => true,
@@ -53,7 +53,7 @@ impl Removal {
         }
     }
 
-    // The value that the other keys have after it.
+    // Returns the value that the other keys have after the removal.
     fn leaves(self, kind: Kind, key: u64) -> u64 {
         let value = value_of(Way::Insert, key);
         if self == Removal::Retain && kind.writes_values() {
@@ -64,7 +64,7 @@ impl Removal {
     }
 }
 
-// What a removal of a pair answers.
+// Returns the answer of a removal of a pair.
 fn removed(kind: Kind, key: u64, value: u64) -> Answer {
     if kind == Kind::Index {
         Answer::Yes(true)
@@ -73,7 +73,7 @@ fn removed(kind: Kind, key: u64, value: u64) -> Answer {
     }
 }
 
-// Takes all pairs out, until the list has had room for each.
+// Takes all pairs, until the list has had room for each.
 fn take_all<F: Form<u64, u64>, R: AllocGlobal + Abort + Print>(
     rt: &R,
     refusal: &mut Refusal,
@@ -93,7 +93,7 @@ fn take_all<F: Form<u64, u64>, R: AllocGlobal + Abort + Print>(
     expect_eq(rt, look.pairs.len(), 17);
 }
 
-// Removes the pair of the key, or more pairs with it.
+// Removes the pair of `key`, or more pairs with it.
 fn remove<F: Form<u64, u64>, R: AllocGlobal + Abort + Print>(
     rt: &R,
     refusal: &mut Refusal,
@@ -125,8 +125,8 @@ fn remove<F: Form<u64, u64>, R: AllocGlobal + Abort + Print>(
     }
 }
 
-// Fills a bucket of an array of 64 slots until the array has doubled, and takes out all keys but the last 17, which are
-// one more than an eighth of the slots. Answers how many keys were added, from 0 on.
+// Fills a bucket of an array of 64 slots until the array has doubled, and removes all keys but the last 17, one more
+// than an eighth of the slots. Returns the number of keys that were added, from 0 on.
 fn thin_out<F: Form<u64, u64>, R: Abort>(rt: &R, form: &mut F) -> u64 {
     let count = fill_to_growth(rt, form);
     for key in 0..count {
@@ -138,7 +138,7 @@ fn thin_out<F: Form<u64, u64>, R: Abort>(rt: &R, form: &mut F) -> u64 {
     count
 }
 
-// Shrinks the array by one removal after another, and by clearing, until that isn't refused.
+// Shrinks the array by one removal after another, and by clearing, until the shrink isn't refused.
 pub(crate) fn expect_shrunk<F: Form<u64, u64>, R: Abort + Print>(
     rt: &R,
     refusal: &mut Refusal,
@@ -179,7 +179,7 @@ impl Job for Shrink {
         let mut look = Look::new(rt, refusal);
         let count = thin_out(rt, form);
         let last = count.saturating_sub(1);
-        // The condition asks for an even value or key.
+        // The condition wants an even value or key.
         let is_odd = kind == Kind::Index;
         let key = if (last % 2 == 1) == is_odd {
             last

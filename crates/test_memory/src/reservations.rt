@@ -1,5 +1,5 @@
-// Reservations whose growth is refused: they are given all the same, and a later one grows. Given back, they may be
-// refused their shrink, and a later removal makes it.
+// Reservations whose growth is refused: the reservation is given all the same, and a later one grows. If the shrink of
+// a release is refused, a later removal shrinks.
 use crate::expect::expect_eq;
 use crate::insertions::{Looks, expect_added};
 use crate::looks::{expect_keys, fill};
@@ -13,10 +13,10 @@ use test_forms::answers::Answer;
 use test_forms::form::{Form, Way};
 use test_kit::refusals::{Refusal, TRIES};
 
-// So many slots no memory has.
+// A number of slots for which no memory is enough.
 pub(crate) const GREATEST: usize = 9_223_372_036_854_775_808;
 
-// Three keys in 64 slots, for which 64 more are reserved.
+// Reserves 64 slots beside three keys in 64 slots.
 #[derive(Drop)]
 struct Reservation;
 
@@ -44,8 +44,8 @@ impl Job for Reservation {
     }
 }
 
-// A growth that no memory has room for is refused in each run, and the reservation is given all the same. One by which
-// the minimum would pass the greatest isn't given.
+// Reserves the greatest number of slots. The growth, for which no memory is enough, is refused in each run, and the
+// reservation is given all the same. A reservation of 0 slots is refused.
 #[derive(Drop)]
 struct Greatest;
 
@@ -70,7 +70,7 @@ impl Job for Greatest {
     }
 }
 
-// Both, the second on a container without an array.
+// Tries both reservations, the second on a container without an array.
 fn expect_reservations<R: AllocGlobal + Abort + Print + Wait>(rt: &R, of: Of) {
     let mut refusal = Refusal::new();
     with(rt, &mut refusal, of, 64, &Reservation);

@@ -1,4 +1,4 @@
-// The kinds that threads share.
+// Makers of the shared kinds.
 use crate::makers::{Job, Of, items, keys};
 use scc::{HashCache, HashIndex, HashMap, HashSet};
 use std::io::Print;

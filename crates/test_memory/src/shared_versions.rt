@@ -1,5 +1,5 @@
-// The same on the index that threads share. `peek` adds an owner to a version that is there, which asks for no memory,
-// and it is refused only where a version has as many owners as can be counted, more than any test can make.
+// Versions of a shared index that are refused memory. `peek` adds an owner to a stored version, which asks for no
+// memory. It is refused only if a version has as many owners as can be counted, more than any test can make.
 use crate::expect::{expect, expect_eq};
 use crate::versions::expect_versions;
 use scc::hash_index::{Entry, HashIndex, Iter};
@@ -11,7 +11,7 @@ use test_kit::zero::Zero;
 
 type Index = HashIndex<u64, u64, Zero>;
 
-// An index of the keys 0 and 1, each with its complement as value.
+// Returns an index of the keys 0 and 1, each with its complement as value.
 fn of_two<R: AllocGlobal + Abort + Print + Wait>(rt: &R, refusal: &mut Refusal) -> Index {
     for _ in 0..TRIES {
         match HashIndex::try_from_iter(rt, rt.alloc(), [(0, !0), (1, !1)]) {
@@ -22,7 +22,8 @@ fn of_two<R: AllocGlobal + Abort + Print + Wait>(rt: &R, refusal: &mut Refusal) 
     panic!(rt; "it is refused each time")
 }
 
-// Sets the value of key 1 by its entry until that isn't refused. The entry shows the old value as long as it is.
+// Sets the value of key 1 by its entry until the call isn't refused. While it is refused, the entry shows the old
+// value.
 fn expect_updated<R: Abort + Print + Wait>(
     rt: &R,
     refusal: &mut Refusal,
@@ -46,8 +47,8 @@ fn expect_updated<R: Abort + Print + Wait>(
     expect_eq(rt, (*entry.key(), *entry.get()), (1, value));
 }
 
-// Publishes the value of key 1 with its lowest bit turned. Refused, the entry comes back as it was, with the value that
-// the closure answered, and publishes that by its next calls.
+// Publishes the value of key 1 with its lowest bit flipped. If it is refused, the entry comes back as it was with the
+// value that the closure returned, and publishes that value by its next calls.
 fn expect_modified<R: Abort + Print + Wait>(rt: &R, refusal: &mut Refusal, index: &Index) {
     match index.entry_sync(rt, 1).and_modify(|value| *value ^ 1) {
         Ok(entry) => expect_eq(rt, *entry.key(), 1),
@@ -71,7 +72,7 @@ fn expect_modified<R: Abort + Print + Wait>(rt: &R, refusal: &mut Refusal, index
     }
 }
 
-// A version that was peeked stays what it was, whatever is refused after it.
+// A peeked version stays as it was, whatever is refused after it.
 #[test]
 fn a_refused_shared_entry_publishes_by_its_next_call(rt: HostRuntime) {
     let mut refusal = Refusal::new();
@@ -86,7 +87,7 @@ fn a_refused_shared_entry_publishes_by_its_next_call(rt: HostRuntime) {
     }
 }
 
-// A clone of the versions, and then they themselves, once the index is empty.
+// Checks a clone of the versions, and then the versions themselves, once the index is empty.
 fn expect_cloned<R: Abort + Print + Wait>(
     rt: &R,
     refusal: &mut Refusal,
@@ -107,7 +108,7 @@ fn expect_cloned<R: Abort + Print + Wait>(
     expect(rt, false);
 }
 
-// A snapshot and its clone keep their versions, whatever becomes of the index.
+// A snapshot and its clone keep their versions, whatever happens to the index.
 #[test]
 fn a_refused_clone_of_a_snapshot_leaves_the_shared_snapshot(rt: HostRuntime) {
     let mut refusal = Refusal::new();

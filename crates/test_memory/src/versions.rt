@@ -1,5 +1,5 @@
-// New versions of keys that are there. Refused, what was supplied comes back, the stored version stays, and the same
-// entry publishes it by the next call.
+// New versions of present keys. If a version is refused, what was supplied comes back, the stored version stays, and
+// the entry publishes the supplied version by the next call.
 use crate::expect::{expect, expect_eq};
 use crate::looks::{Look, fill, pair_of};
 use crate::makers::{Job, Of, with};
@@ -15,14 +15,14 @@ use test_kit::zero::Zero;
 
 type Index = Owned<u64, u64, Zero>;
 
-// The two calls that set the value of a key that is there.
+// The two calls that set the value of a present key.
 #[derive(Clone, Copy, Debug, PartialEq)]
 enum Change {
     Update,
     Modify,
 }
 
-// Sets the value of key 1 to 7, until that isn't refused, each time through a new entry.
+// Sets the value of key 1 to 7 until the call isn't refused, each time through a new entry.
 #[derive(Drop)]
 struct Changing {
     change: Change,
@@ -79,7 +79,8 @@ fn a_refused_change_leaves_the_shared_version(rt: HostRuntime) {
     expect_changes(&rt, Of::SharedIndex);
 }
 
-// Sets the value of key 1 by its entry until that isn't refused. The entry shows the old value as long as it is.
+// Sets the value of key 1 by its entry until the call isn't refused. While it is refused, the entry shows the old
+// value.
 fn expect_updated<R: Abort + Print>(
     rt: &R,
     refusal: &mut Refusal,
@@ -103,8 +104,8 @@ fn expect_updated<R: Abort + Print>(
     expect_eq(rt, (*entry.key(), *entry.get()), (1, value));
 }
 
-// Publishes the value of key 1 with its lowest bit turned. Refused, the entry comes back as it was, with the value that
-// the closure answered, and publishes that by its next calls.
+// Publishes the value of key 1 with its lowest bit flipped. If it is refused, the entry comes back as it was with the
+// value that the closure returned, and publishes that value by its next calls.
 fn expect_modified<R: Abort + Print>(rt: &R, refusal: &mut Refusal, index: &mut Index) {
     match index.entry_sync(1).and_modify(|value| *value ^ 1) {
         Ok(entry) => expect_eq(rt, *entry.key(), 1),
@@ -144,7 +145,7 @@ fn a_refused_entry_publishes_by_its_next_call(rt: HostRuntime) {
     expect_eq(&rt, values, (Some(!0), Some(7)));
 }
 
-// Two versions, each with the complement of its key as value, and none after them.
+// Checks that there are two versions, each with the complement of its key as value, and none after them.
 pub(crate) fn expect_versions<R: Abort>(rt: &R, versions: Iter<u64, u64>) {
     let mut left = versions;
     let mut seen = 0usize;
@@ -160,7 +161,7 @@ pub(crate) fn expect_versions<R: Abort>(rt: &R, versions: Iter<u64, u64>) {
     );
 }
 
-// A clone of the versions, and then they themselves, once the index is empty.
+// Checks a clone of the versions, and then the versions themselves, once the index is empty.
 fn expect_cloned<R: Abort + Print>(
     rt: &R,
     refusal: &mut Refusal,
@@ -181,7 +182,7 @@ fn expect_cloned<R: Abort + Print>(
     expect(rt, false);
 }
 
-// A snapshot and its clone keep their versions, whatever becomes of the index.
+// A snapshot and its clone keep their versions, whatever happens to the index.
 #[test]
 fn a_refused_clone_of_a_snapshot_leaves_the_snapshot(rt: HostRuntime) {
     let mut refusal = Refusal::new();

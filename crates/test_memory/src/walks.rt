@@ -1,5 +1,5 @@
-// Walks whose list of taken pairs finds no room: they end before the closure is called on the next pair, and the next
-// walk takes the rest.
+// Walks whose list of taken pairs is refused room: they end before the closure is called on the next pair, and the
+// next walk takes the rest.
 use crate::expect::expect_eq;
 use crate::looks::{Look, fill, pair_of};
 use crate::makers::{Job, Of, with};
@@ -15,13 +15,13 @@ use test_kit::refusals::{Refusal, TRIES};
 
 const KEYS: u64 = 12;
 
-// Whether a pair was taken, with the 9 that the closure wrote.
+// Returns whether a pair was taken, with the 9 that the closure wrote.
 fn is_taken(kind: Kind, taken: &[Seen], key: u64) -> bool {
     let pair = pair_of(kind, key, 9);
     taken.iter().any(|other| *other == pair)
 }
 
-// Each key is in the list, or in the container with the value that it had.
+// Checks that each key is in the list, or in the container with its old value.
 fn expect_parted<F: Form<u64, u64>, R: Abort>(rt: &R, form: &F, taken: &[Seen]) {
     let kind = form.kind();
     let all = form.sizes().len.saturating_add(taken.len());

@@ -1,5 +1,5 @@
-// A first array that no memory has, since so many slots are reserved: each way to add a pair is refused in each run, and
-// hands the pair back. Once the reservation is given back, the next insertion is right.
+// A first array for which no memory is enough, since too many slots are reserved: each way to add a pair is refused in
+// each run, and hands the pair back. Once the reservation is released, the next insertion succeeds.
 use crate::expect::{expect, expect_eq};
 use crate::looks::{expect_keys, pair_of, put, value_of};
 use crate::reservations::GREATEST;
@@ -13,7 +13,7 @@ use test_forms::reserving::Reserving;
 use test_kit::refusals::{Refusal, TRIES};
 use test_kit::zero::Zero;
 
-// Tries each way on a container for one owner.
+// Tries each way on an owned container.
 fn expect_no_array<C: Form<u64, u64> + Reserving, R: Abort>(rt: &R, owned: &mut C) {
     let token = owned
         .reserve_slots(GREATEST)

@@ -1,5 +1,5 @@
-// A recorded cache of texts: the copies of an evicted pair are made before anything is changed, so a refused put evicts
-// nothing, and the put that succeeds is right.
+// A recorded cache of texts: the copies of an evicted pair are made before anything is changed, so a refused put
+// evicts nothing, and the put that succeeds is right.
 ghost use Rattle.std.specs.Prelude.{◌≡◌, Some};
 ghost use Rattle.scc_recorded.specs.Setups.{request_of};
 
@@ -16,8 +16,8 @@ use std::sync::ledger::{Blank, Ledger};
 use test_kit::refusals::{Refusal, TRIES};
 use test_kit::zero::Zero;
 
-// A key is a number, and a value a text or none: one type for both, since the borrow checker counts the types that are
-// met.
+// A key, which is a number, or a value, which is a number or a text. Both have one type, since the borrow checker
+// counts the types that it meets.
 #[derive(Clone, PartialEq, Eq, Hash, Drop)]
 enum Word {
     Number(u64),
@@ -26,8 +26,8 @@ enum Word {
 
 type Names = Owned<Word, Word, Shared<Zero>>;
 
-// The value of a key: key 0 has a text, and every other a number, which takes no memory. None where the text is refused
-// each time.
+// Returns the value of a key: key 0 has a text, and every other key a number, which allocates nothing. Returns `None`
+// if the text is refused each time.
 fn value_of<R: AllocGlobal + Print>(rt: &R, refusal: &mut Refusal, key: u64) -> Option<Word> {
     if key > 0 {
         return Some(Word::Number(0));
@@ -38,7 +38,7 @@ fn value_of<R: AllocGlobal + Print>(rt: &R, refusal: &mut Refusal, key: u64) -> 
     }
 }
 
-// Whether that is what the put of the key answers: that of key 32 evicts key 0, and no other evicts.
+// Returns whether `reply` is the reply of the put of `key`: the put of key 32 evicts key 0, and no other put evicts.
 fn is_answer(key: u64, reply: &Reply<Word, Word>) -> bool {
     match reply {
         Reply::Evicted(None) => key < 32,
@@ -61,7 +61,8 @@ fn is_x(word: &Word) -> bool {
     }
 }
 
-// Puts a key once: whether its answer is right. None where it was refused, as only that of key 32 is for its container.
+// Puts a key once, and returns whether its reply is right, or `None` if the put was refused. The container refuses
+// only the put of key 32.
 fn put<L: Ledger, M: Site<Shared<Zero>>, R: AllocGlobal + Print + Wait>(
     rt: &R,
     refusal: &mut Refusal,
@@ -85,7 +86,7 @@ fn put<L: Ledger, M: Site<Shared<Zero>>, R: AllocGlobal + Print + Wait>(
     }
 }
 
-// Makes the put of the key until it succeeds. Refused, the pass stays as it was, and nothing is evicted.
+// Puts `key` until the put succeeds. A refused put leaves the pass as it was, and evicts nothing.
 fn expect_put<L: Ledger, M: Site<Shared<Zero>>, R: AllocGlobal + Abort + Print + Wait>(
     rt: &R,
     refusal: &mut Refusal,
@@ -105,7 +106,7 @@ fn expect_put<L: Ledger, M: Site<Shared<Zero>>, R: AllocGlobal + Abort + Print +
     expect(rt, false);
 }
 
-// The cache holds so many keys.
+// Checks that the cache holds this number of keys.
 fn expect_length<L: Ledger, M: Site<Shared<Zero>>, R: Abort + Print + Wait>(
     rt: &R,
     refusal: &mut Refusal,
@@ -122,8 +123,8 @@ fn expect_length<L: Ledger, M: Site<Shared<Zero>>, R: Abort + Print + Wait>(
     expect(rt, false);
 }
 
-// Looks for key 0 once: whether it has its text if there are keys, and is missing if there are none. None where the look
-// was refused.
+// Looks for key 0 once, and returns whether it has its text if there are keys, or is missing if there are none.
+// Returns `None` if the look was refused.
 fn look<L: Ledger, M: Site<Shared<Zero>>, R: Print + Wait>(
     rt: &R,
     refusal: &mut Refusal,
@@ -141,7 +142,7 @@ fn look<L: Ledger, M: Site<Shared<Zero>>, R: Print + Wait>(
     }
 }
 
-// Looks for key 0 until that succeeds.
+// Looks for key 0 until the look succeeds.
 fn expect_first<L: Ledger, M: Site<Shared<Zero>>, R: Abort + Print + Wait>(
     rt: &R,
     refusal: &mut Refusal,
@@ -157,7 +158,7 @@ fn expect_first<L: Ledger, M: Site<Shared<Zero>>, R: Abort + Print + Wait>(
     expect(rt, false);
 }
 
-// The puts of the keys 0 to 32 in a bucket of 32 slots, by the one pass.
+// Puts the keys 0 to 32 in a bucket of 32 slots, with the only pass.
 fn put_all<L: Ledger, M: Site<Shared<Zero>>, R: AllocGlobal + Abort + Print + Wait>(
     rt: &R,
     refusal: &mut Refusal,
@@ -171,7 +172,7 @@ fn put_all<L: Ledger, M: Site<Shared<Zero>>, R: AllocGlobal + Abort + Print + Wa
     }
 }
 
-// The puts on one stripe of 64 slots. False where the container was refused.
+// Makes the puts on one stripe of 64 slots. Returns false if the container was refused.
 fn puts<L: Ledger, M: Site<Shared<Zero>>, R: AllocGlobal + Abort + Print + Wait>(
     rt: &R,
     refusal: &mut Refusal,

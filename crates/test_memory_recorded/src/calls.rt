@@ -1,5 +1,5 @@
-// Recorded containers of each kind whose calls are refused: the pass keeps its clock and its receipts, and the same
-// call, made again until it succeeds, is answered as if it had never been refused.
+// Recorded containers of each kind whose calls are refused: the pass keeps its clock and its receipts, and the call is
+// made again until it succeeds, with the reply of a call that was never refused.
 ghost use Rattle.std.specs.Prelude.{◌≡◌, Some};
 ghost use Rattle.scc_recorded.specs.Setups.{request_of};
 
@@ -15,7 +15,7 @@ use std::sync::{Arc, Wait};
 use test_kit::refusals::{Refusal, TRIES};
 use test_kit::zero::Zero;
 
-// One owner of the hasher. None where it is refused each time.
+// Returns one owner of the hasher, or `None` if memory is refused each time.
 pub(crate) fn shared<R: AllocGlobal + Print>(
     rt: &R,
     refusal: &mut Refusal,
@@ -29,7 +29,7 @@ pub(crate) fn shared<R: AllocGlobal + Print>(
     None
 }
 
-// What a pass says, where it is the only one: its clock and its receipts go together.
+// Checks that the clock of `pass` and the number of its receipts are `clock`. They are equal if it is the only pass.
 pub(crate) fn expect_clock<C: Tried, L: Ledger, R: Abort>(rt: &R, pass: &Pass<C, L>, clock: usize) {
     expect_eq(
         rt,
@@ -38,7 +38,7 @@ pub(crate) fn expect_clock<C: Tried, L: Ledger, R: Abort>(rt: &R, pass: &Pass<C,
     );
 }
 
-// Makes the call of that number once, and answers whether its answer was right: None where it has no key.
+// Makes the call with this number once, and returns whether its reply is right, or `None` if the call has no key.
 fn make_call<C: Tried, L: Ledger, M: Site<C::Hasher>, R: Wait>(
     rt: &R,
     recorded: &Recorded<C, L, M>,
@@ -58,7 +58,7 @@ fn make_call<C: Tried, L: Ledger, M: Site<C::Hasher>, R: Wait>(
     }
 }
 
-// Makes the call of that number until it succeeds.
+// Makes the call with this number until it succeeds.
 fn expect_call<C: Tried, L: Ledger, M: Site<C::Hasher>, R: Abort + Print + Wait>(
     rt: &R,
     refusal: &mut Refusal,
@@ -82,7 +82,8 @@ fn expect_call<C: Tried, L: Ledger, M: Site<C::Hasher>, R: Abort + Print + Wait>
     expect_clock(rt, pass, before.saturating_add(1));
 }
 
-// Counts the keys of both stripes. Refused, the stripes before are counted and recorded, and the next call counts both.
+// Counts the keys of both stripes. If a stripe is refused, the stripes before it are counted and recorded, and the
+// next call counts both.
 fn expect_length<C: Tried, L: Ledger, M: Site<C::Hasher>, R: Abort + Print + Wait>(
     rt: &R,
     refusal: &mut Refusal,
@@ -111,7 +112,8 @@ fn expect_length<C: Tried, L: Ledger, M: Site<C::Hasher>, R: Abort + Print + Wai
     expect(rt, false);
 }
 
-// The same of a clearing.
+// Clears both stripes. If a stripe is refused, the stripes before it are cleared and recorded, and the next call
+// clears both.
 fn expect_clearing<C: Tried, L: Ledger, M: Site<C::Hasher>, R: Abort + Print + Wait>(
     rt: &R,
     refusal: &mut Refusal,
@@ -139,7 +141,8 @@ fn expect_clearing<C: Tried, L: Ledger, M: Site<C::Hasher>, R: Abort + Print + W
     expect(rt, false);
 }
 
-// All calls on two stripes, of which the second stays empty, and the finish. False where the container was refused.
+// Makes all calls on two stripes, of which the second stays empty, and the finish. Returns false if the container was
+// refused.
 fn call_and_finish<C: Tried, L: Ledger, M: Site<C::Hasher>, R: AllocGlobal + Abort + Print + Wait>(
     rt: &R,
     refusal: &mut Refusal,
@@ -174,8 +177,8 @@ where
     }
 }
 
-// All calls by one pass: one key is there after them, none after the clearing, and then one again. The second stripe has
-// room for three steps, so that the clearing asks for more where the first one is cleared.
+// Makes all calls with one pass: one key is present after them, none after the clearing, and then one again. The
+// second stripe has room for three steps, so the clearing asks for more after the first stripe is cleared.
 fn call_all<C: Tried, L: Ledger, M: Site<C::Hasher>, R: Abort + Print + Wait>(
     rt: &R,
     refusal: &mut Refusal,
@@ -193,7 +196,7 @@ fn call_all<C: Tried, L: Ledger, M: Site<C::Hasher>, R: Abort + Print + Wait>(
     expect_call(rt, refusal, recorded, pass, 0);
 }
 
-// Whether a container was opened, whose hasher has several owners.
+// Opens a container whose hasher has several owners, and makes the calls. Returns whether it could be opened.
 fn attempt<C: Tried, R: AllocGlobal + Abort + Print + Wait>(rt: &R, refusal: &mut Refusal) -> bool
 where
     C::Hasher: CloneOwner + Drop,

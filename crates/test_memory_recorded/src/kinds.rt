@@ -1,5 +1,5 @@
-// The four kinds as recorded containers have them: calls as values with their answers, in an order in which each call
-// that inserts meets a missing key and one that is there.
+// The four kinds as recorded containers: calls as values with their replies, in an order in which each call that
+// inserts meets a missing key and a present one.
 ghost use Rattle.scc_calls.specs.Copies.{ClonesEqual};
 
 use scc::recorded::{CacheCall, CallError, IndexCall, MapCall, Reply, SetCall, Shared, WholeCalls};
@@ -29,10 +29,10 @@ pub(crate) enum What {
     Single,
 }
 
-// How many calls each kind makes.
+// The number of calls that each kind makes.
 pub(crate) const CALLS: u64 = 8;
 
-// How many keys are there after so many of them.
+// Returns the number of keys present after `made` calls.
 pub(crate) fn count_after(made: usize) -> usize {
     match made {
         0 => 0,
@@ -43,19 +43,19 @@ pub(crate) fn count_after(made: usize) -> usize {
 
 // A kind with its calls.
 pub(crate) trait Tried: WholeCalls + Drop {
-    // The call of that number, and its answer.
+    // Returns the call with this number, and its reply.
     fn call_of(number: u64) -> (Self::Call, Self::Reply);
 
-    // How many keys are there.
+    // Returns the number of keys.
     fn count(&self) -> usize;
 
-    // An empty container.
+    // Returns an empty container.
     fn made(alloc: Global, hasher: Shared<Zero>) -> Self;
 
-    // The hasher that it is made with.
+    // Returns the hasher that the container is made with.
     fn hasher(hasher: Shared<Zero>) -> Self::Hasher;
 
-    // Says what was refused.
+    // Reports what was refused.
     fn meet<R: Print>(rt: &R, refusal: &mut Refusal, what: What);
 
     fn equal_calls()

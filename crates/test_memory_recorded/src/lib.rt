@@ -1,5 +1,5 @@
-//! Tests of recorded containers, of runs of calls as values, of scripts and of workers, which hold whichever requests
-//! for memory are refused: a call that is refused leaves what it has to leave, and is made again until it succeeds.
+//! Tests of recorded containers, of runs, of scripts and of workers, which hold whichever requests for memory are
+//! refused: a refused call leaves everything as it must, and is made again until it succeeds.
 #![tactic(auto)]
 
 #[cfg(test)]

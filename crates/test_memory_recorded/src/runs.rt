@@ -1,5 +1,5 @@
-// Runs of calls as values that are refused: nothing is touched, or the calls before the refused one are made, each with
-// its reply; and a run of the rest is right.
+// Runs that are refused memory: nothing is changed, or the calls before the refused one are made, each with its reply.
+// A run of the remaining calls is right.
 use crate::calls::shared;
 use crate::expect::{expect, expect_eq};
 use crate::kinds::{CALLS, Cache, Index, Map, Set, Tried, What, count_after};
@@ -10,7 +10,7 @@ use std::process::Abort;
 use test_kit::refusals::{Refusal, TRIES};
 use test_kit::zero::Zero;
 
-// A list with room for the calls. None where it is refused each time.
+// Returns a list with room for the calls, or `None` if memory is refused each time.
 fn listed<T: Drop, R: AllocGlobal + Print>(rt: &R, refusal: &mut Refusal) -> Option<Vec<T>> {
     for _ in 0..TRIES {
         match Vec::with_capacity(rt.alloc(), 8) {
@@ -21,7 +21,7 @@ fn listed<T: Drop, R: AllocGlobal + Print>(rt: &R, refusal: &mut Refusal) -> Opt
     None
 }
 
-// Adds the calls of a kind, and their replies. Whether there was room.
+// Adds the calls of a kind and their replies, and returns whether there was room.
 fn list_calls<C: Tried>(calls: &mut Vec<C::Call>, wanted: &mut Vec<C::Reply>) -> bool
 where
     C::Call: Drop,
@@ -36,7 +36,7 @@ where
     true
 }
 
-// Runs the calls that weren't made, of which those before have their replies. Whether all are made now.
+// Runs the calls that have no reply yet, and returns whether all calls are made.
 fn run_rest<C: Tried, R: Abort + Print>(
     rt: &R,
     refusal: &mut Refusal,
@@ -61,7 +61,7 @@ fn run_rest<C: Tried, R: Abort + Print>(
     ended.is_ok()
 }
 
-// Runs all calls, and if that is refused, those that weren't made. How many were made.
+// Runs all calls, and if the run is refused, the calls that weren't made. Returns the number of calls made.
 fn run_all<C: Tried, R: Abort + Print>(
     rt: &R,
     refusal: &mut Refusal,
@@ -78,7 +78,7 @@ fn run_all<C: Tried, R: Abort + Print>(
     replies.len() as u64
 }
 
-// Runs the calls of a kind on a container of it.
+// Runs the calls of a kind on `container`.
 fn expect_run<C: Tried, R: AllocGlobal + Abort + Print>(
     rt: &R,
     refusal: &mut Refusal,
@@ -107,7 +107,7 @@ where
     expect_eq(rt, made, CALLS);
 }
 
-// The same on a new container, whose hasher has several owners.
+// Runs the calls of a kind on a new container, whose hasher has several owners.
 fn expect_run_on_new<C: Tried, R: AllocGlobal + Abort + Print>(rt: &R)
 where
     C::Call: Drop,
@@ -120,7 +120,7 @@ where
     }
 }
 
-// Makes the call of that number once: whether its reply is right. None where it was refused.
+// Makes the call with this number once. Returns whether its reply is right, or `None` if the call was refused.
 fn ask<C: Tried, R: Print>(
     rt: &R,
     refusal: &mut Refusal,
@@ -138,7 +138,7 @@ fn ask<C: Tried, R: Print>(
     }
 }
 
-// Makes the call of that number until it isn't refused, which leaves as many keys.
+// Makes the call with this number until it isn't refused. A refused call must leave the number of keys.
 fn expect_call<C: Tried, R: Abort + Print>(
     rt: &R,
     refusal: &mut Refusal,
@@ -211,7 +211,7 @@ fn a_refused_call_of_a_cache_changes_nothing(rt: HostRuntime) {
 
 type Numbers = hash_map::Owned<u64, u64, Zero>;
 
-// A map of 128 slots. None where it is refused each time.
+// Returns a map of 128 slots, or `None` if memory is refused each time.
 fn sized<R: AllocGlobal + Print>(rt: &R, refusal: &mut Refusal) -> Option<Numbers> {
     for _ in 0..TRIES {
         match hash_map::Owned::with_capacity_and_hasher(rt.alloc(), 128, Zero) {
@@ -222,7 +222,7 @@ fn sized<R: AllocGlobal + Print>(rt: &R, refusal: &mut Refusal) -> Option<Number
     None
 }
 
-// Whether the keys below 31 went in.
+// Inserts the keys below 31, and returns whether each went in.
 fn fill(map: &mut Numbers) -> bool {
     for key in 0..31u64 {
         if map.insert_sync(key, !key).is_err() {
@@ -232,7 +232,7 @@ fn fill(map: &mut Numbers) -> bool {
     true
 }
 
-// Runs those of two insertions and a count that weren't made. Whether all are made now.
+// Runs those of two insertions and a count that weren't made, and returns whether all are made.
 fn insert_rest<R: Abort + Print>(
     rt: &R,
     refusal: &mut Refusal,
@@ -259,8 +259,8 @@ fn insert_rest<R: Abort + Print>(
     ended.is_ok()
 }
 
-// A map of the keys below 31 in a bucket that is nearly full, in slots of which less than half are in use: of the run's
-// two insertions the second one wants the overflow list, so that it may be refused after the first was made.
+// A run inserts two keys into a bucket that is nearly full, in a map with less than half of its slots in use. The
+// second insertion wants the overflow list, so it may be refused after the first was made.
 #[test]
 fn a_refused_run_ends_at_its_overflow_list(rt: HostRuntime) {
     let mut refusal = Refusal::new();

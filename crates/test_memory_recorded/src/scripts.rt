@@ -1,5 +1,5 @@
-// Scripts that are refused memory, or a thread: the one text and the status, never those of a run that isn't finished,
-// and the run that succeeds writes what the script has to write.
+// Scripts that are refused memory or a thread: such a script writes one text and has one status, never those of a run
+// that isn't finished. The run that succeeds writes what the script must write.
 use crate::expect::{expect, expect_eq};
 use scc_play::play::{BAD_CALL, FINISHED, NO_MEMORY, play};
 use std::io::Print;
@@ -8,7 +8,7 @@ use std::sync::Wait;
 use std::thread::Threads;
 use test_kit::refusals::{Refusal, TRIES};
 
-// Plays a script into a place that takes no memory, until it isn't refused.
+// Plays a script into an output that allocates nothing, until it isn't refused.
 fn expect_script<R: AllocGlobal + Abort + Print + Threads + Wait + Sync>(
     rt: &R,
     script: &[u8],

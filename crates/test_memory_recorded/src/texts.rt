@@ -1,5 +1,5 @@
-// Recorded maps of texts: every clone is made before anything is changed, so a refused call leaves all as it was, and
-// the call that succeeds is right.
+// Recorded maps of texts: every clone is made before anything is changed, so a refused call leaves everything as it
+// was, and the call that succeeds is right.
 ghost use Rattle.std.specs.Prelude.{◌≡◌, IfSome, IsSome, Some};
 ghost use Rattle.scc_calls.specs.MapCalls.{map_key};
 ghost use Rattle.scc_recorded.specs.Setups.{request_of};
@@ -18,7 +18,7 @@ use test_kit::zero::Zero;
 
 type Names = Owned<String, String, Shared<Zero>>;
 
-// A text. None where it is refused each time.
+// Returns a text, or `None` if memory is refused each time.
 pub(crate) fn text<R: AllocGlobal + Print>(
     rt: &R,
     refusal: &mut Refusal,
@@ -33,7 +33,7 @@ pub(crate) fn text<R: AllocGlobal + Print>(
     None
 }
 
-// The call of that number: an insertion, an upsertion, a removal.
+// Returns the call with this number: an insertion, an upsertion or a removal.
 fn call_of(number: u64, key: String, value: String) -> MapCall<String, String>
     ensures { IsSome (map_key result) }
 {
@@ -44,7 +44,7 @@ fn call_of(number: u64, key: String, value: String) -> MapCall<String, String>
     }
 }
 
-// That call with its texts. None where a text is refused each time.
+// Returns the call with this number and its texts, or `None` if a text is refused each time.
 fn made<R: AllocGlobal + Print>(
     rt: &R,
     refusal: &mut Refusal,
@@ -61,7 +61,7 @@ fn made<R: AllocGlobal + Print>(
     }
 }
 
-// Whether that is what the call of that number answers.
+// Returns whether `reply` is the reply of the call with this number.
 fn is_answer(number: u64, reply: &Reply<String, String>) -> bool {
     match reply {
         Reply::Inserted => number == 0,
@@ -71,7 +71,7 @@ fn is_answer(number: u64, reply: &Reply<String, String>) -> bool {
     }
 }
 
-// Makes the call of that number once: whether its answer is right. None where it was refused.
+// Makes the call with this number once. Returns whether its reply is right, or `None` if the call was refused.
 fn ask<L: Ledger, M: Site<Shared<Zero>>, R: AllocGlobal + Print + Wait>(
     rt: &R,
     refusal: &mut Refusal,
@@ -91,7 +91,7 @@ fn ask<L: Ledger, M: Site<Shared<Zero>>, R: AllocGlobal + Print + Wait>(
     }
 }
 
-// Makes the call of that number until it succeeds. Refused, the pass stays as it was.
+// Makes the call with this number until it succeeds. A refused call leaves the pass as it was.
 fn expect_answer<L: Ledger, M: Site<Shared<Zero>>, R: AllocGlobal + Abort + Print + Wait>(
     rt: &R,
     refusal: &mut Refusal,
@@ -112,7 +112,7 @@ fn expect_answer<L: Ledger, M: Site<Shared<Zero>>, R: AllocGlobal + Abort + Prin
     expect_receipt(rt, pass, number);
 }
 
-// The last receipt is that of the call of that number.
+// Checks that the last receipt is that of the call with this number.
 fn expect_receipt<L: Ledger, R: Abort>(rt: &R, pass: &Pass<Names, L>, number: u64) {
     let stamp = number.saturating_add(1);
     expect_eq(
@@ -127,7 +127,7 @@ fn expect_receipt<L: Ledger, R: Abort>(rt: &R, pass: &Pass<Names, L>, number: u6
     expect(rt, is_last);
 }
 
-// The finished run. None where it is refused each time.
+// Finishes the run. Returns `None` if the finish is refused each time.
 fn finished<L: Ledger, M: Site<Shared<Zero>>, R: Print>(
     rt: &R,
     refusal: &mut Refusal,
@@ -147,8 +147,8 @@ fn finished<L: Ledger, M: Site<Shared<Zero>>, R: Print>(
     None
 }
 
-// Whether the steps are call records with the stamps from 1 on, each with its answer, beside resizes; and how many calls
-// they are.
+// Returns whether the records of `history` have the stamps from 1 on, each with the right reply, and the number of
+// records. Resizes may stand between them.
 fn records_of(history: &[Step<MapCall<String, String>, Reply<String, String>>]) -> (bool, u64) {
     let mut told = 0u64;
     let mut are_right = true;
@@ -162,7 +162,7 @@ fn records_of(history: &[Step<MapCall<String, String>, Reply<String, String>>]) 
     (are_right, told)
 }
 
-// The one stripe has three call records, and nothing is left.
+// Checks that the one stripe has three records, and that nothing is left.
 fn expect_told<R: Abort>(rt: &R, finished: &Finished<Names>) {
     for history in finished.histories.as_slice() {
         expect_eq(rt, records_of(history.as_slice()), (true, 3));
@@ -173,7 +173,7 @@ fn expect_told<R: Abort>(rt: &R, finished: &Finished<Names>) {
     expect_eq(rt, (finished.histories.len(), finished.parts.len()), (1, 1));
 }
 
-// The three calls by the one pass, and the finish.
+// Makes the three calls with the only pass, and the finish.
 fn call_and_finish<L: Ledger, M: Site<Shared<Zero>>, R: AllocGlobal + Abort + Print + Wait>(
     rt: &R,
     refusal: &mut Refusal,
@@ -192,7 +192,7 @@ fn call_and_finish<L: Ledger, M: Site<Shared<Zero>>, R: AllocGlobal + Abort + Pr
     }
 }
 
-// All on one stripe. False where the container was refused.
+// Makes the three calls on one stripe. Returns false if the container was refused.
 fn three_calls<L: Ledger, M: Site<Shared<Zero>>, R: AllocGlobal + Abort + Print + Wait>(
     rt: &R,
     refusal: &mut Refusal,

@@ -1,10 +1,10 @@
-// Workers whose run is refused: who was started made all turns, who wasn't made none, and the run that succeeds makes
-// all.
+// Workers whose run is refused: a worker that was started made all turns, any other made none, and the run that
+// succeeds makes all turns.
 use crate::expect::{expect, expect_eq};
 use scc::stripes::{Open, RunError, Work, run};
 use test_kit::refusals::{Refusal, TRIES};
 
-// Three turns, which all answer true.
+// A worker of three turns, which all return true.
 #[derive(Drop)]
 struct Turns {
     made: usize,
@@ -21,12 +21,12 @@ impl Work for Turns {
     }
 }
 
-// How many turns each has made.
+// Returns the number of turns that each worker has made.
 fn made_of(work: &[Turns; 2]) -> (usize, usize) {
     (work[0].made, work[1].made)
 }
 
-// The first worker may have been started before the request that was refused, and has ended by then.
+// The first worker may have been started before the refused request, and has then ended.
 #[test]
 fn a_refused_run_of_workers_ends_what_it_started(rt: HostRuntime) {
     let mut refusal = Refusal::new();

@@ -1,4 +1,4 @@
-//! Buckets with more pairs than slots, which wait for their pairs, take them over, and wait again.
+//! Buckets with more pairs than slots, which wait, relocate and wait again.
 
 use std::alloc::Global;
 use test_forms::answers::{Answer, Kind};
@@ -9,16 +9,16 @@ use test_kit::lines::say;
 use test_kit::masked::{Masked, ZERO};
 use test_kit::maybe_equal::MaybeEqual;
 
-// Numbers of pairs that wait for one bucket of 32 slots.
+// Numbers of pairs that one bucket of 32 slots waits for.
 const CROWDS: [u64; 2] = [40, 600];
 
-// The pair of that number, as its kind shows it.
+// Returns the pair of `number`, as its kind shows it.
 fn pair_of(kind: Kind, number: u64) -> Seen {
     let value = if kind.shows_values() { number } else { 0 };
     (number, 0, value)
 }
 
-// Whether the pairs of these numbers are added.
+// Adds the pairs of the numbers from `from` on and before `to`. Returns whether each was added.
 fn fills<F: Form<MaybeEqual, u64>>(form: &mut F, from: u64, to: u64) -> bool {
     let mut added = true;
     for number in from..to {
@@ -27,7 +27,7 @@ fn fills<F: Form<MaybeEqual, u64>>(form: &mut F, from: u64, to: u64) -> bool {
     added
 }
 
-// Whether just the pairs below that number are there.
+// Returns whether the pairs below number `to` are there, and no others.
 fn finds<F: Form<MaybeEqual, u64>>(form: &F, kind: Kind, to: u64) -> bool {
     let mut found = form.read(&MaybeEqual(to, 0)) == Answer::Found(None);
     for number in 0..to {
@@ -36,8 +36,8 @@ fn finds<F: Form<MaybeEqual, u64>>(form: &F, kind: Kind, to: u64) -> bool {
     found && form.sizes().len as u64 == to
 }
 
-// Whether so many pairs, all in one bucket, wait with all buckets of an array of so many slots, are taken over by one
-// insertion, and are found before and after.
+// Returns whether `pairs` pairs of one bucket are found while all buckets of an array of `slots` slots wait, are
+// relocated by one insertion, and are found again.
 fn relocates<F: Form<MaybeEqual, u64> + Reserving>(
     form: &mut F,
     kind: Kind,
@@ -51,8 +51,8 @@ fn relocates<F: Form<MaybeEqual, u64> + Reserving>(
     waits && found && added && relocated && finds(form, kind, pairs.saturating_add(1))
 }
 
-// Whether a crowded bucket waits and takes its pairs over three times: an array grows by a reservation, by a second
-// one, and shrinks as that is given back.
+// Returns whether a bucket of `pairs` pairs waits and is relocated three times: the array grows by a reservation and
+// by a second one, and shrinks when the second one is released.
 fn crowds<F: Form<MaybeEqual, u64> + Reserving>(form: &mut F, kind: Kind, pairs: u64) -> bool {
     let filled = fills(form, 0, pairs);
     let Some(_first) = form.reserve_slots(10_000) else {
@@ -99,7 +99,7 @@ fn of_indexes(alloc: Global) -> bool {
     holds
 }
 
-/// A line for each kind that has crowded buckets. The answer is the worst status.
+/// Prints a line for each kind that has crowded buckets. Returns the worst status.
 pub(crate) fn run_crowded<R: AllocGlobal + Print>(rt: &R) -> u8 {
     let alloc = rt.alloc();
     let what = "a crowded bucket waits three times";

@@ -1,4 +1,4 @@
-//! Calls that look random, and are the same in each run: they fill a container for a while, and then empty it.
+//! Random calls, equal in each run. They fill a container for a while, and then empty it.
 
 use test_forms::answers::Kind;
 use test_forms::calls::{DRASTIC, GENTLE, LOOKS, What, way_of};
@@ -12,13 +12,13 @@ use test_kit::numbers::next;
 pub struct Call {
     /// What it does.
     pub what: What,
-    /// Its key, whose mark no other call has.
+    /// Its key, with a mark that no other call has.
     pub key: MaybeEqual,
     /// Its value.
     pub value: u64,
 }
 
-/// Draws calls on keys below a power of two, the marks in their order.
+/// Draws calls. Keys are made from numbers up to a mask, or in turn from greater numbers. Their marks rise.
 #[derive(Drop)]
 pub struct Draws {
     seed: u64,
@@ -27,7 +27,7 @@ pub struct Draws {
     mask: u64,
 }
 
-// One of these calls.
+// Returns one of `calls`, the one with the number `number` modulo their count.
 fn one_of(calls: &[What], number: u64) -> What {
     let place = (number as usize).checked_rem(calls.len());
     match calls.get(place.unwrap_or(0)) {
@@ -37,7 +37,7 @@ fn one_of(calls: &[What], number: u64) -> What {
 }
 
 impl Draws {
-    /// So many calls on keys up to the mask, in four rounds.
+    /// Returns the draws of a run of `calls` calls, in four rounds, on keys made from numbers up to `mask`.
     pub(crate) fn new(calls: u64, mask: u64) -> Draws {
         Draws {
             seed: mask,
@@ -47,7 +47,7 @@ impl Draws {
         }
     }
 
-    // Whether the container is filled, as for three quarters of a round.
+    // Returns whether calls fill the container: they do in the first three quarters of a round.
     fn fills(&self) -> bool {
         match self.made.checked_rem(self.round) {
             Some(place) => place < self.round / 4 * 3,
@@ -55,13 +55,14 @@ impl Draws {
         }
     }
 
-    // Whether the next call is the next of all, as every other one is, so that each comes.
+    // Returns whether the next call is taken from the list of all gentle calls in turn. Every other call is, so that
+    // each gentle call is made.
     fn is_turn(&self) -> bool {
         self.made % 2 == 0
     }
 
-    // What comes next. Calls that aren't the next of all fill the container, or empty it; while buckets wait most of
-    // them look, so that they go on waiting.
+    // Draws what the next call does. A call that isn't taken in turn fills or empties the container. While buckets
+    // wait, most of these calls only look, so that the buckets go on waiting.
     fn what(&mut self, kind: Kind, fills: bool, waits: bool) -> What {
         let drawn = next(&mut self.seed);
         if self.is_turn() {
@@ -80,8 +81,8 @@ impl Draws {
         }
     }
 
-    // A key of the list, or another one. The next of all calls gets one of the list, and then one that was never there.
-    // While the container is filled three of four others are drawn anew, then one of four.
+    // Draws a key of the list or another one. Calls in turn get keys of the list for a while, and then keys that were
+    // never there. Other calls get a new key three times of four while the container is filled, then once of four.
     fn number(&mut self, list: &List, fills: bool) -> u64 {
         let drawn = next(&mut self.seed);
         let choice = next(&mut self.seed) % 4;
@@ -106,7 +107,7 @@ impl Draws {
         }
     }
 
-    /// The next call on what the list has, while buckets wait or not.
+    /// Draws the next call. `list` has the pairs of the container, and `waits` says whether buckets wait.
     pub(crate) fn draw(&mut self, list: &List, waits: bool) -> Call {
         let fills = self.fills();
         let what = self.what(list.kind(), fills, waits);

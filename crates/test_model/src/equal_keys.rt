@@ -1,4 +1,4 @@
-//! Keys of which a part is compared, many under one hash: which of two equal keys is stored, and which comes back.
+//! Equal keys that a mark tells apart, many under one hash: which of two is stored, and which comes back.
 
 use std::alloc::{AllocError, Global};
 use std::sync::Wait;
@@ -9,28 +9,28 @@ use test_forms_shared::every::{Case, in_every_form};
 use test_kit::masked::{ALIKE, ZERO};
 use test_kit::maybe_equal::MaybeEqual;
 
-// As many keys as one bucket of a cache holds, and more than a bucket of the others has slots for.
+// Returns the number of keys: a full bucket of a cache, or more than a bucket of another kind has slots for.
 fn keys_of(kind: Kind) -> u64 {
     if kind == Kind::Cache { 32 } else { 40 }
 }
 
-// The key of that number, far from the others, with a mark.
+// Returns the key of number `i`, far from the other keys. `i` is added to its mark.
 fn key_of(i: u64, mark: u64) -> MaybeEqual {
     MaybeEqual(i.wrapping_mul(0x9E37_79B9_7F4A_7C15), mark.wrapping_add(i))
 }
 
-// A pair of that key, as it is seen.
+// Returns the numbers of the pair of key `i`.
 fn pair_of(i: u64, mark: u64, value: u64) -> Seen {
     let key = key_of(i, mark);
     (key.0, key.1, value)
 }
 
-// A value, as far as the kind shows it.
+// Returns the value as the kind shows it.
 fn shown(kind: Kind, value: u64) -> u64 {
     if kind.shows_values() { value } else { 0 }
 }
 
-// Whether the keys (i, 100 + i) were added with the value i, and an equal one comes back.
+// Adds the keys (i, 100 + i) with the values i. Returns whether each was added, and an equal key then comes back.
 fn fills<F: Form<MaybeEqual, u64>>(form: &mut F) -> bool {
     let kind = form.kind();
     let mut added = true;
@@ -44,7 +44,7 @@ fn fills<F: Form<MaybeEqual, u64>>(form: &mut F) -> bool {
     added
 }
 
-// Whether each key has that mark and that value more than its number, and goes with them.
+// Returns whether key i has the mark `mark` + i and the value `value` + i, and is removed with them.
 fn goes<F: Form<MaybeEqual, u64>>(form: &mut F, mark: u64, value: u64) -> bool {
     let kind = form.kind();
     let mut gone = true;
@@ -61,11 +61,11 @@ fn goes<F: Form<MaybeEqual, u64>>(form: &mut F, mark: u64, value: u64) -> bool {
     gone && form.sizes().len == 0
 }
 
-/// Each key (i, 100 + i) is replaced by (i, 200 + i), and values stay. An index replaces none.
+/// Replaces each key (i, 100 + i) by (i, 200 + i). Values stay. An index replaces no key.
 #[derive(Clone, Copy)]
 pub struct Replaces;
 
-// Whether each replacement answers the key that went.
+// Returns whether each replacement returns the replaced key.
 fn all_replaced<F: Form<MaybeEqual, u64>>(form: &mut F) -> bool {
     let kind = form.kind();
     let mut replaced = true;
@@ -100,11 +100,11 @@ impl Case<MaybeEqual, u64> for Replaces {
     }
 }
 
-/// The value of each key is written under an equal one, and the stored key stays. A set has no values.
+/// Writes the value of each key under an equal key. The stored key stays. A set has no values.
 #[derive(Clone, Copy)]
 pub struct Updates;
 
-// Writes the value of the key as its kind does.
+// Writes the value of key `i` as its kind does.
 fn write<F: Form<MaybeEqual, u64>>(form: &mut F, i: u64) -> Answer {
     let (key, value) = (key_of(i, 200), i.wrapping_add(400));
     match form.kind() {
@@ -114,7 +114,7 @@ fn write<F: Form<MaybeEqual, u64>>(form: &mut F, i: u64) -> Answer {
     }
 }
 
-// Whether each writing answers what its kind says.
+// Returns whether each write returns what its kind says.
 fn all_updated<F: Form<MaybeEqual, u64>>(form: &mut F) -> bool {
     let kind = form.kind();
     let mut updated = true;
@@ -144,7 +144,7 @@ impl Case<MaybeEqual, u64> for Updates {
     }
 }
 
-/// A line for each case. The answer is the worst status.
+/// Prints a line for each case. Returns the worst status.
 pub(crate) fn run_equal_keys<R: Wait + AllocGlobal + Print>(rt: &R) -> u8 {
     let one = in_every_form(rt, &Replaces, "keys replaced, all hashes 0", ZERO);
     let two = in_every_form(rt, &Replaces, "keys replaced, one tag", ALIKE);

@@ -1,5 +1,5 @@
-//! Calls of all sorts on tokens: after each run of them just those live that the container holds, and once it is gone
-//! each was dropped once.
+//! Calls of all sorts on tokens. After each run of calls the tokens in the container live and no others. Each token
+//! is dropped once.
 
 use crate::token::{Book, Token};
 use std::alloc::{AllocError, Global};
@@ -15,7 +15,8 @@ use test_kit::masked::{SAME, ZERO};
 // More tokens than a case makes in all kinds and forms.
 const ROOM: usize = 80_000;
 
-/// Runs of calls on keys from one number to another. A kind that lacks a call only makes and drops its tokens.
+/// Calls, each made on the keys from the first number on and before the second. A kind that lacks a call only makes
+/// and drops its tokens.
 const RUNS: [(What, u64, u64); 22] = [
     (What::Add(Way::Insert), 0, 60),
     (What::Add(Way::OrInsert), 50, 80),
@@ -41,24 +42,23 @@ const RUNS: [(What, u64, u64); 22] = [
     (What::Drain, 0, 8),
 ];
 
-/// The tokens of one container after another. The last run of insertions is of so many keys, and the container is
-/// dropped full.
+/// The tokens of one container after another. The last run inserts `last` keys, and the container is dropped full.
 #[derive(Drop)]
 pub struct Lives {
-    /// In which drops are noted.
+    /// The book that counts the drops.
     pub book: Rc<Book>,
-    /// How many keys there are in the end.
+    /// The number of keys in the end.
     pub last: u64,
 }
 
 impl Lives {
-    // Whether just the tokens live that a container with so many pairs holds.
+    // Returns whether as many tokens live as a container with `pairs` pairs holds.
     fn has_just(&self, kind: Kind, pairs: usize) -> bool {
         let tokens = if kind.shows_values() { 2 } else { 1 };
         self.book.alive() == Some(pairs.wrapping_mul(tokens))
     }
 
-    // Makes the call on each key of a range, and says whether just the held tokens live then.
+    // Makes the call on each key of a range. Returns whether only the held tokens live then.
     fn run<F: Form<Token, Token>>(
         &self,
         alloc: Global,
@@ -75,7 +75,7 @@ impl Lives {
         Ok(self.has_just(form.kind(), form.sizes().len))
     }
 
-    // Runs of calls on single keys: those that add, those that are refused, and those that write and take out.
+    // Makes the runs of calls on single keys: calls that add, that fail, that write and that remove.
     fn run_calls<F: Form<Token, Token>>(
         &self,
         alloc: Global,
@@ -88,7 +88,7 @@ impl Lives {
         Ok(right)
     }
 
-    // Walks that take a part out, and the clearing.
+    // Makes walks that remove a part of the pairs, and clears the container.
     fn run_walks<F: Form<Token, Token>>(&self, alloc: Global, form: &mut F) -> bool {
         let kind = form.kind();
         let mut taken = Vec::new(alloc);
@@ -118,7 +118,7 @@ impl Case<Token, Token> for Lives {
     }
 }
 
-// The case with so many keys in the end, by all hashes 0 and by keys as hashes.
+// Tries the case with `last` keys in the end, under the hash 0 for all keys and under keys as hashes.
 fn run_to<R: Wait + AllocGlobal + Print>(rt: &R, last: u64, what: &str, good: &str) -> u8 {
     let (Ok(crowded), Ok(spread)) = (Book::new(rt.alloc(), ROOM), Book::new(rt.alloc(), ROOM))
     else {
@@ -133,7 +133,7 @@ fn run_to<R: Wait + AllocGlobal + Print>(rt: &R, last: u64, what: &str, good: &s
     zero.max(in_every_form(rt, &other, good, SAME))
 }
 
-/// A line for each case. The answer is the worst status.
+/// Prints a line for each case. Returns the worst status.
 pub(crate) fn run_lives<R: Wait + AllocGlobal + Print>(rt: &R) -> u8 {
     let full = run_to(
         rt,

@@ -1,9 +1,9 @@
-//! Calls containers of every kind and form at random, as a hostile caller and with things that note their drop, fills
-//! them past a million slots, and prints a line for each case: whether all was as on a plain list.
+//! Calls containers of every kind and form: at random, as a hostile caller, with values that note their drop, and
+//! past a million slots. Prints a line for each case that says whether all was as on a plain list.
 //!
-//! The argument is the number of calls of each random run; with none a run has a thousand. They take time by the calls
-//! times the pairs. The status is 0 if all was right, 1 if something was wrong, 2 if the argument is no number, and 3 if
-//! memory was refused or a line could not be written.
+//! The argument is the number of calls of each random run, 1000 if there is none. A run takes time proportional to
+//! the calls times the pairs. The status is 0 if all was right, 1 if something was wrong, 2 if the argument is no
+//! number, and 3 if memory was refused or a line could not be written.
 #![tactic(auto)]
 
 mod crowded;
@@ -35,16 +35,16 @@ use tokens::run_tokens;
 use twins::run_twins;
 use versions::run_versions;
 
-/// The calls of a run if no number is asked for.
+/// The calls of a run if there is no argument.
 const USUAL_CALLS: u64 = 1000;
 
-// A run under that hasher, and one whose list forgets a pair.
+// Makes `run` under its hasher, and once more with a list that forgets a pair.
 fn run_under<R: Wait + AllocGlobal + Print>(rt: &R, run: Run, what: &str, wrong: &str) -> u8 {
     let right = in_every_form(rt, &run, what, run.hasher);
     right.max(in_every_form(rt, &Forgetful(run), wrong, run.hasher))
 }
 
-// Runs of so many calls under each hasher.
+// Makes runs of `calls` calls under each hasher.
 fn run_all<R: Wait + AllocGlobal + Print>(rt: &R, calls: u64) -> u8 {
     let zero = Run {
         hasher: ZERO,
@@ -85,14 +85,14 @@ fn run_all<R: Wait + AllocGlobal + Print>(rt: &R, calls: u64) -> u8 {
     zero.max(alike).max(same)
 }
 
-// The cases of hostile callers, of drops and of great sizes.
+// Tries the cases of hostile callers, of drops and of great sizes.
 fn run_cases<R: Wait + AllocGlobal + Print>(rt: &R) -> u8 {
     let hostile = run_stops(rt).max(run_equal_keys(rt)).max(run_tokens(rt));
     let dropped = run_lives(rt).max(run_versions(rt));
     hostile.max(dropped).max(run_sizes(rt)).max(run_crowded(rt))
 }
 
-// The number in the argument, the usual one if there is none.
+// Returns the number in the argument, or the usual number if there is none.
 fn calls_asked<R: Env + Alloc>(rt: &R) -> Option<u64> {
     match env::args(rt) {
         Ok(mut words) => match words.nth(1) {

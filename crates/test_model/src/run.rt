@@ -12,24 +12,24 @@ use test_forms_shared::every::Case;
 use test_kit::masked::Masked;
 use test_kit::maybe_equal::MaybeEqual;
 
-/// After how many calls all pairs are compared.
+/// All pairs are compared after this many calls.
 const LOOK: u64 = 50;
 
-/// So many calls on keys up to a mask, under that hasher.
+/// A run of calls under a hasher, on keys made from numbers up to a mask.
 #[derive(Clone, Copy)]
 pub struct Run {
     /// The hasher of the container.
     pub hasher: Masked,
     /// The number of calls.
     pub calls: u64,
-    /// The greatest number of a key, one less than a power of two.
+    /// The greatest number that a key is made from, one less than a power of two.
     pub mask: u64,
-    /// Whether buckets of a container for one owner have to wait while an eighth of the calls are made: a run of the usual
-    /// length shows that they do.
+    /// Whether buckets of an owned container must wait during more than an eighth of the calls. In a run of the usual
+    /// length they do.
     pub waits: bool,
 }
 
-// The numbers of a call.
+// Returns the numbers of a call.
 fn asked(hasher: &Masked, call: &Call) -> Asked {
     Asked {
         what: call.what,
@@ -40,7 +40,7 @@ fn asked(hasher: &Masked, call: &Call) -> Asked {
     }
 }
 
-// Whether a walk meets just the pairs of the list, and the sizes are right.
+// Returns whether a walk meets the pairs of the list, and no others.
 fn is_as<F: Form<MaybeEqual, u64>>(
     alloc: Global,
     form: &F,
@@ -51,7 +51,7 @@ fn is_as<F: Form<MaybeEqual, u64>>(
     Ok(collected && list.is_met_by(alloc, met.as_slice())?)
 }
 
-// Whether the sizes are those of a container with so many pairs.
+// Returns whether the sizes fit a container with as many pairs as the list.
 fn fits<F: Form<MaybeEqual, u64>>(form: &F, list: &List) -> bool {
     let sizes = form.sizes();
     sizes.len == list.len()
@@ -60,7 +60,7 @@ fn fits<F: Form<MaybeEqual, u64>>(form: &F, list: &List) -> bool {
         && sizes.capacity <= sizes.maximum
 }
 
-// Whether a call answers as the list, which then does the same.
+// Makes a call on the container and on the list. Returns whether both agree and the sizes are right.
 fn step<F: Form<MaybeEqual, u64>>(
     alloc: Global,
     hasher: &Masked,
@@ -75,7 +75,7 @@ fn step<F: Form<MaybeEqual, u64>>(
     Ok(is_right && fits(form, list))
 }
 
-// Makes the calls, and answers whether all agreed.
+// Makes the calls. Returns whether all agreed.
 fn make_all<F: Form<MaybeEqual, u64>>(
     alloc: Global,
     run: &Run,
@@ -114,7 +114,7 @@ impl Case<MaybeEqual, u64> for Run {
     }
 }
 
-/// A run beside a list that forgets one pair, which has to be found out.
+/// A run with a list that forgets one pair. The run must find that out.
 #[derive(Clone, Copy)]
 pub struct Forgetful(pub Run);
 

@@ -9,26 +9,26 @@ use test_kit::lines::say;
 use test_kit::masked::{Masked, SAME};
 use test_kit::maybe_equal::MaybeEqual;
 
-/// As many keys as make an array grow past 2^20 slots, where half of its buckets are never used.
+/// So many keys make an array grow past 2^20 slots, although half of its buckets are never used.
 const MANY: u64 = (1 << 19) + 1;
 
-/// The pairs that a cache has room for.
+/// The maximum of a cache.
 const MAXIMUM: u64 = 1 << 17;
 
-/// The versions of a snapshot.
+/// The number of versions in a snapshot.
 const VERSIONS: usize = 100_000;
 
-// The key of that number. Under their own hashes these keys fill the first half of all buckets evenly.
+// Returns the key of `number`. If keys are their own hashes, these keys fill the first half of all buckets evenly.
 fn key_of(number: u64) -> MaybeEqual {
     MaybeEqual(number.reverse_bits() / 2, 0)
 }
 
-// The value of that number.
+// Returns the value of `number`.
 fn value_of(number: u64) -> u64 {
     number.wrapping_mul(3)
 }
 
-// The pair of that number, as its kind shows it.
+// Returns the pair of `number`, as its kind shows it.
 fn pair_of(kind: Kind, number: u64) -> Seen {
     let value = if kind.shows_values() {
         value_of(number)
@@ -38,7 +38,7 @@ fn pair_of(kind: Kind, number: u64) -> Seen {
     (key_of(number).0, 0, value)
 }
 
-// Whether the pairs of these numbers are added.
+// Adds the pairs of the numbers from `from` on and before `to`. Returns whether each was added.
 fn fills<F: Form<MaybeEqual, u64>>(form: &mut F, from: u64, to: u64) -> bool {
     let mut added = true;
     for number in from..to {
@@ -47,7 +47,7 @@ fn fills<F: Form<MaybeEqual, u64>>(form: &mut F, from: u64, to: u64) -> bool {
     added
 }
 
-// Whether the pairs of these numbers are there, and the next is not.
+// Returns whether the pairs of the numbers from `from` on and before `to` are there, and that of `to` is missing.
 fn finds<F: Form<MaybeEqual, u64>>(form: &F, kind: Kind, from: u64, to: u64) -> bool {
     let mut found = form.read(&key_of(to)) == Answer::Found(None);
     for number in from..to {
@@ -56,7 +56,7 @@ fn finds<F: Form<MaybeEqual, u64>>(form: &F, kind: Kind, from: u64, to: u64) -> 
     found
 }
 
-// Whether the pairs of these numbers go.
+// Removes the pairs of the numbers from `from` on and before `to`. Returns whether each was removed.
 fn goes<F: Form<MaybeEqual, u64>>(form: &mut F, kind: Kind, from: u64, to: u64) -> bool {
     let mut gone = true;
     for number in from..to {
@@ -70,8 +70,8 @@ fn goes<F: Form<MaybeEqual, u64>>(form: &mut F, kind: Kind, from: u64, to: u64) 
     gone
 }
 
-// Whether an empty container grows past 2^20 slots by insertions, and shrinks to the least array once all but 16 pairs
-// are gone.
+// Returns whether an empty container grows past 2^20 slots by insertions, and shrinks to the least array when all but
+// 16 pairs are removed.
 fn grows<F: Form<MaybeEqual, u64>>(form: &mut F, kind: Kind) -> bool {
     fills(form, 0, MANY - 1)
         && form.sizes().used() == (1 << 19, 1 << 20)
@@ -83,8 +83,8 @@ fn grows<F: Form<MaybeEqual, u64>>(form: &mut F, kind: Kind) -> bool {
         && finds(form, kind, 0, 16)
 }
 
-// Whether a container of 1000 pairs that are found while all its buckets wait gets more than 2^20 slots by a
-// reservation, and gives them back with it.
+// Returns whether a container of 1000 pairs gets more than 2^20 slots by a reservation, finds its pairs while all its
+// buckets wait, and shrinks back when the reservation is released.
 fn reserves<F: Form<MaybeEqual, u64> + Reserving>(form: &mut F, kind: Kind) -> bool {
     let filled = fills(form, 0, 1000) && form.sizes().used() == (1000, 2048);
     let Some(token) = form.reserve_slots(1 + (1 << 20)) else {
@@ -123,8 +123,8 @@ fn of_indexes(alloc: Global) -> Result<bool, AllocError> {
     Ok(grows(&mut large, Kind::Index) && reserves(&mut small, Kind::Index))
 }
 
-// Whether each put of these numbers drives out the pair that was put so many before it, the least recent one of its
-// bucket.
+// Returns whether each put of these numbers evicts the pair that was put `MAXIMUM` puts before it, the least recent
+// pair of its bucket.
 fn evicts<F: Form<MaybeEqual, u64>>(form: &mut F, from: u64, to: u64) -> bool {
     let mut evicted = true;
     for number in from..to {
@@ -136,7 +136,7 @@ fn evicts<F: Form<MaybeEqual, u64>>(form: &mut F, from: u64, to: u64) -> bool {
     evicted
 }
 
-// Whether a cache takes as many pairs as its maximum without one that is driven out, and then one for each that goes.
+// Shows that a cache takes as many pairs as its maximum without an eviction, and then evicts one pair for each put.
 fn of_caches(alloc: Global) -> Result<bool, AllocError> {
     let maximum = MAXIMUM as usize;
     let Ok(mut cache) = scc_cache::Owned::<MaybeEqual, u64, Masked>::with_capacity_and_hasher(
@@ -155,7 +155,7 @@ fn of_caches(alloc: Global) -> Result<bool, AllocError> {
     Ok(added && full && evicted && cache.sizes().used() == (maximum, maximum))
 }
 
-// Whether the snapshot has each version of the numbers once, and then none for ever.
+// Returns whether the snapshot has each version once, and ends for good after them.
 fn has_each_once(
     alloc: Global,
     versions: scc_index::Iter<MaybeEqual, u64>,
@@ -179,7 +179,7 @@ fn has_each_once(
     Ok(right && count == VERSIONS && versions.next().is_none() && versions.next().is_none())
 }
 
-// Whether a snapshot of many versions outlives the pairs of its index.
+// Shows that a snapshot of many versions outlives the pairs of its index.
 fn of_snapshots(alloc: Global) -> Result<bool, AllocError> {
     let mut index: scc_index::Owned<MaybeEqual, u64, Masked> = scc_index::Owned::with_hasher(
         alloc, SAME,
@@ -193,7 +193,7 @@ fn of_snapshots(alloc: Global) -> Result<bool, AllocError> {
     Ok(filled && emptied && has_each_once(alloc, versions)?)
 }
 
-/// A line for each kind, and one for a snapshot. The answer is the worst status.
+/// Prints a line for each kind, and one for a snapshot. Returns the worst status.
 pub(crate) fn run_sizes<R: AllocGlobal + Print>(rt: &R) -> u8 {
     let alloc = rt.alloc();
     let what = "more than 2^20 slots";

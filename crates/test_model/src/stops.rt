@@ -10,12 +10,12 @@ use test_forms_shared::every::{Case, in_every_form};
 use test_kit::masked::{SAME, ZERO};
 use test_kit::maybe_equal::MaybeEqual;
 
-// Under their own hashes these keys have a stripe each, where there are several.
+// Returns a key. If keys are their own hashes, each of these keys has a stripe of its own, if there are several.
 fn key_of(number: u64) -> MaybeEqual {
     MaybeEqual((number << 60).wrapping_add(number), 0)
 }
 
-// Whether so many keys were added, each with the value 0.
+// Adds `keys` keys with the value 0. Returns whether each was added.
 fn fills<F: Form<MaybeEqual, u64>>(form: &mut F, keys: u64) -> bool {
     let mut added = true;
     for number in 1..keys.saturating_add(1) {
@@ -24,12 +24,12 @@ fn fills<F: Form<MaybeEqual, u64>>(form: &mut F, keys: u64) -> bool {
     added
 }
 
-// How many of the pairs have that value.
+// Returns the number of pairs with `value`.
 fn count_of(pairs: &[Seen], value: u64) -> usize {
     pairs.iter().filter(|pair| pair.2 == value).count()
 }
 
-// What a walk did: its answer, the pairs that it took, and those that are left.
+// What a walk did: its result, the pairs that it took, and the pairs that are left.
 #[derive(Drop)]
 struct Walked {
     answer: Answer,
@@ -37,7 +37,7 @@ struct Walked {
     left: Vec<Seen>,
 }
 
-// A walk over so many pairs, whose closure always answers that.
+// Walks over `keys` pairs with a closure that always returns `verdict`.
 fn walk<F: Form<MaybeEqual, u64>>(
     alloc: Global,
     form: &mut F,
@@ -63,7 +63,7 @@ fn walk<F: Form<MaybeEqual, u64>>(
 #[derive(Clone, Copy)]
 pub struct Stops(pub Verdict);
 
-// Whether just one of three pairs was visited, and the others are as they were.
+// Returns whether one of three pairs was visited, and the other two are unchanged.
 fn has_stopped(walked: &Walked, verdict: Verdict, kind: Kind) -> bool {
     let (taken, left) = (walked.taken.as_slice(), walked.left.as_slice());
     let counts = (count_of(taken, 9), count_of(left, 9), count_of(left, 0));
@@ -78,7 +78,7 @@ fn has_stopped(walked: &Walked, verdict: Verdict, kind: Kind) -> bool {
     walked.answer == Answer::Yes(false) && counts == wanted && (taken.len(), left.len()) == sizes
 }
 
-// Whether an index, which has no such walk, kept so many pairs.
+// Returns whether an index, which has no such walk, kept its `pairs` pairs.
 fn has_none(walked: &Walked, pairs: usize) -> bool {
     walked.answer == Answer::Absent && walked.left.len() == pairs
 }
@@ -105,11 +105,11 @@ impl Case<MaybeEqual, u64> for Stops {
     }
 }
 
-/// A walk that takes all pairs, or keeps them all. There are as many as one bucket of a cache holds.
+/// A walk that takes all pairs or keeps all. There are 32, which fill one bucket of a cache.
 #[derive(Clone, Copy)]
 pub struct Walks(pub Verdict);
 
-// Whether each of 32 pairs was visited, and all were taken or kept.
+// Returns whether each of 32 pairs was visited, and all were taken or all kept.
 fn has_visited(walked: &Walked, verdict: Verdict, kind: Kind) -> bool {
     let (full, empty) = if verdict == Verdict::Take {
         (walked.taken.as_slice(), walked.left.as_slice())
@@ -145,7 +145,7 @@ impl Case<MaybeEqual, u64> for Walks {
     }
 }
 
-/// A line for each case. The answer is the worst status.
+/// Prints a line for each case. Returns the worst status.
 pub(crate) fn run_stops<R: Wait + AllocGlobal + Print>(rt: &R) -> u8 {
     let take_stop = Stops(Verdict::TakeStop);
     let keep_stop = Stops(Verdict::KeepStop);

@@ -1,4 +1,4 @@
-//! How often each call was made, on a key that is there and on one that is missing.
+//! Which calls were made, on keys that are there and on keys that are missing.
 
 use std::alloc::{AllocError, Global};
 use test_forms::calls::{DRASTIC, GENTLE, What, has_key};
@@ -11,7 +11,7 @@ pub struct Tally {
 }
 
 impl Tally {
-    /// None yet.
+    /// Returns a tally without a call.
     pub(crate) fn new(alloc: Global) -> Tally {
         Tally {
             made: Vec::new(alloc),
@@ -19,7 +19,7 @@ impl Tally {
         }
     }
 
-    /// Notes a call on a key that is there or not, while buckets wait or not.
+    /// Notes a call. `is_there` says whether its key is there, and `waits` whether buckets wait.
     pub(crate) fn note(
         &mut self,
         what: What,
@@ -33,14 +33,14 @@ impl Tally {
         Ok(())
     }
 
-    // Whether that call was made on such a key.
+    // Returns whether `what` was made on a key that is there, or that is missing, as `is_there` says.
     fn has(&self, what: What, is_there: bool) -> bool {
         self.made
             .iter()
             .any(|made| made.0 == what && made.1 == is_there)
     }
 
-    // Whether that call was made, on keys of both sorts if that matters.
+    // Returns whether `what` was made, and if its key matters, on keys that are there and on keys that are missing.
     fn came(&self, what: What) -> bool {
         if has_key(what) {
             self.has(what, true) && self.has(what, false)
@@ -49,12 +49,12 @@ impl Tally {
         }
     }
 
-    /// Whether each call was made.
+    /// Returns whether each call was made.
     pub(crate) fn is_whole(&self) -> bool {
         GENTLE.iter().all(|what| self.came(*what)) && DRASTIC.iter().all(|what| self.came(*what))
     }
 
-    /// Whether an eighth of the calls were made while buckets waited.
+    /// Returns whether more than an eighth of the calls were made while buckets waited.
     pub(crate) fn has_waited(&self) -> bool {
         self.waited > self.made.len() / 8
     }

@@ -10,7 +10,7 @@ use std::hash::{Hash, Hasher};
 use std::rc::Rc;
 use test_forms::numbered::Numbered;
 
-/// How often each token that was made was dropped.
+/// How often each token was dropped.
 #[derive(Drop)]
 pub struct Book {
     drops: Vec<Cell<u8>>,
@@ -18,7 +18,7 @@ pub struct Book {
 }
 
 impl Book {
-    /// With room for so many tokens.
+    /// Returns a book with room for `room` tokens.
     pub(crate) fn new(alloc: Global, room: usize) -> Result<Rc<Book>, AllocError> {
         let mut drops = Vec::new(alloc);
         for _ in 0..room {
@@ -31,7 +31,8 @@ impl Book {
         Ok(Rc::new(alloc, book)?)
     }
 
-    /// How many tokens were made and not dropped yet, where none was dropped twice and none that wasn't made.
+    /// Returns how many tokens were made and not dropped. Returns `None` if a token was dropped twice, or dropped
+    /// without being made.
     pub(crate) fn alive(&self) -> Option<usize> {
         let made = self.made.get();
         let mut alive = 0usize;
@@ -47,7 +48,7 @@ impl Book {
         Some(alive)
     }
 
-    // The number of the next token, where there is room for it.
+    // Returns the number of the next token, if there is room for it.
     fn next(&self) -> Result<usize, AllocError> {
         let id = self.made.get();
         if id >= self.drops.len() {
@@ -64,15 +65,15 @@ impl Book {
     }
 }
 
-/// A key or a value with a number, which alone is compared. Its clone is another token of that number. The default one
-/// is in no book.
+/// A key or a value with a number, by which alone it is compared. Its clone is another token with the number. The
+/// default token is in no book.
 pub struct Token {
     number: u64,
     place: Option<(usize, Rc<Book>)>,
 }
 
 impl Token {
-    /// Another token.
+    /// Returns a new token of `number`, which `book` counts.
     pub(crate) fn new(book: &Rc<Book>, number: u64) -> Result<Token, AllocError>
         ensures { IfOk result (λ t. t.number ≡ number) }
     {

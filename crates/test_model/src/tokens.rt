@@ -1,4 +1,4 @@
-//! Tokens of another container.
+//! Reservations that are released to another container.
 
 use scc_table::Reservation;
 use std::alloc::Global;
@@ -7,7 +7,7 @@ use test_kit::lines::say;
 use test_kit::masked::{Masked, SAME};
 use test_kit::maybe_equal::MaybeEqual;
 
-// Whether a token is refused and comes back with its slots.
+// Returns whether `form` refuses `token` and returns it with its `slots` slots.
 fn refuses<C: Reserving>(form: &mut C, token: Reservation, slots: usize) -> bool {
     match form.release_slots(token) {
         Ok(()) => false,
@@ -15,7 +15,7 @@ fn refuses<C: Reserving>(form: &mut C, token: Reservation, slots: usize) -> bool
     }
 }
 
-// Whether the second container, which has reserved 50 and 60 slots, refuses a token of 200 of the first, takes one of
+// Returns whether `second`, which reserved 50 and 60 slots, refuses a token of 200 slots of `first`, takes a token of
 // 100, and then refuses its own two.
 fn judges<C: Reserving>(first: &mut C, second: &mut C) -> bool {
     let (Some(large), Some(small)) = (first.reserve_slots(200), first.reserve_slots(100)) else {
@@ -56,7 +56,7 @@ fn of_indexes(alloc: Global) -> bool {
     judges(&mut first, &mut second)
 }
 
-/// A line for each kind that takes reservations. The answer is the worst status.
+/// Prints a line for each kind that takes reservations. Returns the worst status.
 pub(crate) fn run_tokens<R: AllocGlobal + Print>(rt: &R) -> u8 {
     let what = "release of foreign and own tokens";
     let alloc = rt.alloc();

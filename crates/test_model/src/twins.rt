@@ -1,5 +1,5 @@
-//! A container that threads share, on one stripe, beside one for one owner: random calls are answered the same by both,
-//! which then hold the same.
+//! A shared container of one stripe beside an owned container: both return the same from random calls, and then hold
+//! the same pairs.
 
 use crate::draws::{Call, Draws};
 use crate::tally::Tally;
@@ -18,16 +18,16 @@ use test_kit::lines::say;
 use test_kit::masked::{Masked, SAME};
 use test_kit::maybe_equal::MaybeEqual;
 
-/// How many calls both get.
+/// The number of calls that both get.
 const CALLS: u64 = 1000;
 
-/// The slots that both have at first, which are one stripe's.
+/// The number of slots that both have at first, in one stripe.
 const SLOTS: usize = 64;
 
 /// The most slots of a cache of one stripe.
 const MAXIMUM: usize = 256;
 
-// Whether two lists of pairs are the same, whatever their order.
+// Returns whether two lists have the same pairs, in any order.
 fn are_same(pairs: &[Seen], others: &[Seen]) -> bool {
     pairs.len() == others.len()
         && pairs
@@ -35,7 +35,7 @@ fn are_same(pairs: &[Seen], others: &[Seen]) -> bool {
             .all(|pair| others.iter().any(|other| other == pair))
 }
 
-// Whether both hold the same pairs in as many slots.
+// Returns whether both hold the same pairs and have the same sizes.
 fn are_alike<A: Form<MaybeEqual, u64>, B: Form<MaybeEqual, u64>>(
     alloc: Global,
     one: &A,
@@ -47,7 +47,7 @@ fn are_alike<A: Form<MaybeEqual, u64>, B: Form<MaybeEqual, u64>>(
     collected && one.sizes() == other.sizes() && are_same(pairs.as_slice(), others.as_slice())
 }
 
-// Whether both answer a call that the kind has the same, and meet the same pairs.
+// Makes a call on both. Returns whether both meet the same pairs, and return the same if the kind has the call.
 fn answer_alike<A: Form<MaybeEqual, u64>, B: Form<MaybeEqual, u64>>(
     alloc: Global,
     one: &mut A,
@@ -62,7 +62,7 @@ fn answer_alike<A: Form<MaybeEqual, u64>, B: Form<MaybeEqual, u64>>(
     is_answered && are_same(pairs.as_slice(), others.as_slice())
 }
 
-// The pairs of a container as a list, of which keys are drawn.
+// Returns the pairs of a container as a list, from which keys are drawn.
 fn listed<F: Form<MaybeEqual, u64>>(alloc: Global, form: &F) -> Result<List, AllocError> {
     let mut pairs = Vec::new(alloc);
     let mut list = List::new(alloc, form.kind(), false);
@@ -75,7 +75,7 @@ fn listed<F: Form<MaybeEqual, u64>>(alloc: Global, form: &F) -> Result<List, All
     Ok(list)
 }
 
-// Whether the shared container does all as the owned one, each call comes, and the slots become more than they were.
+// Makes random calls on both. Returns whether both do the same, each call comes, and the number of slots grows.
 fn agree<A: Form<MaybeEqual, u64>, B: Form<MaybeEqual, u64>>(
     alloc: Global,
     shared: &mut A,
@@ -142,7 +142,7 @@ fn of_caches<R: Wait + AllocGlobal>(rt: &R) -> Result<bool, AllocError> {
     agree(alloc, &mut Held::of_stripes(rt, shared, true), &mut owned)
 }
 
-/// A line for each kind. The answer is the worst status.
+/// Prints a line for each kind. Returns the worst status.
 pub(crate) fn run_twins<R: Wait + AllocGlobal + Print>(rt: &R) -> u8 {
     let what = "shared as owned";
     let map = say(rt, "map of one stripe", what, of_maps(rt));

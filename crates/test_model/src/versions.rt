@@ -1,4 +1,4 @@
-//! Versions that a reader keeps: they live as long as somebody has them, and are dropped once.
+//! Versions that a reader keeps: they live as long as they have an owner, and are dropped once.
 
 use crate::token::{Book, Token};
 use scc_shared_index::HashIndex;
@@ -10,12 +10,12 @@ use test_kit::masked::{Masked, ZERO};
 
 const KEYS: u64 = 100;
 
-// A pair of tokens of that number.
+// Returns a pair of tokens of `number`.
 fn pair(book: &Rc<Book>, number: u64) -> Result<(Token, Token), AllocError> {
     Ok((Token::new(book, number)?, Token::new(book, number)?))
 }
 
-// An index of tokens.
+// Returns an owned index of tokens.
 fn filled(
     alloc: Global,
     book: &Rc<Book>,
@@ -30,8 +30,8 @@ fn filled(
     Ok(index)
 }
 
-// Whether a snapshot keeps all versions after the index was cleared, half of them gone with what was taken out of it,
-// and none lives once it is gone.
+// Returns whether a snapshot keeps all versions after its index is cleared, drops those that are taken out of it, and
+// leaves none when it is dropped.
 fn snapshot_keeps(alloc: Global, book: &Rc<Book>) -> Result<bool, AllocError> {
     let mut index = filled(alloc, book)?;
     let Ok(mut versions) = index.iter() else {
@@ -47,7 +47,7 @@ fn snapshot_keeps(alloc: Global, book: &Rc<Book>) -> Result<bool, AllocError> {
     Ok(whole && half && book.alive() == Some(0))
 }
 
-// A shared index of tokens.
+// Returns a shared index of tokens.
 fn shared<R: Wait + AllocGlobal>(
     rt: &R,
     book: &Rc<Book>,
@@ -64,7 +64,7 @@ fn shared<R: Wait + AllocGlobal>(
     Ok(index)
 }
 
-// Whether a version that was peeked lives on after its update, its removal and the index itself, and no other does.
+// Returns whether a version that was peeked, and no other, outlives its update, its removal and the index.
 fn peeked_lives_on<R: Wait + AllocGlobal>(rt: &R, book: &Rc<Book>) -> Result<bool, AllocError> {
     let index = shared(rt, book)?;
     let key = Token::new(book, 7)?;
@@ -86,7 +86,7 @@ fn peeked_lives_on<R: Wait + AllocGlobal>(rt: &R, book: &Rc<Book>) -> Result<boo
     Ok(updated && both && removed && one && alone && book.alive() == Some(0))
 }
 
-/// A line for each case. The answer is the worst status.
+/// Prints a line for each case. Returns the worst status.
 pub(crate) fn run_versions<R: Wait + AllocGlobal + Print>(rt: &R) -> u8 {
     let Ok(book) = Book::new(rt.alloc(), 1000) else {
         return REFUSED;

@@ -1,4 +1,4 @@
-// How the end of a run tells that its receipts aren't those of the script's calls.
+// The end of a run finds out that the receipts aren't those of the script's calls.
 ghost use Rattle.std.specs.Prelude.{◌≡◌, Some};
 ghost use Rattle.scc_recorded.specs.Setups.{request_of};
 
@@ -14,7 +14,8 @@ use std::marker::Brand;
 use std::sync::ledger::{Blank, Ledger};
 use std::sync::{Arc, Wait};
 
-// Inserts a pair by the one worker, on one stripe. Whether that differs from these calls; None where it has no end.
+// Inserts a pair by the only worker, on one stripe. Returns whether the receipts differ from `calls`, or `None` if
+// the run doesn't come to its end.
 fn differs_in<L: Ledger, M: Site<Shared<Same>>, R: Wait>(
     rt: &R,
     alloc: Global,

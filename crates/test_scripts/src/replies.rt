@@ -1,4 +1,4 @@
-// The replies of each kind, on one stripe and on several, and which calls a kind has.
+// The replies of each kind, on one stripe and on several, and the calls that a kind has.
 use crate::expect::expect;
 use crate::played::{expect_bad_line, expect_run};
 use scc_play::play::FINISHED;
@@ -98,7 +98,7 @@ fn run_each_kind_on_stripes(rt: HostRuntime) {
     }
 }
 
-// Writes the insertion and the reading of a worker's keys, 8 keys with themselves as values.
+// Writes a worker's calls: insertions and reads of 8 keys with themselves as values.
 fn write_calls(script: &mut String, worker: u64) -> Result<(), AllocError> {
     for j in 0..8u64 {
         let key = (j << 61) + worker % 16;
@@ -116,7 +116,7 @@ fn write_script(script: &mut String) -> Result<(), AllocError> {
     Ok(())
 }
 
-// Writes what a worker is told of its calls.
+// Writes the replies to a worker.
 fn write_replies(text: &mut String, worker: u64) -> Result<(), AllocError> {
     writeln!(text, "worker {worker}")?;
     for j in 0..8u64 {
@@ -126,7 +126,7 @@ fn write_replies(text: &mut String, worker: u64) -> Result<(), AllocError> {
     Ok(())
 }
 
-// Writes what all workers are told.
+// Writes the replies to all workers.
 fn write_all_replies(text: &mut String) -> Result<(), AllocError> {
     for worker in 0..16u64 {
         write_replies(text, worker)?;
@@ -134,7 +134,7 @@ fn write_all_replies(text: &mut String) -> Result<(), AllocError> {
     Ok(())
 }
 
-// Writes the keys of all workers in rising order.
+// Writes the pairs of all workers with rising keys, and the number of records.
 fn write_contents(text: &mut String) -> Result<(), AllocError> {
     text.push_str("contents 128\n")?;
     for j in 0..8u64 {

@@ -1,4 +1,4 @@
-// Streams that fail while a script is read or its output is written, at each byte in turn.
+// Streams that fail at each byte in turn, while a script is read or its output is written.
 use crate::expect::expect_eq;
 use scc_play::play::{BAD_CALL, FINISHED, NO_MEMORY, STREAM_FAILED, play};
 use std::io::{Error, ErrorKind, Read, Result, Write};
@@ -10,7 +10,7 @@ const GOOD: &[u8] = b"map 1 1\n0 len\n";
 
 const BAD: &[u8] = b"cache 1 8\n";
 
-// Gives the bytes of `first`, and then fails.
+// Returns the bytes of `first`, and then fails.
 #[derive(Drop)]
 struct FailingReader<'a> {
     first: &'a [u8],
@@ -26,8 +26,8 @@ impl Read for FailingReader<'_> {
     }
 }
 
-// Plays the script from a reader that fails in that way after each number of its bytes: each time the text alone is
-// written.
+// Plays the script from readers that fail with `kind` after each number of bytes. Each run must write `text` and end
+// with `status`.
 fn expect_reader<R: AllocGlobal + Abort + Threads + Wait + Sync>(
     rt: &R,
     script: &[u8],
@@ -61,7 +61,7 @@ fn run_reader_without_memory(rt: HostRuntime) {
     expect_reader(&rt, BAD, ErrorKind::OutOfMemory, text, NO_MEMORY);
 }
 
-// Takes `room` bytes, which it keeps, and then fails; fails at a flush where it is told to.
+// Keeps the first `room` bytes that are written, and then fails. Fails at a flush if `fails_at_flush`.
 #[derive(Drop)]
 struct FailingWriter {
     place: [u8; 64],
@@ -104,8 +104,8 @@ impl Write for FailingWriter {
     }
 }
 
-// Plays the script to a writer that fails after each number of bytes that is too small for the text, and at the flush:
-// each time it got the text's first bytes. One with room gets the text.
+// Plays the script to writers that fail after each number of bytes too small for `text`, or at the flush. Each must
+// get the first bytes of `text`. A writer with enough room must get the whole text.
 fn expect_writer<R: AllocGlobal + Abort + Threads + Wait + Sync>(
     rt: &R,
     script: &[u8],

@@ -1,4 +1,4 @@
-//! The calls that threads make on each kind of container, and what of it is noted.
+//! The calls that threads make on each kind of container, and what a tally notes of them.
 
 use crate::counted::{Counted, Counts};
 use crate::tally::Tally;
@@ -21,17 +21,17 @@ pub type Cache<'a> = HashCache<u64, Counted<'a>>;
 
 /// A container that threads call.
 pub trait Called<'a>: Sized {
-    /// An empty one; None where memory is refused.
+    /// Returns an empty container, or `None` if memory is refused.
     fn make(alloc: Global) -> Option<Self>;
 
-    /// Makes one call of that kind, of eight, and notes what went in and out.
+    /// Makes the call of `kind`, one of eight, on `key`, and notes in `tally` what went in and out.
     fn call<R: Wait>(&self, rt: &R, counts: &'a Counts, kind: u64, key: u64, tally: &mut Tally);
 
-    /// Takes every key that it has out of the tally.
+    /// Subtracts every key of the container from `tally`.
     fn settle<R: Wait>(&self, rt: &R, tally: &mut Tally);
 }
 
-// Notes what an insertion of a key answered.
+// Notes the result of an insertion of `key`.
 fn note_pair(inserted: Result<(), InsertError<u64, Counted<'_>>>, key: u64, tally: &mut Tally) {
     match inserted {
         Ok(()) => tally.add(key),
@@ -40,7 +40,7 @@ fn note_pair(inserted: Result<(), InsertError<u64, Counted<'_>>>, key: u64, tall
     }
 }
 
-// Notes what an insertion of a key into a set answered.
+// Notes the result of an insertion of `key` into a set.
 fn note_key(inserted: Result<(), KeyError<u64>>, key: u64, tally: &mut Tally) {
     match inserted {
         Ok(()) => tally.add(key),
@@ -49,7 +49,7 @@ fn note_key(inserted: Result<(), KeyError<u64>>, key: u64, tally: &mut Tally) {
     }
 }
 
-// Notes that a key went in, and that another may have been driven out.
+// Notes that `key` went in, and that another key may have been evicted.
 fn note_put(evicted: EvictedEntry<u64, Counted<'_>>, key: u64, tally: &mut Tally) {
     tally.add(key);
     if let Some((old, _value)) = evicted {
@@ -57,7 +57,7 @@ fn note_put(evicted: EvictedEntry<u64, Counted<'_>>, key: u64, tally: &mut Tally
     }
 }
 
-// An insertion through the entry, where it is vacant.
+// Inserts the key through its entry, if the entry is vacant.
 fn insert_vacant<'a, R: Wait>(
     rt: &R,
     map: &Map<'a>,
@@ -73,7 +73,7 @@ fn insert_vacant<'a, R: Wait>(
     }
 }
 
-// An upsert.
+// Upserts the key.
 fn upsert<'a, R: Wait>(rt: &R, map: &Map<'a>, counts: &'a Counts, key: u64, tally: &mut Tally) {
     match map.upsert_sync(rt, key, counts.make()) {
         Ok(None) => tally.add(key),
@@ -82,7 +82,7 @@ fn upsert<'a, R: Wait>(rt: &R, map: &Map<'a>, counts: &'a Counts, key: u64, tall
     }
 }
 
-// A removal through the entry.
+// Removes the key through its entry.
 fn remove_occupied<R: Wait>(rt: &R, map: &Map<'_>, key: u64, tally: &mut Tally) {
     if let Some(entry) = map.get_sync(rt, &key) {
         let _value = entry.remove();
@@ -120,7 +120,7 @@ impl<'a> Called<'a> for Map<'a> {
     }
 }
 
-// A key that takes the place of its equal, or comes in.
+// Replaces an equal key by `key`, or inserts `key`.
 fn replace<R: Wait>(rt: &R, set: &Set, key: u64, tally: &mut Tally) {
     match set.replace_sync(rt, key) {
         Ok(None) => tally.add(key),
@@ -157,7 +157,7 @@ impl<'a> Called<'a> for Set {
     }
 }
 
-// An insertion through the entry, or a new version.
+// Inserts the key through its entry, or makes a new version.
 fn publish<'a, R: Wait>(
     rt: &R,
     index: &Index<'a>,
@@ -178,7 +178,7 @@ fn publish<'a, R: Wait>(
     }
 }
 
-// A version that is handed out, and let go.
+// Gets the version of the key, and drops it.
 fn peek<R: Wait>(rt: &R, index: &Index<'_>, key: u64, tally: &mut Tally) {
     match index.peek(rt, &key) {
         Ok(_version) => {}
@@ -212,7 +212,7 @@ impl<'a> Called<'a> for Index<'a> {
     }
 }
 
-// A put.
+// Puts the key.
 fn put<'a, R: Wait>(rt: &R, cache: &Cache<'a>, counts: &'a Counts, key: u64, tally: &mut Tally) {
     match cache.put_sync(rt, key, counts.make()) {
         Ok(evicted) => note_put(evicted, key, tally),
@@ -221,7 +221,7 @@ fn put<'a, R: Wait>(rt: &R, cache: &Cache<'a>, counts: &'a Counts, key: u64, tal
     }
 }
 
-// A put through the entry, where it is vacant.
+// Puts the key through its entry, if the entry is vacant.
 fn put_vacant<'a, R: Wait>(
     rt: &R,
     cache: &Cache<'a>,

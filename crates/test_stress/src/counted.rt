@@ -1,4 +1,4 @@
-//! Values that count their beginning and their end.
+//! Values that count how often they are made and dropped.
 
 use std::sync::atomic::{AtomicU64, Ordering};
 
@@ -10,7 +10,7 @@ pub struct Counts {
 }
 
 impl Counts {
-    /// None of either.
+    /// Returns counts of 0.
     pub(crate) fn new() -> Counts {
         Counts {
             made: AtomicU64::new(0),
@@ -18,12 +18,12 @@ impl Counts {
         }
     }
 
-    /// Whether as many were dropped as were made.
+    /// Returns whether as many values were dropped as were made.
     pub(crate) fn are_equal(&self) -> bool {
         self.made.load(Ordering::SeqCst) == self.dropped.load(Ordering::SeqCst)
     }
 
-    /// One more value.
+    /// Returns a new value, and counts it.
     pub(crate) fn make(&self) -> Counted<'_> {
         self.made.fetch_add(1, Ordering::SeqCst);
         Counted { counts: self }

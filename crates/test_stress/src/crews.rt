@@ -1,5 +1,5 @@
-//! Eight workers on one recorded stripe of each kind: every other call on a key of a worker's own, the others on eight
-//! keys that all share.
+//! Eight workers on one recorded stripe of each kind. Every other call is on a key of the worker's own, and the
+//! others are on eight keys that all workers share.
 ghost use Rattle.std.specs.Prelude.{◌≡◌, Some};
 ghost use Rattle.scc_recorded.specs.Setups.{request_of};
 
@@ -22,7 +22,7 @@ pub(crate) fn shared(alloc: Global) -> Result<Shared<Same>, AllocError> {
     Ok(Shared::new(Arc::new(alloc, Same)?))
 }
 
-// One stripe for eight passes.
+// Opens a recorded container of one stripe for eight passes.
 fn opened<C: Calls + Drop, L: Ledger, M: Site<C::Hasher>>(
     alloc: Global,
     hasher: C::Hasher,
@@ -46,7 +46,7 @@ where
     }
 }
 
-// The number of call records of eight workers on a map, if all went as in one thread.
+// Lets eight workers call a map. Returns the number of call records if all went as in one thread.
 fn work_on_map<
     L: Ledger + Send + Sync,
     M: Site<Shared<Same>> + Send + Sync,
@@ -83,7 +83,7 @@ fn of_map<R: Threads + Wait + Sync>(rt: &R, alloc: Global) -> Result<bool, Alloc
     Ok(records == Some(1600))
 }
 
-// The number of call records of eight workers on a set, if all went as in one thread.
+// Lets eight workers call a set. Returns the number of call records if all went as in one thread.
 fn work_on_set<
     L: Ledger + Send + Sync,
     M: Site<Shared<Same>> + Send + Sync,
@@ -120,7 +120,7 @@ fn of_set<R: Threads + Wait + Sync>(rt: &R, alloc: Global) -> Result<bool, Alloc
     Ok(records == Some(1600))
 }
 
-// The number of call records of eight workers on an index, if all went as in one thread.
+// Lets eight workers call an index. Returns the number of call records if all went as in one thread.
 fn work_on_index<
     L: Ledger + Send + Sync,
     M: Site<Shared<Same>> + Send + Sync,
@@ -157,7 +157,7 @@ fn of_index<R: Threads + Wait + Sync>(rt: &R, alloc: Global) -> Result<bool, All
     Ok(records == Some(1600))
 }
 
-// The number of call records of eight workers on a cache, if all went as in one thread.
+// Lets eight workers call a cache. Returns the number of call records if all went as in one thread.
 fn work_on_cache<
     L: Ledger + Send + Sync,
     M: Site<Shared<Same>> + Send + Sync,
@@ -194,7 +194,7 @@ fn of_cache<R: Threads + Wait + Sync>(rt: &R, alloc: Global) -> Result<bool, All
     Ok(records == Some(1600))
 }
 
-/// A line for each kind. The answer is the worst status.
+/// Prints a line for each kind. Returns the worst status.
 pub(crate) fn run_crews<R: Threads + Wait + Sync + AllocGlobal + Print>(rt: &R) -> u8 {
     let alloc = rt.alloc();
     let what = "eight workers on one stripe";

@@ -1,5 +1,5 @@
-//! What workers do on a container of each kind: every other call on a key of a worker's own, the others on keys that
-//! all share.
+//! The calls of workers on a container of each kind. Every other call is on a key of the worker's own, and the others
+//! are on keys that all workers share.
 
 use crate::plain::Plain;
 use crate::turns::Turns;
@@ -16,7 +16,7 @@ pub(crate) type Index = scc_index::Owned<u64, u64, Shared<Same>>;
 
 pub(crate) type Cache = scc_cache::Owned<u64, u64, Shared<Same>>;
 
-// An insertion into the list.
+// Inserts the pair into the list, and returns the reply.
 fn insert(plain: &mut Plain, key: u64, value: u64) -> Result<Reply<u64, u64>, AllocError> {
     if plain.has(key) {
         return Ok(Reply::Exists(key, value));
@@ -25,7 +25,7 @@ fn insert(plain: &mut Plain, key: u64, value: u64) -> Result<Reply<u64, u64>, Al
     Ok(Reply::Inserted)
 }
 
-// A put into the list, whose reply says what was driven out.
+// Puts the pair into the list, and evicts a pair if its bucket is full. Returns whether `reply` is right.
 fn put(
     alloc: Global,
     plain: &mut Plain,
@@ -236,7 +236,7 @@ impl Turns for Index {
     fn equal_replies() {}
 }
 
-// A cache may have lost a worker's key to another's.
+// A put of another worker may evict a worker's key, so no reply of a cache is known in advance.
 impl Turns for Cache {
     fn own_turn(key: u64, j: u64) -> (CacheCall<u64, u64>, Option<Reply<u64, u64>>) {
         match j % 16 {

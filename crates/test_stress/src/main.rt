@@ -1,8 +1,8 @@
 //! Lets threads and workers call containers, and adds up what they were told.
 //!
-//! The first argument is `soak`, `crowds` or `all`; `SECONDS THREADS CALLS` of a soak may follow, and where one is left
-//! out, the usual number stands for it. The status is 0 where all held, 1 where a count or a case was wrong, 2 where an
-//! argument is none of these, and 3 where memory was refused or a line could not be written.
+//! The first argument is `soak`, `crowds` or `all`. `SECONDS THREADS CALLS` of a soak may follow, and a missing
+//! number has its usual value. The status is 0 if all held, 1 if a count or a case was wrong, 2 if an argument is
+//! none of these, and 3 if memory was refused or a line could not be written.
 #![tactic(auto)]
 
 mod called;
@@ -28,13 +28,13 @@ use std::sync::Wait;
 use std::thread::Threads;
 use std::{env, io};
 
-/// An argument was none of those that there are.
+/// The status for an argument that is not understood.
 const BAD_ARGUMENT: u8 = 2;
 
-/// Memory was refused, or a line could not be written.
+/// The status if memory was refused or a line could not be written.
 const REFUSED: u8 = 3;
 
-/// The arguments, without the program's name.
+/// Returns the arguments, without the program's name.
 fn words(rt: &HostRuntime) -> io::Result<Vec<String>> {
     let mut words = Vec::new(rt.alloc());
     for word in env::args(rt)?.skip(1) {
@@ -43,7 +43,7 @@ fn words(rt: &HostRuntime) -> io::Result<Vec<String>> {
     Ok(words)
 }
 
-/// What is asked for, played, and its worst status.
+/// Plays what is asked for. Returns the worst status.
 fn play<R: Threads + Wait + Sync + AllocGlobal + Print + Clock>(rt: &R, request: Request) -> u8 {
     let mut status = 0u8;
     if request.soaks {

@@ -1,5 +1,5 @@
-//! Two phases on two stripes: a worker makes its calls on the first, another is told of it, and makes its own on the
-//! second.
+//! Two phases on two stripes: a worker makes its calls on the first stripe, another worker is told of it, and makes
+//! its own calls on the second stripe.
 ghost use Rattle.std.specs.Prelude.{◌≡◌, Some};
 ghost use Rattle.scc_recorded.specs.Setups.{request_of};
 
@@ -22,12 +22,12 @@ use test_kit::lines::say;
 /// The first key of the second stripe.
 const HIGH: u64 = 1 << 63;
 
-/// The calls of each worker.
+/// The number of calls of each worker.
 const CALLS: u64 = 50;
 
 type Made = (MapCall<u64, u64>, Option<Reply<u64, u64>>);
 
-// Insertions from that key on, in a list by itself.
+// Returns insertions of keys from `first` on, as the one list of a worker.
 fn insertions(alloc: Global, first: u64) -> Result<Vec<Vec<Made>>, AllocError> {
     let mut calls: Vec<Made> = Vec::new(alloc);
     for number in 0..CALLS {
@@ -39,7 +39,7 @@ fn insertions(alloc: Global, first: u64) -> Result<Vec<Vec<Made>>, AllocError> {
     Ok(lists)
 }
 
-// The pass of a worker that made its calls on a thread of its own, if each was answered as it should be.
+// Lets a worker make its calls on a thread. Returns the worker's pass if each call got the right reply.
 fn work_alone<
     L: Ledger + Send + Sync,
     M: Site<Shared<Same>> + Send + Sync,
@@ -62,7 +62,7 @@ fn work_alone<
     }
 }
 
-// Whether all receipts of the second pass have stamps above all of the first.
+// Returns whether all receipts of the second pass have greater stamps than those of the first.
 fn is_later<L: Ledger>(first: &Pass<Map, L>, second: &Pass<Map, L>) -> bool {
     let clock = first.clock();
     let made = (first.receipts().len(), second.receipts().len());
@@ -77,7 +77,7 @@ fn is_later<L: Ledger>(first: &Pass<Map, L>, second: &Pass<Map, L>) -> bool {
             .all(|receipt| receipt.stripe == 1 && receipt.stamp > clock)
 }
 
-// Whether no step of the first stripe stands after one of the second.
+// Returns whether no step of the first stripe stands after a step of the second.
 fn goes_in_phases(finished: &Finished<Map>) -> bool {
     let mut right = true;
     let mut last = 0usize;
@@ -88,7 +88,7 @@ fn goes_in_phases(finished: &Finished<Map>) -> bool {
     right && last == 1
 }
 
-// Whether a worker that was told of another comes later.
+// Returns whether the calls of a worker that was told of another come later.
 fn work_in_phases<
     L: Ledger + Send + Sync,
     M: Site<Shared<Same>> + Send + Sync,
@@ -139,7 +139,7 @@ fn in_phases<R: Threads + Wait + Sync>(rt: &R, alloc: Global) -> Result<bool, Al
     work_in_phases::<Brand, Brand, _>(rt, alloc, shared(alloc)?, Blank::new(2), Blank::new(2))
 }
 
-/// A line for the two phases, and its status.
+/// Prints a line for the two phases. Returns its status.
 pub(crate) fn run_phases<R: Threads + Wait + Sync + AllocGlobal + Print>(rt: &R) -> u8 {
     say(
         rt,

@@ -1,26 +1,26 @@
-//! The plain list that the records of a run are played on once more.
+//! The plain list on which the steps of a run are made once more.
 
 use std::alloc::{AllocError, Global};
 
-/// How many pairs a bucket of a cache holds.
+/// The most pairs in a bucket of a cache.
 const BUCKET: usize = 32;
 
-/// Pairs, each bucket's from the one that was used least recently, and the number of buckets. A set's values are 0, and
-/// a hash is its key.
+/// The pairs, each bucket's from the least recent one on, and the number of buckets. A set's values are 0. Each key
+/// is its own hash.
 #[derive(Drop)]
 pub struct Plain {
     pairs: Vec<(u64, u64)>,
     buckets: usize,
 }
 
-// The bucket of a key, of so many: as many first bits as that number has zeros.
+// Returns the bucket of a key among `buckets` buckets: the first bits of the key, enough to number the buckets.
 fn bucket_of(key: u64, buckets: usize) -> usize {
     let wide = u128::from(key) * buckets as u128;
     (wide >> 64) as usize
 }
 
 impl Plain {
-    /// Without a pair, and without an array.
+    /// Returns a list without a pair, and without an array.
     pub(crate) fn new(alloc: Global) -> Plain {
         Plain {
             pairs: Vec::new(alloc),
@@ -28,12 +28,12 @@ impl Plain {
         }
     }
 
-    /// The number of pairs.
+    /// Returns the number of pairs.
     pub(crate) fn len(&self) -> usize {
         self.pairs.len()
     }
 
-    /// The value of the key, where it is there.
+    /// Returns the value of the key, if the key is there.
     pub(crate) fn value(&self, key: u64) -> Option<u64> {
         self.pairs
             .iter()
@@ -41,17 +41,17 @@ impl Plain {
             .map(|pair| pair.1)
     }
 
-    /// The key, where it is there.
+    /// Returns the key, if it is there.
     pub(crate) fn key(&self, key: u64) -> Option<u64> {
         self.value(key).map(|_| key)
     }
 
-    /// Whether the key is there.
+    /// Returns whether the key is there.
     pub(crate) fn has(&self, key: u64) -> bool {
         self.value(key).is_some()
     }
 
-    /// Takes out the pair of the key.
+    /// Removes and returns the pair of the key.
     pub(crate) fn remove(&mut self, key: u64) -> Option<(u64, u64)> {
         let place = self.pairs.iter().position(|pair| pair.0 == key)?;
         if place < self.pairs.len() {
@@ -61,14 +61,14 @@ impl Plain {
         }
     }
 
-    /// Gives the key that value, and makes it the one used last.
+    /// Sets the value of the key, and makes the key the most recent.
     pub(crate) fn set(&mut self, key: u64, value: u64) -> Result<(), AllocError> {
         let _old = self.remove(key);
         self.pairs.push((key, value))?;
         Ok(())
     }
 
-    /// Makes the key the one used last, where it is there.
+    /// Makes the key the most recent, if it is there.
     pub(crate) fn touch(&mut self, key: u64) -> Result<(), AllocError> {
         if let Some(pair) = self.remove(key) {
             self.pairs.push(pair)?;
@@ -76,7 +76,7 @@ impl Plain {
         Ok(())
     }
 
-    // The pairs of a bucket.
+    // Returns the pairs of a bucket.
     fn bucket(&self, alloc: Global, bucket: usize) -> Result<Vec<(u64, u64)>, AllocError> {
         let mut pairs = Vec::new(alloc);
         for pair in self.pairs.iter() {
@@ -87,8 +87,8 @@ impl Plain {
         Ok(pairs)
     }
 
-    /// Takes out what was driven out for a new key, and says whether just that had to go: the pair of its full bucket
-    /// that was used least recently, or none.
+    /// Removes the pair that a put of `key` evicts: the least recent pair of its bucket if that is full, or none.
+    /// Returns whether `evicted` is that pair.
     pub(crate) fn evict(
         &mut self,
         alloc: Global,
@@ -107,7 +107,7 @@ impl Plain {
         Ok(evicted == wanted)
     }
 
-    /// Puts the pairs bucket by bucket, and goes over to another number of buckets.
+    /// Sorts the pairs by bucket, and sets the number of buckets.
     pub(crate) fn regroup(&mut self, alloc: Global, buckets: usize) -> Result<(), AllocError> {
         let mut pairs = Vec::new(alloc);
         for bucket in 0..self.buckets {
@@ -121,7 +121,7 @@ impl Plain {
         Ok(())
     }
 
-    /// Whether a walk that met those pairs met just these.
+    /// Returns whether `met` are the pairs of the list, in any order.
     pub(crate) fn is_met_by(&self, met: &[(u64, u64)]) -> bool {
         self.pairs.len() == met.len()
             && self
@@ -130,7 +130,7 @@ impl Plain {
                 .all(|pair| met.iter().any(|other| *other == *pair))
     }
 
-    /// Whether it met them bucket by bucket, in their order.
+    /// Returns whether `met` are the pairs of the list, bucket by bucket, each bucket's in its order.
     pub(crate) fn is_met_in_order_by(
         &mut self,
         alloc: Global,

@@ -1,8 +1,8 @@
 //! What the arguments ask for.
 ghost use Rattle.std.specs.Prelude.{◌≡◌, ◌≤◌, [], Some, length};
 
-/// What is to be played, and the numbers of a soak: rounds for so many seconds, one at least, each of so many threads
-/// with so many calls.
+/// What to play, and the numbers of a soak. It makes rounds for `seconds` seconds, and at least one round, each with
+/// `threads` threads that make `calls` calls.
 #[derive(Clone, Copy, Drop)]
 pub struct Request {
     pub soaks: bool,
@@ -12,16 +12,17 @@ pub struct Request {
     pub calls: u64,
 }
 
-/// The seconds where no number is asked for.
+/// The number of seconds if none is given.
 const USUAL_SECONDS: u64 = 60;
 
-/// The threads where no number is asked for.
+/// The number of threads if none is given.
 const USUAL_THREADS: u64 = 4;
 
-/// The calls where no number is asked for.
+/// The number of calls if none is given.
 const USUAL_CALLS: u64 = 100_000;
 
-// The number at that place, the usual one where there is none; None for a word that is no number.
+// Returns the number in the word at `place`, or `usual` if there is no such word. Returns `None` if the word is no
+// number.
 fn parse_number(words: &[String], place: usize, usual: u64) -> Option<u64>
     ensures { length words.now ≤ place → result ≡ Some usual }
 {
@@ -31,7 +32,7 @@ fn parse_number(words: &[String], place: usize, usual: u64) -> Option<u64>
     }
 }
 
-// Whether there is a soak, and whether there are crowds; both without a word.
+// Returns whether to soak, and whether to play the crowds. Without a word both are played.
 fn parse_parts(words: &[String]) -> Option<(bool, bool)> {
     match words.first() {
         Some(word) => match word.as_str() {
@@ -44,7 +45,7 @@ fn parse_parts(words: &[String]) -> Option<(bool, bool)> {
     }
 }
 
-/// Reads the words `soak`, `crowds` or `all`, and `SECONDS THREADS CALLS`, of which the last ones may be left out.
+/// Reads the word `soak`, `crowds` or `all`, and `SECONDS THREADS CALLS`. The last words may be missing.
 pub(crate) fn parse_request(words: &[String]) -> Option<Request> {
     let (soaks, crowds) = parse_parts(words)?;
     let seconds = parse_number(words, 1, USUAL_SECONDS)?;

@@ -1,4 +1,4 @@
-//! Rounds of calls on each kind of container, in which what went in and what came out has to add up.
+//! Rounds of calls on each kind of container, in which the keys that went in and came out must add up.
 
 use crate::called::{Cache, Called, Index, Map, Set};
 use crate::counted::Counts;
@@ -11,13 +11,13 @@ use std::sync::Wait;
 use std::thread::{Threads, map_indices};
 use std::time::Instant;
 
-/// Every count added up.
+/// The status if every count added up.
 const EVEN: u8 = 0;
 
-/// A count didn't add up.
+/// The status if a count didn't add up.
 const UNEVEN: u8 = 1;
 
-// What one thread was told in so many calls.
+// Makes `calls` calls in one thread. Returns the tally of the replies.
 fn work<'a, C: Called<'a>, R: Wait>(
     rt: &R,
     container: &C,
@@ -34,7 +34,7 @@ fn work<'a, C: Called<'a>, R: Wait>(
     tally
 }
 
-// Whether what the threads were told adds up with what the container has.
+// Returns whether the tallies of the threads add up with the keys of the container.
 fn is_settled<'a, C: Called<'a>, R: Wait>(rt: &R, container: &C, told: &[Tally]) -> bool {
     let mut left = Tally::new();
     for tally in told {
@@ -44,7 +44,7 @@ fn is_settled<'a, C: Called<'a>, R: Wait>(rt: &R, container: &C, told: &[Tally])
     left.is_even()
 }
 
-// The container, if memory for it was there.
+// Returns the container, or an error if its memory was refused.
 fn made<C: Drop>(container: Option<C>) -> io::Result<C> {
     match container {
         Some(container) => Ok(container),
@@ -52,10 +52,10 @@ fn made<C: Drop>(container: Option<C>) -> io::Result<C> {
     }
 }
 
-// What a thread is handed may not rest on a bound with a lifetime, so the threads of each kind are started by a function
-// of its own.
+// The data of a thread can't rest on a bound with a lifetime. Therefore each kind starts its threads in a function of
+// its own.
 
-// What each thread was told of a map.
+// Returns what each thread was told by a map.
 fn told_of_map<'a, R: Wait + Threads + Sync>(
     rt: &R,
     alloc: Global,
@@ -72,7 +72,7 @@ fn told_of_map<'a, R: Wait + Threads + Sync>(
     )?)
 }
 
-// Whether a round of a map adds up.
+// Returns whether a round of a map adds up.
 fn map_adds_up<R: Wait + Threads + Sync>(
     rt: &R,
     alloc: Global,
@@ -84,7 +84,7 @@ fn map_adds_up<R: Wait + Threads + Sync>(
     Ok(is_settled(rt, &map, told.as_slice()))
 }
 
-// What each thread was told of a set.
+// Returns what each thread was told by a set.
 fn told_of_set<'a, R: Wait + Threads + Sync>(
     rt: &R,
     alloc: Global,
@@ -101,7 +101,7 @@ fn told_of_set<'a, R: Wait + Threads + Sync>(
     )?)
 }
 
-// Whether a round of a set adds up.
+// Returns whether a round of a set adds up.
 fn set_adds_up<R: Wait + Threads + Sync>(
     rt: &R,
     alloc: Global,
@@ -113,7 +113,7 @@ fn set_adds_up<R: Wait + Threads + Sync>(
     Ok(is_settled(rt, &set, told.as_slice()))
 }
 
-// What each thread was told of an index.
+// Returns what each thread was told by an index.
 fn told_of_index<'a, R: Wait + Threads + Sync>(
     rt: &R,
     alloc: Global,
@@ -130,7 +130,7 @@ fn told_of_index<'a, R: Wait + Threads + Sync>(
     )?)
 }
 
-// Whether a round of an index adds up.
+// Returns whether a round of an index adds up.
 fn index_adds_up<R: Wait + Threads + Sync>(
     rt: &R,
     alloc: Global,
@@ -142,7 +142,7 @@ fn index_adds_up<R: Wait + Threads + Sync>(
     Ok(is_settled(rt, &index, told.as_slice()))
 }
 
-// What each thread was told of a cache.
+// Returns what each thread was told by a cache.
 fn told_of_cache<'a, R: Wait + Threads + Sync>(
     rt: &R,
     alloc: Global,
@@ -159,7 +159,7 @@ fn told_of_cache<'a, R: Wait + Threads + Sync>(
     )?)
 }
 
-// Whether a round of a cache adds up.
+// Returns whether a round of a cache adds up.
 fn cache_adds_up<R: Wait + Threads + Sync>(
     rt: &R,
     alloc: Global,
@@ -171,7 +171,7 @@ fn cache_adds_up<R: Wait + Threads + Sync>(
     Ok(is_settled(rt, &cache, told.as_slice()))
 }
 
-// Prints the name of a container whose counts don't add up, and says whether they do.
+// Prints `name` if the counts of the container don't add up. Returns `holds`.
 fn tell(rt: &impl Print, name: &str, holds: bool) -> io::Result<bool> {
     if !holds {
         println!(rt; "{name}: what went in and out doesn't add up")?;
@@ -179,7 +179,7 @@ fn tell(rt: &impl Print, name: &str, holds: bool) -> io::Result<bool> {
     Ok(holds)
 }
 
-// Whether a round of each container adds up, and each value was dropped once.
+// Returns whether a round of each container adds up, and each value was dropped once.
 fn all_add_up<R: Wait + Threads + Sync + Print>(
     rt: &R,
     alloc: Global,
@@ -197,8 +197,7 @@ fn all_add_up<R: Wait + Threads + Sync + Print>(
     Ok(map && set && index && cache)
 }
 
-/// Goes on with rounds until the time is over, and prints how many there were. It ends at the first whose counts don't
-/// add up.
+/// Makes rounds until the time is over, and prints their number. Stops at the first round whose counts don't add up.
 pub(crate) fn soak<R: Wait + Threads + Sync + Print + Clock>(
     rt: &R,
     alloc: Global,

@@ -1,4 +1,4 @@
-//! What workers do on one recorded container, and the workers themselves.
+//! The workers on one recorded container, and their calls.
 ghost use Rattle.scc_calls.specs.Copies.{ClonesEqual};
 
 use crate::plain::Plain;
@@ -13,19 +13,19 @@ pub(crate) const WORKERS: u64 = 8;
 
 const TURNS: u64 = 200;
 
-// How many keys all share.
+// The number of keys that all workers share.
 const SHARED: u64 = 8;
 
-// What workers do on a container of each kind.
+// The calls of workers on a container of one kind.
 pub(crate) trait Turns: Calls + Drop {
-    // The call of a turn on a key of the worker's own, and what it is answered where nobody else is there, if that can
-    // be known.
+    // Returns the call of turn `j` on a key of the worker's own, and its reply if no other worker interferes and the
+    // reply can be known.
     fn own_turn(key: u64, j: u64) -> (Self::Call, Option<Self::Reply>);
 
-    // The call of a turn on a key that all share.
+    // Returns the call of turn `j` on a key that all workers share.
     fn shared_turn(key: u64, j: u64) -> Self::Call;
 
-    // Makes a call on a plain list, and says whether its reply is the right one.
+    // Makes a call on a plain list. Returns whether `reply` is right.
     fn plays(
         alloc: Global,
         plain: &mut Plain,
@@ -33,13 +33,13 @@ pub(crate) trait Turns: Calls + Drop {
         reply: &Self::Reply,
     ) -> Result<bool, AllocError>;
 
-    // Adds all pairs to the list in the order of a walk, and says whether there was room. A set's values are 0.
+    // Adds all pairs to `met` in the order of a walk. Returns whether there was room. A set's values are 0.
     fn collect(&self, met: &mut Vec<(u64, u64)>) -> bool;
 
-    // How many keys are there.
+    // Returns the number of keys.
     fn count(&self) -> usize;
 
-    // Whether a walk meets pairs bucket by bucket, each bucket's by recency.
+    // Returns whether a walk meets pairs bucket by bucket, each bucket's by recency.
     fn is_ordered() -> bool;
 
     fn equal_calls()
@@ -49,12 +49,13 @@ pub(crate) trait Turns: Calls + Drop {
         ensures { ClonesEqual Self.Reply.is_clone Self.Reply.eq };
 }
 
-// The keys of a worker lie in different buckets, one for each eight turns.
+// Returns a key of the worker's own. A worker's keys lie in different buckets, and each serves eight turns.
 fn own_key(worker: u64, place: u64) -> u64 {
     (place << 59) | (1 << 40) | (worker << 32)
 }
 
-// Every other call is on a key of the worker's own, the others are on keys that all share.
+// Returns the call of turn `j`. Every other call is on a key of the worker's own, and the others are on keys that all
+// workers share.
 fn turn_of<C: Turns>(worker: u64, j: u64) -> (C::Call, Option<C::Reply>) {
     if j % 2 == 0 {
         C::own_turn(own_key(worker, j / 8), j)
@@ -75,7 +76,7 @@ fn turns_of<C: Turns>(
     Ok(turns)
 }
 
-// The turns of all workers.
+// Returns the turns of all workers.
 pub(crate) fn all_turns<C: Turns>(
     alloc: Global,
 ) -> Result<Vec<Vec<(C::Call, Option<C::Reply>)>>, AllocError> {
@@ -86,7 +87,7 @@ pub(crate) fn all_turns<C: Turns>(
     Ok(lists)
 }
 
-// Whether that was answered, if it can be known.
+// Returns whether `answer` is the known reply. Returns true if no reply is known.
 fn matches_alone<A: PartialEq>(wanted: &Option<A>, answer: &A) -> bool {
     match wanted {
         Some(wanted) => wanted == answer,
@@ -94,14 +95,14 @@ fn matches_alone<A: PartialEq>(wanted: &Option<A>, answer: &A) -> bool {
     }
 }
 
-// One worker, with a pass of its own.
+// A worker, with a pass of its own.
 #[derive(Drop)]
 pub(crate) struct Caller<'a, C: Turns, L: Ledger, M: Site<C::Hasher>, R: Wait> {
     rt: &'a R,
     recorded: &'a Recorded<C, L, M>,
     turns: &'a [(C::Call, Option<C::Reply>)],
     pass: Pass<C, L>,
-    // Whether each reply on its own keys was that of one thread.
+    // Whether each reply on the worker's own keys was that of a single thread.
     as_alone: bool,
 }
 
@@ -132,7 +133,7 @@ impl<C: Turns, L: Ledger, M: Site<C::Hasher>, R: Wait> Work for Caller<'_, C, L,
     }
 }
 
-// A worker for each pass.
+// Returns a worker for each pass.
 pub(crate) fn callers_of<'a, C: Turns, L: Ledger, M: Site<C::Hasher>, R: Wait>(
     rt: &'a R,
     alloc: Global,
@@ -153,7 +154,7 @@ pub(crate) fn callers_of<'a, C: Turns, L: Ledger, M: Site<C::Hasher>, R: Wait>(
     Ok(callers)
 }
 
-// The passes of the workers, if each had its own keys to itself.
+// Returns the passes of the workers if each reply on their own keys was that of a single thread.
 pub(crate) fn passes_of<C: Turns, L: Ledger, M: Site<C::Hasher>, R: Wait>(
     alloc: Global,
     callers: Vec<Caller<'_, C, L, M, R>>,

@@ -1,4 +1,4 @@
-// Whole containers: comparisons beside a writer and both ways at once, clones, and those that are made of items.
+// Whole containers: comparisons beside a writer and in both ways at once, clones, and containers made of items.
 use crate::expect::{expect, expect_eq};
 use crate::kinds::{Cache, Index, Map, Set, Threaded};
 use scc_shared_cache::HashCache;
@@ -18,7 +18,7 @@ const ROUNDS: u64 = 200;
 /// Slots for two stripes.
 const SLOTS: usize = 512;
 
-// Whether a hundred keys in all stripes are added.
+// Adds a hundred keys in all stripes, and returns whether each was added.
 fn fills<C: Threaded, R: Wait>(rt: &R, container: &C) -> bool {
     let mut right = true;
     for key in 0..KEYS {
@@ -27,7 +27,7 @@ fn fills<C: Threaded, R: Wait>(rt: &R, container: &C) -> bool {
     right
 }
 
-// One with these keys; None where memory is refused.
+// Returns a container with these keys, or `None` if memory is refused.
 fn filled<C: Threaded + Drop, R: Wait>(rt: &R, alloc: Global) -> Option<C> {
     match C::make(alloc, SLOTS) {
         Some(made) if fills(rt, &made) => Some(made),
@@ -53,7 +53,7 @@ fn writes<C: Threaded, R: Wait>(rt: &R, container: &C) -> bool {
     there
 }
 
-// Whether a container equals itself each time, beside a writer too.
+// Returns whether a container equals itself each time, also beside a writer.
 fn is_itself<C: Threaded + Sync, R: Threads + Wait + Sync>(rt: &R, container: &C) -> bool {
     let before = container.equals(rt, container);
     let (compared, wrote) = join(
@@ -85,7 +85,8 @@ fn equals_itself_beside_a_writer(rt: HostRuntime) {
     expect_eq(&rt, right, [true; 4]);
 }
 
-// Compares in both ways at once while keys of both come and go, which may answer anything and has to end.
+// Compares in both ways at once while keys of both containers come and go. A comparison may return anything, and must
+// end. Returns whether each key came and went.
 fn compares_and_moves<C: Threaded, R: Wait>(rt: &R, one: &C, other: &C) -> bool {
     let mut moved = true;
     for key in 0..ROUNDS {
@@ -97,7 +98,7 @@ fn compares_and_moves<C: Threaded, R: Wait>(rt: &R, one: &C, other: &C) -> bool 
     moved
 }
 
-// Whether two containers that are compared with one another by two threads come to an end, and are equal then.
+// Returns whether two containers that two threads compare with one another come to an end, and are equal then.
 fn compare_both_ways<C: Threaded + Sync, R: Threads + Wait + Sync>(
     rt: &R,
     one: &C,
@@ -132,14 +133,14 @@ fn comparisons_in_opposite_ways_end(rt: HostRuntime) {
     expect_eq(&rt, right, [true; 4]);
 }
 
-// Whether a container differs from its equal as soon as it lacks a key, looked at from either side.
+// Returns whether a container differs from its equal as soon as it lacks a key, looked at from either side.
 fn differs<C: Threaded, R: Wait>(rt: &R, one: &C, other: &C) -> bool {
     let same = one.equals(rt, other) && other.equals(rt, one);
     let gone = one.take(rt, 0);
     same && gone && !one.equals(rt, other) && !other.equals(rt, one)
 }
 
-// Whether a map's clone has its slots, and equals it for as long as their values are the same.
+// Returns whether a map's clone has its slots, and equals it only while their values are equal.
 fn is_clone(rt: &impl Wait, map: &Map, copy: &Map) -> bool {
     let slots = (
         map.capacity(rt),
@@ -176,14 +177,14 @@ fn shared_index_clone_equals(rt: HostRuntime) -> Result<(), Fail> {
     Ok(())
 }
 
-// Gets some keys of a cache, which are then those that were used last.
+// Gets some keys of a cache, which are then its most recent ones.
 fn refreshes(rt: &impl Wait, cache: &Cache) {
     for key in 0..KEYS {
         drop(cache.get_sync(rt, &((key % 3) << 57 | key % 3)));
     }
 }
 
-// The order in which pairs were used is no part of what caches are compared by.
+// The order in which pairs were used plays no part in the comparison of caches.
 #[test]
 fn shared_cache_equality_ignores_recency(rt: HostRuntime) -> Result<(), Fail> {
     let first: Cache = filled(&rt, rt.alloc()).ok_or("there is memory")?;

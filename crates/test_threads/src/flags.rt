@@ -1,9 +1,9 @@
-// What threads tell each other. Each look for another thread has its limit, so that a wrong lock fails a test and
-// doesn't hang it.
+// Flags by which threads tell each other what they do. A thread stops looking for another after a limit, so a wrong
+// lock fails a test and doesn't hang it.
 use std::sync::atomic::{AtomicU64, Ordering};
 use std::thread::yield_now;
 
-/// How often a thread looks for another one.
+/// How often a thread looks for another thread.
 const LOOKS: u32 = 500_000;
 
 /// Three flags, none of them raised.
@@ -29,12 +29,12 @@ pub(crate) fn raise(flag: &AtomicU64) {
     flag.fetch_add(1, Ordering::SeqCst);
 }
 
-/// How often a flag was raised.
+/// Returns how often a flag was raised.
 pub(crate) fn height(flag: &AtomicU64) -> u64 {
     flag.load(Ordering::SeqCst)
 }
 
-/// Whether a flag is raised before the last look.
+/// Returns whether a flag is raised before the last look.
 pub(crate) fn sees(flag: &AtomicU64) -> bool {
     for _ in 0..LOOKS {
         if height(flag) > 0 {

@@ -1,4 +1,4 @@
-// The four containers that threads share, called alike: a key is a number, and its value is the key.
+// The four shared containers, called by one trait. A key is a number, and its value is the key.
 mod cache;
 mod index;
 mod map;
@@ -23,15 +23,15 @@ pub type Cache = HashCache<u64, u64, Same>;
 /// The least key of the upper half of all hashes.
 pub const HALF: u64 = 1 << 63;
 
-/// The slots that a cache has at most, and the steps from entry to entry.
+/// The maximum of a cache, and the limit of steps from entry to entry.
 pub const MOST: usize = 4096;
 
-/// What is told of each key that one comes to.
+/// Receives each key that a walk or an access comes to.
 pub trait Visit {
     fn meet(&mut self, key: u64);
 }
 
-/// How one goes over all keys. A kind without that way walks.
+/// A way over all keys. A kind without the way walks instead.
 #[derive(Clone, Copy, Debug)]
 pub enum Way {
     /// A walk that reads.
@@ -40,11 +40,11 @@ pub enum Way {
     Keep,
     /// A walk that may take pairs out, and takes none.
     Take,
-    /// A search that nothing passes.
+    /// A search whose condition no pair meets.
     Ask,
     /// From entry to entry.
     Next,
-    /// From entry to entry, each of which is taken out.
+    /// From entry to entry, each of which is removed.
     Remove,
     /// A walk over a clone.
     Copy,
@@ -52,32 +52,32 @@ pub enum Way {
     Snapshot,
 }
 
-/// A container that threads share.
+/// A shared container.
 pub trait Threaded: Sized {
-    /// An empty one for so many slots; None where memory is refused.
+    /// Makes an empty container for `slots` slots, or returns `None` if memory is refused.
     fn make(alloc: Global, slots: usize) -> Option<Self>;
 
-    /// Adds a key that is missing, and says whether it was added.
+    /// Adds a missing key, and returns whether it was added.
     fn add<R: Wait>(&self, rt: &R, key: u64) -> bool;
 
-    /// Writes to a key that is there, and says whether it was there.
+    /// Writes `value` to a key, and returns whether the key was present.
     fn rewrite<R: Wait>(&self, rt: &R, key: u64, value: u64) -> bool;
 
-    /// Takes a key out, and says whether it was there.
+    /// Removes a key, and returns whether it was present.
     fn take<R: Wait>(&self, rt: &R, key: u64) -> bool;
 
-    /// Goes over all keys, and says whether it came to their end.
+    /// Goes over all keys by `way`, and returns whether it came to their end.
     fn go_over<R: Wait, V: Visit>(&self, rt: &R, alloc: Global, way: Way, visit: &mut V) -> bool;
 
-    /// Holds the entry of a key while that is told, and says whether the key was there.
+    /// Holds the entry of a key while `visit` meets the key, and returns whether the key was present.
     fn at_entry<R: Wait, V: Visit>(&self, rt: &R, key: u64, visit: &mut V) -> bool;
 
-    /// Reads a key while that is told, and says whether the key was there.
+    /// Reads a key while `visit` meets the key, and returns whether the key was present.
     fn at_read<R: Wait, V: Visit>(&self, rt: &R, key: u64, visit: &mut V) -> bool;
 
-    /// How many keys there are.
+    /// Returns the number of keys.
     fn count<R: Wait>(&self, rt: &R) -> usize;
 
-    /// Whether it has just what another one has.
+    /// Returns whether it has exactly what `other` has.
     fn equals<R: Wait>(&self, rt: &R, other: &Self) -> bool;
 }

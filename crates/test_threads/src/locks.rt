@@ -1,5 +1,6 @@
-// Which locks a call holds: a stripe's alone, readers share it, and a walk lets its stripe go before it takes the next
-// one. So neither one lock round the whole container nor one for each stripe that readers don't share passes.
+// Which locks a call holds: a stripe's alone, readers share it, and a walk releases a stripe's lock before it takes
+// the next. So one lock round the whole container fails these tests, and so does one lock for each stripe that readers
+// don't share.
 use crate::expect::{expect, expect_eq};
 use crate::flags::{Flags, raise, sees};
 use crate::kinds::{Cache, HALF, Index, Map, Set, Threaded, Visit, Way};
@@ -12,7 +13,7 @@ use std::thread::{Threads, join, map_indices};
 /// Slots for two stripes.
 const SLOTS: usize = 128;
 
-/// The ways over all keys, of which a cache has the first three.
+/// The ways over all keys. A cache has the first three.
 const WAYS: [Way; 6] = [
     Way::Walk,
     Way::Keep,
@@ -22,7 +23,7 @@ const WAYS: [Way; 6] = [
     Way::Remove,
 ];
 
-// At one key it tells that it is there, and waits until another thread has told the same.
+// Raises its flag at one key, and waits until another thread has raised its own.
 #[derive(Drop)]
 struct Meeting<'a> {
     key: u64,
@@ -49,7 +50,7 @@ fn make_meeting<'a>(key: u64, mine: &'a AtomicU64, other: &'a AtomicU64) -> Meet
     }
 }
 
-// A container with a key in each of its two stripes; None where memory is refused.
+// Returns a container with a key in each of its two stripes, or `None` if memory is refused.
 fn two_keys<C: Threaded + Drop, R: Wait>(rt: &R, alloc: Global) -> Option<C> {
     match C::make(alloc, SLOTS) {
         Some(made) if made.add(rt, 1) && made.add(rt, HALF) => Some(made),
@@ -75,7 +76,7 @@ fn reads<C: Threaded, R: Wait>(rt: &R, container: &C, mine: &AtomicU64, other: &
     container.at_read(rt, 1, &mut meeting) && meeting.met
 }
 
-// Once another thread has told that it holds a lock, adds a key, and tells that it is done.
+// Adds a key once another thread has told that it holds a lock, and tells that it is done.
 fn adds_beside<C: Threaded, R: Wait>(
     rt: &R,
     container: &C,
@@ -89,7 +90,7 @@ fn adds_beside<C: Threaded, R: Wait>(
     held && added
 }
 
-// While an entry of the first stripe is held, a key gets into the second one.
+// Returns whether a key goes into the second stripe while an entry of the first stripe is held.
 fn leaves_other<C: Threaded + Sync, R: Threads + Wait + Sync>(rt: &R, container: &C) -> bool {
     let flags = Flags::new();
     let (held, added) = join(
@@ -121,7 +122,7 @@ fn held_entry_other_stripe(rt: HostRuntime) {
     expect_eq(&rt, right, [true; 4]);
 }
 
-// Two threads read the same key at the same time.
+// Returns whether two threads can read one key at once.
 fn share<C: Threaded + Sync, R: Threads + Wait + Sync>(rt: &R, container: &C) -> bool {
     let flags = Flags::new();
     let (one, other) = join(
@@ -153,7 +154,7 @@ fn two_readers_one_stripe(rt: HostRuntime) {
     expect_eq(&rt, right, [true; 4]);
 }
 
-// Once the second stripe is held, goes over all keys, and tells when it is in the first stripe.
+// Goes over all keys once the second stripe is held, and tells when it is in the first stripe.
 fn goes_over<C: Threaded, R: Wait>(
     rt: &R,
     alloc: Global,
@@ -165,8 +166,9 @@ fn goes_over<C: Threaded, R: Wait>(
     sees(&flags.second) && container.go_over(rt, alloc, way, &mut meeting) && meeting.met
 }
 
-// What one of three threads does. The first one goes over all keys. The second one holds the second stripe until the
-// third one has got into the first, where the first one is when it sets out.
+// Plays the part of one of three threads. The first thread goes over all keys. The second thread holds the second
+// stripe until the third thread has added a key to the first stripe, in which the first thread is when the third sets
+// out.
 fn part<C: Threaded, R: Wait>(
     rt: &R,
     alloc: Global,
@@ -182,8 +184,8 @@ fn part<C: Threaded, R: Wait>(
     }
 }
 
-// Whether that way over all keys lets the first stripe go before it takes the second. One that didn't would keep the
-// third thread out for as long as the second one looks for it.
+// Returns whether this way over all keys releases the first stripe before it takes the second. A way that didn't would
+// keep the third thread out for as long as the second thread looks for it.
 fn lets_go<C: Threaded + Sync, R: Threads + Wait + Sync>(
     rt: &R,
     alloc: Global,
@@ -213,7 +215,7 @@ fn lets_go_first<C: Threaded + Sync + Drop, R: Threads + Wait + Sync>(
     }
 }
 
-// Whether each of the first ways does so. The first that doesn't ends it.
+// Returns whether each of the first `ways` ways releases the first stripe first. Stops at the first way that doesn't.
 fn let_go_first<C: Threaded + Sync + Drop, R: Threads + Wait + Sync>(
     rt: &R,
     alloc: Global,

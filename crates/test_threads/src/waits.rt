@@ -10,32 +10,32 @@ use std::sync::atomic::AtomicU64;
 use std::thread::{Threads, join, sleep};
 use std::time::{Duration, Instant};
 
-/// How long a stripe is held once another thread is about to wait for it, in milliseconds.
+/// How many milliseconds a stripe is held once another thread is about to wait for it.
 const HELD: u64 = 200;
 
-/// The processor time in nanoseconds by which it is seen that processor time is told.
+/// The processor time in nanoseconds at which a thread is seen to get any.
 const SEEN: u64 = 5_000_000;
 
-/// How often a thread asks for its processor time until it has had that much.
+/// How often a thread asks for its processor time until it has had `SEEN`.
 const ASKED: u32 = 1_000_000;
 
 /// The only key.
 const KEY: u64 = 1;
 
-/// What a thread has at a key.
+/// How a thread accesses a key.
 #[derive(Clone, Copy)]
 enum Hold {
     Entry,
     Read,
 }
 
-// The processor time in nanoseconds that this thread has had; None where the system doesn't tell.
+// Returns the processor time in nanoseconds that this thread has had, or `None` if the system doesn't tell.
 fn processor_time<R: Files + Alloc>(rt: &R) -> Option<u64> {
     let text = fs::read_to_string(rt, "/proc/thread-self/schedstat").ok()?;
     text.as_str().split(' ').next()?.parse::<u64>().ok()
 }
 
-// Whether the processor time of a thread that works rises.
+// Returns whether the processor time of a thread that works rises.
 fn rises<R: Files + Alloc>(rt: &R) -> bool {
     let Some(start) = processor_time(rt) else {
         return false;
@@ -48,7 +48,7 @@ fn rises<R: Files + Alloc>(rt: &R) -> bool {
     false
 }
 
-// Whether the system tells processor times. If it doesn't, the tests below see only that nobody gets in.
+// Returns whether the system tells processor times. If it doesn't, the tests below check only that nobody gets in.
 fn is_told<R: Files + Alloc>(rt: &R) -> bool {
     processor_time(rt).unwrap_or(0) > 0
 }
@@ -58,7 +58,7 @@ fn processor_time_rises_if_it_is_told(rt: HostRuntime) {
     expect(&rt, !is_told(&rt) || rises(&rt));
 }
 
-// Tells that it is there, and stays for a while once another thread is about to wait.
+// Tells that it is there, and stays for `HELD` milliseconds once another thread is about to wait.
 #[derive(Drop)]
 struct Staying<'a, R> {
     rt: &'a R,
@@ -75,7 +75,7 @@ impl<R: Clock> Visit for Staying<'_, R> {
     }
 }
 
-// Stays nowhere.
+// Does nothing at a key.
 #[derive(Drop)]
 struct Passing;
 
@@ -110,8 +110,8 @@ fn passes<C: Threaded, R: Wait>(rt: &R, container: &C, hold: Hold) -> bool {
     }
 }
 
-// Once the stripe is held, waits for it; whether that took as long as it was held, and less than a tenth of that of this
-// thread's processor time. None where the system tells no time.
+// Waits for the stripe once it is held. Returns whether the wait took as long as the stripe was held, and less than a
+// tenth of it in this thread's processor time, or `None` if the system tells no time.
 fn sleeps<C: Threaded, R: Wait + Clock + Files + Alloc>(
     rt: &R,
     container: &C,

@@ -1,5 +1,5 @@
 // Walks of every way beside two threads that write: each of a hundred keys that nobody touches is met once, while
-// other keys come and go, arrays grow and shrink.
+// other keys come and go, and arrays grow and shrink.
 use crate::expect::expect_eq;
 use crate::flags::{Flags, height, raise};
 use crate::kinds::{Cache, Index, Map, Set, Threaded, Visit, Way};
@@ -8,16 +8,16 @@ use std::process::Abort;
 use std::sync::Wait;
 use std::thread::{Threads, map_indices};
 
-/// How many keys nobody touches.
+/// The number of keys that nobody touches.
 const KEPT: usize = 100;
 
 /// How often a writer goes over its keys.
 const ROUNDS: u64 = 20;
 
-/// How many walks of each way there are at least.
+/// The least number of walks of each way.
 const LEAST: u64 = 10;
 
-/// How many walks of each way there are at most.
+/// The greatest number of walks of each way.
 const MOST: u64 = 100_000;
 
 /// Slots for 16 stripes of 8 buckets.
@@ -50,18 +50,19 @@ impl Visit for Met {
     }
 }
 
-// A key that nobody touches, in the first bucket of one of the stripes.
+// Returns a key that nobody touches, in the first bucket of one of the stripes.
 fn kept_key(number: u64) -> u64 {
     (number << 60) | number
 }
 
-// A key of a writer, in another bucket of one of the stripes, so that a cache of that size has room for all.
+// Returns a key of a writer, in another bucket of one of the stripes, so that a cache of this size has room for all
+// keys.
 fn moved_key(writer: u64, number: u64) -> u64 {
     let bucket = (number % 7).wrapping_add(1);
     (number << 60) | (bucket << 57) | (writer << 32) | number
 }
 
-// Adds the keys of a writer and takes them out again, round after round, so that some are there at any time.
+// Adds the keys of a writer in one round and removes them in the next. Returns whether each call did so.
 fn come_and_go<C: Threaded, R: Wait>(rt: &R, container: &C, writer: u64, moved: u64) -> bool {
     let mut done = true;
     for round in 0..ROUNDS {
@@ -78,13 +79,13 @@ fn come_and_go<C: Threaded, R: Wait>(rt: &R, container: &C, writer: u64, moved: 
     done
 }
 
-// Whether a walk meets each of the kept keys once.
+// Returns whether a walk meets each of the kept keys once.
 fn meets_each_once<C: Threaded, R: Wait>(rt: &R, alloc: Global, container: &C, way: Way) -> bool {
     let mut met = Met { times: [0; KEPT] };
     container.go_over(rt, alloc, way, &mut met) && met.times == [1; KEPT]
 }
 
-// Walks of one way after another until both writers have ended.
+// Walks one way after another until both writers have ended. Returns whether each walk met each kept key once.
 fn walk_often<C: Threaded, R: Wait>(rt: &R, alloc: Global, container: &C, ended: &Flags) -> bool {
     let mut once = true;
     for walks in 0..MOST {
@@ -98,7 +99,7 @@ fn walk_often<C: Threaded, R: Wait>(rt: &R, alloc: Global, container: &C, ended:
     once
 }
 
-// What one of three threads does: the first one walks, the others write.
+// Plays the part of one of three threads: the first walks, and the others write.
 fn work<C: Threaded, R: Wait>(
     rt: &R,
     alloc: Global,
@@ -115,7 +116,7 @@ fn work<C: Threaded, R: Wait>(
     done
 }
 
-// Whether the keys that nobody touches are added.
+// Adds the keys that nobody touches, and returns whether each was added.
 fn fills<C: Threaded, R: Wait>(rt: &R, container: &C) -> bool {
     let mut filled = true;
     for number in 0..KEPT {
@@ -124,7 +125,7 @@ fn fills<C: Threaded, R: Wait>(rt: &R, container: &C) -> bool {
     filled
 }
 
-// Whether all walks beside writers of so many keys are right.
+// Returns whether all walks are right beside writers of `moved` keys, and only the kept keys are left.
 fn walk_beside<C: Threaded + Sync, R: Threads + Wait + Sync>(
     rt: &R,
     alloc: Global,
@@ -143,7 +144,7 @@ fn walk_beside<C: Threaded + Sync, R: Threads + Wait + Sync>(
     }
 }
 
-// Whether they are right in a container for so many slots.
+// Returns whether these walks are right in a container for `slots` slots.
 fn walks<C: Threaded + Sync + Drop, R: Threads + Wait + Sync>(
     rt: &R,
     alloc: Global,

@@ -1,4 +1,4 @@
-// An entry that is let go lets its lock go, in whatever state it is: the next call on its stripe comes through.
+// An entry that is dropped releases its lock, in whatever state it is: the next call on its stripe gets through.
 use crate::expect::expect;
 use scc_map::held::{HeldEntry, HeldReplace};
 use scc_script::same::Same;
@@ -9,7 +9,7 @@ use std::test::Fail;
 
 type Map = HashMap<u64, u64, Same>;
 
-// A call that takes the lock of the only stripe, and makes the pair of 1 what it was.
+// Makes calls that take the lock of the only stripe, and that restore the pair of key 1.
 fn comes_through(rt: &impl Wait, map: &Map) -> bool {
     let _old = map.remove_sync(rt, &2);
     map.upsert_sync(rt, 1, 10).is_ok() && map.len(rt) == 1

@@ -1,5 +1,5 @@
-// Stripes of a shared map: which key lies in which, what a reservation that ends does to one that is held, and what a
-// removal gives back.
+// Stripes of a shared map: which key lies in which stripe, what a reservation that ends does beside a held entry, and
+// which slots a removal gives back.
 use crate::expect::{expect, expect_eq};
 use scc_script::same::Same;
 use scc_shared_map::HashMap;
@@ -14,7 +14,7 @@ type Map = HashMap<u64, u64, Same>;
 // The least key of the second of two stripes.
 const HALF: u64 = 1 << 63;
 
-// The stripe and the bucket of the greatest hash, and the capacity, of a map for so many slots.
+// Returns the stripe and the bucket of the greatest hash, and the capacity, of a map for `slots` slots.
 fn greatest(
     rt: &impl Wait,
     alloc: Global,
@@ -65,8 +65,8 @@ fn removes(rt: &impl Wait, map: &Map, key: u64, by_entry: bool) -> bool {
     }
 }
 
-// The number of a bucket tells the size of the array, and asking for it changes nothing. These are the numbers at
-// first, under a reservation, after it and after a removal.
+// Returns the number of a bucket at first, under a reservation, after the reservation and after a removal. The number
+// shows the size of the array, and asking for it changes nothing.
 fn gives_back(rt: &impl Wait, map: &Map, key: u64, by_entry: bool) -> Option<[usize; 4]> {
     let before = map.bucket_index(rt, &HALF);
     let reserve = map.reserve(rt, 1000)?;
@@ -94,7 +94,8 @@ fn shared_map_removal_gives_back(rt: HostRuntime) -> Result<(), Fail> {
 
 const ROUNDS: u64 = 500;
 
-// Rounds from the first stripe on, or from the second on and round to the first.
+// Steps from entry to entry, starting at `from` and then at `then`, round after round. Returns whether each walk ends
+// within three steps.
 fn walks_round(rt: &impl Wait, map: &Map, from: u64, then: u64) -> bool {
     for _ in 0..ROUNDS {
         for k in [from, then] {

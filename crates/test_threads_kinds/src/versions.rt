@@ -1,4 +1,4 @@
-// Versions of a shared index: snapshots beside threads that publish new ones, and what an empty index hands out.
+// Versions of a shared index: snapshots beside threads that publish new versions, and what an empty index hands out.
 use crate::expect::expect_eq;
 use scc_shared_index::HashIndex;
 use std::process::Abort;
@@ -23,7 +23,7 @@ fn shared_index_missing_key(rt: HostRuntime) -> Result<(), Fail> {
     Ok(())
 }
 
-// Publishes version after version of a key. Both halves of a value are equal.
+// Publishes version after version of a key. Both halves of a value are equal. Returns whether each was published.
 fn publish(rt: &impl Wait, index: &Pairs, k: u64) -> bool {
     for j in 0..ROUNDS {
         match index.get_sync(rt, &k) {
@@ -38,7 +38,7 @@ fn publish(rt: &impl Wait, index: &Pairs, k: u64) -> bool {
     true
 }
 
-// Whether each version of a snapshot is whole, and there are as many as keys.
+// Returns whether each version of a snapshot is whole, and there are as many versions as keys.
 fn is_whole(rt: &impl Wait, index: &Pairs) -> bool {
     let Ok(versions) = index.iter(rt) else {
         return false;

@@ -1,5 +1,5 @@
-// On one stripe a recorded container of each kind answers as a run of the same calls on an owned one does, call by
-// call, has as many buckets at each change, and holds the same in the end.
+// On one stripe a recorded container of each kind replies to each call as an owned container does in a run of equal
+// calls, has as many buckets after each change, and holds the same entries in the end.
 ghost use Rattle.std.specs.Prelude.{◌≡◌, Some};
 ghost use Rattle.scc_recorded.specs.Setups.{request_of};
 
@@ -18,7 +18,7 @@ use std::sync::ledger::{Blank, Ledger};
 use std::sync::{Arc, Wait};
 use std::test::Fail;
 
-// Makes one call on the recorded container, and says whether it was answered as wanted.
+// Makes one call on the recorded container, and returns whether its reply is `wanted`.
 fn answers<C: Streamed, L: Ledger, M: Site<C::Hasher>, R: Wait>(
     rt: &R,
     recorded: &Recorded<C, L, M>,
@@ -43,7 +43,7 @@ fn answers<C: Streamed, L: Ledger, M: Site<C::Hasher>, R: Wait>(
     }
 }
 
-// Whether each call was answered as wanted.
+// Makes all calls, and returns whether each reply is as wanted.
 fn answers_all<C: Streamed, L: Ledger, M: Site<C::Hasher>, R: Wait>(
     rt: &R,
     recorded: &Recorded<C, L, M>,
@@ -58,7 +58,7 @@ fn answers_all<C: Streamed, L: Ledger, M: Site<C::Hasher>, R: Wait>(
     right
 }
 
-// Whether there is a receipt for each call, in their order, with the wanted reply.
+// Returns whether there is a receipt for each call, in the order of the calls, with the wanted reply.
 fn are_receipts<C: Streamed>(
     receipts: &[Receipt<C::Call, C::Reply>],
     calls: &[C::Call],
@@ -74,7 +74,7 @@ fn are_receipts<C: Streamed>(
     right
 }
 
-// Whether the only pass has each call answered and noted as wanted.
+// Makes all calls with the only pass, and returns whether each reply and each receipt is as wanted.
 fn is_answered<C: Streamed, L: Ledger, M: Site<C::Hasher>, R: Wait>(
     rt: &R,
     recorded: &Recorded<C, L, M>,
@@ -91,7 +91,7 @@ fn is_answered<C: Streamed, L: Ledger, M: Site<C::Hasher>, R: Wait>(
     }
 }
 
-// The finished run of the calls on one recorded stripe, if each was answered as wanted.
+// Returns the finished run of `calls` on one recorded stripe, or `None` if a reply or a receipt is not as wanted.
 fn record<C: Streamed, L: Ledger, M: Site<C::Hasher>, R: Wait>(
     rt: &R,
     alloc: Global,
@@ -125,7 +125,7 @@ where
     }
 }
 
-// Whether a history names just these numbers of buckets.
+// Returns whether the resizes of a history have exactly these numbers of buckets.
 fn has_sizes<A, B>(history: &[Step<A, B>], sizes: &[usize]) -> bool {
     let mut met = 0usize;
     let mut right = true;
@@ -138,7 +138,7 @@ fn has_sizes<A, B>(history: &[Step<A, B>], sizes: &[usize]) -> bool {
     right && met == sizes.len()
 }
 
-// Whether two containers answer a call alike.
+// Returns whether two containers reply to `call` alike.
 fn answer_alike<C: Streamed>(one: &mut C, other: &mut C, call: &C::Call) -> bool {
     C::equal_replies();
     match (one.call(C::same_call(call)), other.call(C::same_call(call))) {
@@ -147,7 +147,7 @@ fn answer_alike<C: Streamed>(one: &mut C, other: &mut C, call: &C::Call) -> bool
     }
 }
 
-// Whether two containers have as many buckets, and answer the same calls alike from now on.
+// Returns whether two containers have as many buckets as each other, and reply to the looks alike.
 fn are_alike<C: Streamed>(one: &mut C, other: &mut C) -> bool {
     let mut alike = one.buckets() == other.buckets();
     for number in 0..LOOKS {
@@ -156,7 +156,7 @@ fn are_alike<C: Streamed>(one: &mut C, other: &mut C) -> bool {
     alike && one.buckets() == other.buckets()
 }
 
-// Whether the one part of a finished run is as a container, and had those numbers of buckets.
+// Returns whether the one part of a finished run is as `alone`, and had these numbers of buckets.
 fn is_as<C: Streamed>(finished: Finished<C>, alone: &mut C, sizes: &[usize]) -> bool {
     let mut finished = finished;
     let had = match finished.histories.as_slice() {
@@ -169,7 +169,7 @@ fn is_as<C: Streamed>(finished: Finished<C>, alone: &mut C, sizes: &[usize]) -> 
     }
 }
 
-// The calls made on an owned container, and their replies added to a list.
+// Makes the calls on an owned container, and adds their replies to `replies`. Returns the container.
 fn run_alone<C: Streamed>(
     alloc: Global,
     hasher: C::Hasher,
@@ -191,7 +191,7 @@ where
     }
 }
 
-// Whether a recorded stripe is as a run.
+// Returns whether a recorded stripe is as a run on an owned container.
 fn compare<C: Streamed, R: Wait>(
     rt: &R,
     alloc: Global,
@@ -222,17 +222,17 @@ where
 // What a stream of calls showed.
 #[derive(Clone, Copy, Debug, PartialEq)]
 struct Shown {
-    // Each call came, with keys that are there and with missing ones.
+    // Each call was made with keys that are present and with missing ones.
     all_calls: bool,
     // The array grew.
     growth: bool,
-    // Pairs were driven out.
+    // Pairs were evicted.
     evictions: bool,
     // The recorded container was as the run.
     as_run: bool,
 }
 
-// What these calls show.
+// Returns what `calls` show.
 fn show_calls<C: Streamed, R: Wait>(
     rt: &R,
     alloc: Global,
@@ -252,7 +252,7 @@ where
     })
 }
 
-// What the stream of a kind shows.
+// Returns what the stream of a kind shows.
 fn show<C: Streamed, R: Wait>(rt: &R, alloc: Global, hasher: C::Hasher) -> Result<Shown, AllocError>
 where
     C::Hasher: CloneOwner + Drop,

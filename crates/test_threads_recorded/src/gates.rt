@@ -1,6 +1,6 @@
-// Seventy workers of five turns at a gate that notes what it is called with, and that gives some of them up. To each
-// turn come a call before it, the turn and a call after it, in this order, and nothing comes after a turn that answered
-// false or that the gate gave up. Where both happen, the run is told as given up.
+// Seventy workers of five turns at a gate that notes its calls and gives up some workers. Each turn has a call of the
+// gate before it, the turn itself and a call after it, in this order. Nothing comes after a turn that returned false
+// or that the gate gave up. If both happen in a run, the run reports that a worker was given up.
 use crate::expect::expect_eq;
 use scc_workers::{Gate, RunError, Work, run};
 use std::alloc::{AllocError, Global};
@@ -10,7 +10,7 @@ use std::sync::atomic::{AtomicU64, Ordering};
 use std::test::Fail;
 use std::thread::Threads;
 
-/// More workers than a word has bits.
+/// The number of workers, more than a word has bits.
 const WORKERS: usize = 70;
 
 /// The turns of each worker.
@@ -21,7 +21,7 @@ const NEVER: usize = usize::MAX;
 
 const NOBODY: (usize, usize) = (NEVER, NEVER);
 
-// What came to one turn of one worker, as digits of that base: before the turn, the turn, and after it.
+// The base of the number in which the events at a turn are digits: 1 before the turn, 2 the turn, 3 after it.
 const BASE: u64 = 16;
 
 /// A gate that notes each of its calls at its worker and turn, and gives up two workers at the turns that they name.
@@ -40,7 +40,7 @@ impl Notes {
         Ok(Notes { came, gives_up })
     }
 
-    // Writes one more digit to what came to a turn.
+    // Appends `digit` to the number of a turn.
     fn note(&self, worker: usize, j: usize, digit: u64) {
         let place = worker.wrapping_mul(TURNS).wrapping_add(j);
         if let Some(came) = self.came.get(place) {
@@ -49,7 +49,7 @@ impl Notes {
         }
     }
 
-    // What came to a turn.
+    // Returns the number of a turn.
     fn came_to(&self, worker: usize, j: usize) -> Option<u64> {
         let place = worker.wrapping_mul(TURNS).wrapping_add(j);
         self.came.get(place).map(|came| came.load(Ordering::SeqCst))
@@ -67,7 +67,7 @@ impl Gate for Notes {
     }
 }
 
-/// A worker whose turns note themselves at the gate, and of which one may answer false.
+/// A worker that notes its turns at the gate. One turn may return false.
 #[derive(Drop)]
 struct Noted<'a> {
     gate: &'a Notes,
@@ -86,7 +86,7 @@ impl Work for Noted<'_> {
     }
 }
 
-// As many workers as there are, of which one has a turn that answers false.
+// Returns `WORKERS` workers. The turn of `stops` returns false.
 fn workers_at(
     alloc: Global,
     gate: &Notes,
@@ -100,7 +100,7 @@ fn workers_at(
     Ok(workers)
 }
 
-// The digits that come to a turn, where a worker ends so.
+// Returns the digits of a turn if the gate gives up its workers and the turn of `stops` returns false.
 fn wanted(gate: &Notes, stops: (usize, usize), worker: usize, j: usize) -> u64 {
     let mut digits = 0x123;
     for place in gate.gives_up {
@@ -115,7 +115,7 @@ fn wanted(gate: &Notes, stops: (usize, usize), worker: usize, j: usize) -> u64 {
     }
 }
 
-// Whether just what had to come to the gate came to it.
+// Returns whether exactly the wanted digits came to the gate.
 fn has_noted(gate: &Notes, stops: (usize, usize)) -> bool {
     let mut right = true;
     for worker in 0..WORKERS {
@@ -126,8 +126,8 @@ fn has_noted(gate: &Notes, stops: (usize, usize)) -> bool {
     right
 }
 
-// How a run ends, where the gate gives up two workers and a turn of one answers false, if the gate was called as it had
-// to be.
+// Returns how a run ends if the gate gives up two workers and one turn returns false, or `None` if the gate wasn't
+// called as wanted.
 fn end_of<R: Threads + Wait + Sync>(
     rt: &R,
     alloc: Global,

@@ -1,64 +1,63 @@
-// Streams of calls on which each call of a kind comes, with keys that are there and with keys that are missing, while
-// the container grows, is cleared and grows again.
+// Streams of calls in which each call of a kind is made with keys that are present and with missing keys, while the
+// container grows, is cleared and grows again.
 use scc_calls::Calls;
 use scc_print::printed::Printed;
 use std::alloc::{AllocError, Global};
 
-/// The slots that a cache has at most. Its buckets have 32, of which the keys lie in two.
+/// The greatest number of slots of a cache. Its array then has 4 buckets, and the keys lie in two of them.
 pub const MAXIMUM: usize = 128;
 
-/// The calls of a stream.
+/// The number of calls of a stream.
 const CALLS: u64 = 200;
 
-/// With the first of them new keys come in.
+/// The calls before this place insert new keys.
 const FIRST: u64 = 80;
 
-/// The two calls that clear, the second one where nothing is left, before one that counts.
+/// The place of the first of two calls that clear. The second clears an empty container. A call that counts follows.
 const CLEARING: u64 = 140;
 
-/// New keys come in again up to this one.
+/// The calls after the clearing and before this place insert new keys again.
 const AGAIN: u64 = 175;
 
-/// Half of them.
+/// Half of `FIRST`.
 const HALF: u64 = 40;
 
-/// All keys of the stream.
+/// The number of keys of the stream.
 const KEYS: u64 = 120;
 
-/// What the place of a call is multiplied by for its key.
+/// The factor by which a call's place is multiplied for its key.
 const SPREAD: u64 = 0x9e37_79b9_7f4a_7c15;
 
-/// The calls of the kind that has the most, those without a key among them.
+/// The number of calls of the kind that has most, including those without a key.
 const MOST: usize = 9;
 
 /// A kind of container, by the calls that it has.
 pub trait Streamed: Printed + Drop {
-    /// How many calls with a key it has. They are numbered from 0, then follow the call that counts and the one that
-    /// clears.
+    /// The number of calls with a key. They are numbered from 0. The call that counts and the call that clears follow.
     const KEYED: u64;
 
     /// The number of a call that reads a key.
     const LOOK: u64;
 
-    /// The call of that number. Number 0 brings a key in.
+    /// Returns the call with this number. Call 0 inserts a key.
     fn call_of(number: u64, key: u64, value: u64) -> Self::Call;
 
-    /// The number of a call.
+    /// Returns the number of `call`.
     fn number_of(call: &Self::Call) -> usize;
 
-    /// Whether the key is there; without one, whether any key is there.
+    /// Returns whether `key` is present, or without a key, whether any key is present.
     fn has(&self, key: Option<&Self::Key>) -> bool;
 
-    /// Whether a reply tells of a pair that was driven out.
+    /// Returns whether `reply` tells of an evicted pair.
     fn is_eviction(reply: &Self::Reply) -> bool;
 }
 
-// Even keys lie in the first quarter of all hashes, odd ones in the second.
+// Returns the key of this number. Even keys lie in the first quarter of all hashes, and odd keys in the second.
 fn key_of(number: u64) -> u64 {
     (number % 2) << 62 | number
 }
 
-// The number of the call at a place.
+// Returns the number of the call at place `j`.
 fn number_at<C: Streamed>(j: u64) -> u64 {
     if j < FIRST {
         0
@@ -73,8 +72,8 @@ fn number_at<C: Streamed>(j: u64) -> u64 {
     }
 }
 
-// The number of the key at a place: a new one for a call that brings keys in, and else one that is mostly there or
-// mostly missing, in turns.
+// Returns the number of the key at place `j`: a new key for a call that inserts keys, or else, in turns, a key that is
+// mostly present and one that is mostly missing.
 fn drawn_at<C: Streamed>(j: u64) -> u64 {
     if j < FIRST || CLEARING < j && j < AGAIN {
         return j % FIRST;
@@ -88,7 +87,7 @@ fn drawn_at<C: Streamed>(j: u64) -> u64 {
     }
 }
 
-/// The calls of a stream.
+/// Returns the calls of a stream.
 pub(crate) fn stream<C: Streamed>(alloc: Global) -> Result<Vec<C::Call>, AllocError> {
     let mut calls = Vec::new(alloc);
     for j in 0..CALLS {
@@ -98,11 +97,11 @@ pub(crate) fn stream<C: Streamed>(alloc: Global) -> Result<Vec<C::Call>, AllocEr
     Ok(calls)
 }
 
-/// How many calls show what a container has.
+/// The number of calls that show what a container has.
 pub const LOOKS: u64 = 400;
 
-/// One of the calls that show what a container has and in which order it lets it go: reads of all keys, new ones, and
-/// reads again.
+/// Returns one of the calls that show which keys a container has and in which order it evicts them: reads of all keys,
+/// insertions of new keys, and reads again.
 pub(crate) fn look<C: Streamed>(number: u64) -> C::Call {
     if number < KEYS {
         C::call_of(C::LOOK, key_of(number), 0)
@@ -113,20 +112,20 @@ pub(crate) fn look<C: Streamed>(number: u64) -> C::Call {
     }
 }
 
-/// What came on a stream.
+/// What was seen in a stream.
 #[derive(Drop)]
 pub struct Came {
-    // How often each call came with a missing key and with one that is there, or on an empty container and on one with
-    // keys.
+    // How often each call was made with a missing key and with a present one, or, if it has no key, on an empty
+    // container and on one with keys.
     times: [[u64; 2]; MOST],
-    /// The numbers of buckets, each time that they changed.
+    /// The numbers of buckets, one for each change.
     pub sizes: Vec<usize>,
-    /// How many pairs were driven out.
+    /// The number of evicted pairs.
     pub evictions: u64,
 }
 
 impl Came {
-    /// Whether each of the first calls came with both.
+    /// Returns whether each of the first `calls` calls was made with both.
     pub(crate) fn has_all(&self, calls: u64) -> bool {
         let mut all = true;
         for times in self.times.iter().take(calls as usize) {
@@ -135,7 +134,7 @@ impl Came {
         all
     }
 
-    /// Whether an array grew to twice its buckets.
+    /// Returns whether an array grew to twice its buckets.
     pub(crate) fn has_grown(&self) -> bool {
         let mut last = 0usize;
         let mut grown = false;
@@ -146,7 +145,7 @@ impl Came {
         grown
     }
 
-    // Notes that a call came, where its key is there or not.
+    // Counts a call, by whether its key is present.
     fn note(&mut self, number: usize, there: bool) {
         if let Some(times) = self.times.get_mut(number) {
             let place = usize::from(there);
@@ -155,7 +154,7 @@ impl Came {
     }
 }
 
-// Makes one call, and answers whether a pair was driven out; None where it was refused.
+// Makes one call, and returns whether it evicted a pair, or `None` if it was refused.
 fn make<C: Streamed>(container: &mut C, call: &C::Call) -> Option<bool> {
     C::equal_replies();
     match container.call(C::same_call(call)) {
@@ -164,7 +163,7 @@ fn make<C: Streamed>(container: &mut C, call: &C::Call) -> Option<bool> {
     }
 }
 
-// Makes one call, and notes what came.
+// Makes one call, and notes what is seen.
 fn step<C: Streamed>(container: &mut C, call: &C::Call, came: &mut Came) -> Result<(), AllocError> {
     came.note(C::number_of(call), container.has(C::key(call)));
     let before = container.buckets();
@@ -179,7 +178,7 @@ fn step<C: Streamed>(container: &mut C, call: &C::Call, came: &mut Came) -> Resu
     Ok(())
 }
 
-// Makes the calls one after another, and says what came.
+// Makes the calls one after another, and returns what was seen.
 fn count_on<C: Streamed>(
     alloc: Global,
     container: &mut C,
@@ -196,7 +195,7 @@ fn count_on<C: Streamed>(
     Ok(came)
 }
 
-/// Makes the calls one after another on a container of its own, and says what came.
+/// Makes the calls one after another on a container of its own, and returns what was seen.
 pub(crate) fn count<C: Streamed>(
     alloc: Global,
     hasher: C::Hasher,

@@ -1,4 +1,4 @@
-// Workers that run side by side: each of them meets all others at each of its turns, which they couldn't on one thread.
+// Workers that run at once: each meets all others at each of its turns, which one thread couldn't do.
 use crate::expect::expect_eq;
 use scc_workers::{Open, RunError, Work, run};
 use std::alloc::{AllocError, Global};
@@ -39,7 +39,7 @@ impl Work for Meeting<'_> {
     }
 }
 
-// How a run of such workers ends, and how many turns there were.
+// Returns how a run of such workers ends, and the number of turns.
 fn meet<R: Threads + Wait + Sync>(
     rt: &R,
     alloc: Global,

@@ -2,7 +2,7 @@
 //! search found.
 ghost use Rattle.scc_cache.specs.CacheSteps.{IsAbsent, Puts, TakesAt};
 ghost use Rattle.scc_cache.specs.Caches.{IsCacheState};
-ghost use Rattle.scc_cache.specs.Entries.{Memory, occupied_cache, occupied_pair, entry_guard, IsEntryOf, IsRefreshed, IsPut, rests_if_refused, rests_if_none, replaced_guard, Replaces};
+ghost use Rattle.scc_cache.specs.Entries.{Memory, occupied_cache, occupied_pair, entry_guard, IsEntryOf, IsRefreshed, IsPut, rests_if_refused, rests_if_none, replaced_guard, Replaces, occupied_guard, vacant_guard, vacant_key};
 ghost use Rattle.scc_cache.specs.Relocations.{RelocatesNoneWithin, RelocatesTwoWithin};
 ghost use Rattle.scc_common.specs.Contents.{bucket_count, hash_in};
 ghost use Rattle.std.specs.Borrow.{sem};
@@ -47,7 +47,7 @@ impl<K: Eq + Hash, V, H: BuildHasher> Owned<K, V, H> {
     /// returns `None`, and nothing changes. Allocates nothing. If the bucket of the pair waits, it is relocated first,
     /// and no other bucket is.
     pub fn get_sync(&mut self, k: &K) -> Option<OccupiedEntry<'_, K, V, H>>
-        ensures same_cache { IfSome result (λ o. o.guard.ghost_name ≡ self.entry.ghost_name) }
+        ensures same_cache { IfSome result (λ o. (occupied_guard o).ghost_name ≡ self.entry.ghost_name) }
         ensures entry { IfSome result (IsRefreshed K.eq self.old k.now) }
         ensures missing { IfNone result (IsAbsent (hash_in ⟦<H as Hashes<K>>⟧.hash_of self.old.contents) K.eq
             self.old.contents k.now) }
@@ -137,19 +137,19 @@ impl<'a, N, K: Eq + Hash, V, H: BuildHasher> HeldOccupied<&'a mut Owned<K, V, H>
 impl<'a, K: Eq + Hash, V, H: BuildHasher> HeldVacant<&'a mut Owned<K, V, H>, (), K, V, H> {
     /// Returns the key, and leaves the cache as it is.
     pub fn into_key(self) -> K
-        ensures key { result ≡ self.entry.key }
-        ensures unchanged { self.exit.0.now ≡ self.entry.guard.now }
+        ensures key { result ≡ vacant_key self.entry }
+        ensures unchanged { self.exit.0.now ≡ (vacant_guard self.entry).now }
     {
         self.key
     }
 
     /// Puts in the key with `value`, as `put_entry` does, ends the borrow, and returns the evicted pair, if any.
     pub fn put(self, value: V) -> Result<EvictedEntry<K, V>, InsertError<K, V>>
-        ensures step { Puts (hash_in ⟦<H as Hashes<K>>⟧.hash_of self.entry.guard.now.contents) K.eq
-            self.entry.guard.now (self.entry.key, value) result self.exit.0.now }
+        ensures step { Puts (hash_in ⟦<H as Hashes<K>>⟧.hash_of (vacant_guard self.entry).now.contents) K.eq
+            (vacant_guard self.entry).now (vacant_key self.entry, value) result self.exit.0.now }
         ensures relocates { OnOk result (RelocatesTwoWithin
-            (hash_in ⟦<H as Hashes<K>>⟧.hash_of self.entry.guard.now.contents self.entry.key)
-            self.entry.guard.now.contents self.exit.0.now.contents) }
+            (hash_in ⟦<H as Hashes<K>>⟧.hash_of (vacant_guard self.entry).now.contents (vacant_key self.entry))
+            (vacant_guard self.entry).now.contents self.exit.0.now.contents) }
         ensures state { IsCacheState K.eq (hash_in ⟦<H as Hashes<K>>⟧.hash_of self.exit.0.now.contents)
             self.exit.0.now }
     {
@@ -169,8 +169,8 @@ impl<'a, K: Eq + Hash, V, H: BuildHasher> HeldVacant<&'a mut Owned<K, V, H>, (),
         value: V,
     ) -> Result<(EvictedEntry<K, V>, OccupiedEntry<'a, K, V, H>), InsertError<K, V>>
         ensures put { IfOk result (λ r. IsPut K.eq self.entry value r.0 r.1) }
-        ensures refused { IfErr result (λ e. (e ≡ Memory (self.entry.key, value))
-            × (bucket_count self.entry.guard.now.contents ≡ 0)) }
+        ensures refused { IfErr result (λ e. (e ≡ Memory (vacant_key self.entry, value))
+            × (bucket_count (vacant_guard self.entry).now.contents ≡ 0)) }
         ensures* kept { sem 𝓛 (rests_if_refused K.row V.row H.row H.Hasher.row K.Hash H.BuildHasher H.Hasher.Hasher
             self.entry.guard result) }
     {

@@ -1,5 +1,5 @@
 //! The calls of an entry that keep its guard, alike for all guards.
-ghost use Rattle.scc_cache.specs.Entries.{occupied_pair, occupied_lends, entry_key, IsWritten, with_value, TakesEntry, Modifies};
+ghost use Rattle.scc_cache.specs.Entries.{occupied_pair, occupied_lends, entry_key, IsWritten, with_value, TakesEntry, Modifies, vacant_key};
 ghost use Rattle.std.specs.Borrow.{sem};
 ghost use Rattle.std.specs.Prelude.{◌≡◌};
 
@@ -58,7 +58,7 @@ impl<G: Guard<Inner = Owned<K, V, H>>, N, K: Eq + Hash, V, H: BuildHasher> HeldV
 > {
     /// Returns the key that an insertion would store.
     pub fn key(&self) -> &K
-        ensures { result.now ≡ self.now.key }
+        ensures { result.now ≡ vacant_key self.now }
     {
         &self.key
     }

@@ -1,5 +1,5 @@
 //! The calls of an entry of a locked stripe that release the lock, and those that put in a pair.
-ghost use Rattle.scc_cache.specs.Entries.{Memory, occupied_pair, IsPut};
+ghost use Rattle.scc_cache.specs.Entries.{Memory, occupied_pair, IsPut, vacant_key, vacant_guard};
 ghost use Rattle.scc_common.specs.Contents.{bucket_count};
 ghost use Rattle.std.specs.Prelude.{◌≡◌, IfOk, IfErr};
 ghost use Rattle.std.specs.Sync.RwLock.{write_guard_value};
@@ -52,7 +52,7 @@ impl<'a, K: Eq + Hash, V, H: BuildHasher> HeldVacant<
 > {
     /// Returns the key, and releases the lock.
     pub fn into_key(self) -> K
-        ensures key { result ≡ self.entry.key }
+        ensures key { result ≡ vacant_key self.entry }
     {
         let HeldVacant {
             guard: _,
@@ -72,8 +72,8 @@ impl<'a, K: Eq + Hash, V, H: BuildHasher> HeldVacant<
         value: V,
     ) -> Result<(EvictedEntry<K, V>, OccupiedEntry<'a, K, V, H>), InsertError<K, V>>
         ensures put { IfOk result (λ r. IsPut K.eq self.entry value r.0 r.1) }
-        ensures refused { IfErr result (λ e. (bucket_count (write_guard_value self.entry.guard).contents ≡ 0)
-            × (e ≡ Memory (self.entry.key, value))) }
+        ensures refused { IfErr result (λ e. (bucket_count (write_guard_value (vacant_guard self.entry)).contents ≡ 0)
+            × (e ≡ Memory (vacant_key self.entry, value))) }
     {
         let HeldVacant {
             mut guard,

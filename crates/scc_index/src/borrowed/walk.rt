@@ -3,7 +3,7 @@ ghost use Rattle.scc_common.specs.Contents.{entries, waiting_of};
 ghost use Rattle.scc_common.specs.PairWalks.{PassesAt, PassesNone};
 ghost use Rattle.scc_common.specs.Pairs.{IsUnique};
 ghost use Rattle.scc_common.specs.Walks.{CalledOn, CallableWhile};
-ghost use Rattle.scc_index.specs.Entries.{occupied_index, occupied_pair, occupied_front, occupied_back, rests_if_none};
+ghost use Rattle.scc_index.specs.Entries.{occupied_index, occupied_pair, occupied_front, occupied_back, rests_if_none, occupied_guard};
 ghost use Rattle.scc_index.specs.EntrySteps.{StandsIn, IsNext, IsNextPastRemoved, rests_removed};
 ghost use Rattle.std.specs.Borrow.{sem};
 ghost use Rattle.std.specs.Prelude.{◌≡◌, [], IfSome, IfNone, false};
@@ -17,7 +17,7 @@ use std::marker::PhantomData;
 impl<K: Eq + Hash, V, H: BuildHasher> Owned<K, V, H> {
     /// Returns the first entry of the index's list, or `None` if the index is empty.
     pub fn begin_sync(&mut self) -> Option<OccupiedEntry<'_, K, V, H>>
-        ensures same_index { IfSome result (λ o. o.guard.ghost_name ≡ self.entry.ghost_name) }
+        ensures same_index { IfSome result (λ o. (occupied_guard o).ghost_name ≡ self.entry.ghost_name) }
         ensures first { IfSome result (λ o. StandsIn self.old o × (occupied_front o ≡ [])) }
         ensures empty { IfNone result (entries self.old ≡ []) }
         ensures* kept { sem 𝓛 (rests_if_none K.row V.row H.row H.Hasher.row K.Hash H.BuildHasher H.Hasher.Hasher
@@ -38,7 +38,7 @@ impl<K: Eq + Hash, V, H: BuildHasher> Owned<K, V, H> {
     /// `p` on the pairs in the order of the list until it returns true.
     pub fn any_sync<P: FnMut(&K, &V) -> bool>(&mut self, p: P) -> Option<OccupiedEntry<'_, K, V, H>>
         requires { CallableWhile P.FnMut false p (entries self.old) }
-        ensures same_index { IfSome result (λ o. o.guard.ghost_name ≡ self.entry.ghost_name) }
+        ensures same_index { IfSome result (λ o. (occupied_guard o).ghost_name ≡ self.entry.ghost_name) }
         ensures here { IfSome result (StandsIn self.old) }
         ensures first { IfSome result (λ o. PassesAt (CalledOn P.FnMut) p (occupied_front o) (occupied_pair o)) }
         ensures none { IfNone result (PassesNone (CalledOn P.FnMut) p (entries self.old)) }
@@ -64,7 +64,7 @@ impl<'a, K: Eq + Hash, V, H: BuildHasher> HeldOccupied<&'a mut Owned<K, V, H>, (
         ensures next { IfSome result (IsNext self.entry) }
         ensures last { IfNone result (occupied_back self.entry ≡ []) }
         ensures* kept { sem 𝓛 (rests_if_none K.row V.row H.row H.Hasher.row K.Hash H.BuildHasher H.Hasher.Hasher
-            self.entry.guard result) }
+            (occupied_guard self.entry) result) }
     {
         let HeldOccupied {
             guard,

@@ -1,7 +1,7 @@
 //! The calls of an entry that keep its guard, alike for all guards.
 ghost use Rattle.scc_common.specs.Contents.{waiting_of};
 ghost use Rattle.scc_common.specs.Pairs.{IsUnique};
-ghost use Rattle.scc_index.specs.Entries.{occupied_index, occupied_pair, entry_guard, entry_key, IsUpdated, TakesEntry, Modifies, RefusesModify};
+ghost use Rattle.scc_index.specs.Entries.{occupied_index, occupied_pair, entry_guard, entry_key, IsUpdated, TakesEntry, Modifies, RefusesModify, vacant_key, vacant_guard};
 ghost use Rattle.std.specs.Prelude.{◌≡◌, IfOk, IfErr, OnOk};
 
 use crate::Owned;
@@ -72,14 +72,14 @@ impl<G: Guard<Inner = Owned<K, V, H>>, N, K: Eq + Hash, V, H: BuildHasher> HeldV
 > {
     /// Returns the key that an insertion would store.
     pub fn key(&self) -> &K
-        ensures { result.now ≡ self.now.key }
+        ensures { result.now ≡ vacant_key self.now }
     {
         &self.key
     }
 
     /// Calls `len` of the index for its contract: no two keys are equal.
     pub(crate) fn look_at_index(&self)
-        ensures { IsUnique K.eq (G.inner self.now.guard) }
+        ensures { IsUnique K.eq (G.inner (vacant_guard self.now)) }
     {
         let _ = self.guard.look().len();
     }

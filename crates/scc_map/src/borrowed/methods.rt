@@ -2,7 +2,7 @@
 //! search found.
 ghost use Rattle.scc_common.specs.Contents.{entries, refused_of, waiting_of};
 ghost use Rattle.scc_common.specs.Pairs.{find, IsUnique};
-ghost use Rattle.scc_map.specs.Entries.{entry_guard, InsertsAtVacant, IsOccupiedAt, IsEntryOf, rests_if_refused, rests_if_none, replaced_guard, Replaces};
+ghost use Rattle.scc_map.specs.Entries.{entry_guard, InsertsAtVacant, IsOccupiedAt, IsEntryOf, rests_if_refused, rests_if_none, replaced_guard, Replaces, occupied_guard, vacant_guard, vacant_key};
 ghost use Rattle.scc_map.specs.EntrySteps.{RemovesEntryByRule, RemovesValueByRule};
 ghost use Rattle.std.specs.Borrow.{sem};
 ghost use Rattle.std.specs.Prelude.{◌≡◌, None, IfSome, IfNone};
@@ -44,7 +44,7 @@ impl<K: Eq + Hash, V, H: BuildHasher> Owned<K, V, H> {
 
     /// Returns the occupied entry of `k`, or `None` if no key equals `k`.
     pub fn get_sync(&mut self, k: &K) -> Option<OccupiedEntry<'_, K, V, H>>
-        ensures same_map { IfSome result (λ o. o.guard.ghost_name ≡ self.entry.ghost_name) }
+        ensures same_map { IfSome result (λ o. (occupied_guard o).ghost_name ≡ self.entry.ghost_name) }
         ensures entry { IfSome result (IsOccupiedAt K.eq self.old k.now) }
         ensures unique { IsUnique K.eq self.old }
         ensures missing { IfNone result (find K.eq (entries self.old) k.now ≡ None) }
@@ -123,8 +123,8 @@ impl<'a, N, K: Eq + Hash, V, H: BuildHasher> HeldOccupied<&'a mut Owned<K, V, H>
 impl<'a, K: Eq + Hash, V, H: BuildHasher> HeldVacant<&'a mut Owned<K, V, H>, (), K, V, H> {
     /// Returns the key, and leaves the map as it is.
     pub fn into_key(self) -> K
-        ensures key { result ≡ self.entry.key }
-        ensures unchanged { self.exit.0.now ≡ self.entry.guard.now }
+        ensures key { result ≡ vacant_key self.entry }
+        ensures unchanged { self.exit.0.now ≡ (vacant_guard self.entry).now }
     {
         self.key
     }
@@ -133,7 +133,7 @@ impl<'a, K: Eq + Hash, V, H: BuildHasher> HeldVacant<&'a mut Owned<K, V, H>, (),
     pub fn insert_entry(self, value: V) -> Result<OccupiedEntry<'a, K, V, H>, InsertError<K, V>>
         ensures inserts { InsertsAtVacant K.eq ⟦<H as Hashes<K>>⟧.hash_of self.entry value result }
         ensures* kept { sem 𝓛 (rests_if_refused K.row V.row H.row H.Hasher.row K.Hash H.BuildHasher H.Hasher.Hasher
-            self.entry.guard self.entry.key result) }
+            (vacant_guard self.entry) (vacant_key self.entry) result) }
     {
         let HeldVacant {
             guard,

@@ -2,7 +2,7 @@
 ghost use Rattle.scc_common.specs.Contents.{entries};
 ghost use Rattle.scc_common.specs.PairWalks.{PassesAt, PassesNone};
 ghost use Rattle.scc_common.specs.Walks.{CalledOn, CallableWhile};
-ghost use Rattle.scc_map.specs.Entries.{occupied_pair, occupied_front, occupied_back, rests_if_none};
+ghost use Rattle.scc_map.specs.Entries.{occupied_pair, occupied_front, occupied_back, rests_if_none, occupied_guard};
 ghost use Rattle.scc_map.specs.EntrySteps.{StandsIn, IsNext, RemovesWithNext, rests_removed};
 ghost use Rattle.std.specs.Borrow.{sem};
 ghost use Rattle.std.specs.Prelude.{◌≡◌, [], IfSome, IfNone, false};
@@ -16,7 +16,7 @@ use std::marker::PhantomData;
 impl<K: Eq + Hash, V, H: BuildHasher> Owned<K, V, H> {
     /// Returns the first entry of the map's list, or `None` if the map is empty.
     pub fn begin_sync(&mut self) -> Option<OccupiedEntry<'_, K, V, H>>
-        ensures same_map { IfSome result (λ o. o.guard.ghost_name ≡ self.entry.ghost_name) }
+        ensures same_map { IfSome result (λ o. (occupied_guard o).ghost_name ≡ self.entry.ghost_name) }
         ensures first { IfSome result (λ o. StandsIn self.old o × (occupied_front o ≡ [])) }
         ensures empty { IfNone result (entries self.old ≡ []) }
         ensures* kept { sem 𝓛 (rests_if_none K.row V.row H.row H.Hasher.row K.Hash H.BuildHasher H.Hasher.Hasher
@@ -37,7 +37,7 @@ impl<K: Eq + Hash, V, H: BuildHasher> Owned<K, V, H> {
     /// on the pairs in the order of the list until it returns true.
     pub fn any_sync<P: FnMut(&K, &V) -> bool>(&mut self, p: P) -> Option<OccupiedEntry<'_, K, V, H>>
         requires { CallableWhile P.FnMut false p (entries self.old) }
-        ensures same_map { IfSome result (λ o. o.guard.ghost_name ≡ self.entry.ghost_name) }
+        ensures same_map { IfSome result (λ o. (occupied_guard o).ghost_name ≡ self.entry.ghost_name) }
         ensures here { IfSome result (StandsIn self.old) }
         ensures first { IfSome result (λ o. PassesAt (CalledOn P.FnMut) p (occupied_front o) (occupied_pair o)) }
         ensures none { IfNone result (PassesNone (CalledOn P.FnMut) p (entries self.old)) }
@@ -63,7 +63,7 @@ impl<'a, K: Eq + Hash, V, H: BuildHasher> HeldOccupied<&'a mut Owned<K, V, H>, (
         ensures next { IfSome result (IsNext self.entry) }
         ensures last { IfNone result (occupied_back self.entry ≡ []) }
         ensures* kept { sem 𝓛 (rests_if_none K.row V.row H.row H.Hasher.row K.Hash H.BuildHasher H.Hasher.Hasher
-            self.entry.guard result) }
+            (occupied_guard self.entry) result) }
     {
         let HeldOccupied {
             guard,

@@ -1,7 +1,7 @@
 //! The calls of an entry that keep its guard, alike for all guards.
 ghost use Rattle.scc_common.specs.Contents.{waiting_of};
 ghost use Rattle.scc_common.specs.Pairs.{IsUnique};
-ghost use Rattle.scc_map.specs.Entries.{occupied_map, occupied_pair, occupied_lends, entry_guard, entry_key, IsWritten, with_value, TakesEntry, Modifies};
+ghost use Rattle.scc_map.specs.Entries.{occupied_map, occupied_pair, occupied_lends, entry_guard, entry_key, IsWritten, with_value, TakesEntry, Modifies, vacant_key, vacant_guard};
 ghost use Rattle.std.specs.Borrow.{sem};
 ghost use Rattle.std.specs.Prelude.{◌≡◌};
 
@@ -70,14 +70,14 @@ impl<G: Guard<Inner = Owned<K, V, H>>, N, K: Eq + Hash, V, H: BuildHasher> HeldV
 > {
     /// Returns the key that an insertion would store.
     pub fn key(&self) -> &K
-        ensures { result.now ≡ self.now.key }
+        ensures { result.now ≡ vacant_key self.now }
     {
         &self.key
     }
 
     /// Calls `len` of the map for its contract: no two keys are equal.
     pub(crate) fn look_at_map(&self)
-        ensures { IsUnique K.eq (G.inner self.now.guard) }
+        ensures { IsUnique K.eq (G.inner (vacant_guard self.now)) }
     {
         let _ = self.guard.look().len();
     }

@@ -1,5 +1,5 @@
 //! The calls of an entry of a locked stripe that release the lock, and those that insert.
-ghost use Rattle.scc_map.specs.Entries.{occupied_pair, InsertsAtVacant};
+ghost use Rattle.scc_map.specs.Entries.{occupied_pair, InsertsAtVacant, vacant_key};
 ghost use Rattle.std.specs.Prelude.{◌≡◌};
 
 use crate::Owned;
@@ -53,7 +53,7 @@ impl<'a, K: Eq + Hash, V, H: BuildHasher> HeldVacant<
 > {
     /// Returns the key, and releases the lock.
     pub fn into_key(self) -> K
-        ensures key { result ≡ self.entry.key }
+        ensures key { result ≡ vacant_key self.entry }
     {
         let HeldVacant {
             guard: _,

@@ -1,4 +1,4 @@
-//! The cache for one owner, as drivers see it.
+//! `Form` for the owned cache.
 
 use crate::answers::{Answer, Kind, Rule, raise_and_keep, refused, verdict};
 use crate::form::{Act, At, Form, Sizes, Way};
@@ -9,7 +9,7 @@ use scc_common::InsertError;
 use std::alloc::Global;
 use std::hash::{BuildHasher, Hash};
 
-/// What an entry answers that puts a pair: what that drove out, and the entry of the pair.
+/// The result of a put through an entry: the evicted pair, if any, and the entry of the new pair.
 type Placed<'a, K, V, H> = Result<
     (EvictedEntry<K, V>, OccupiedEntry<'a, K, V, H>),
     InsertError<K, V>,
@@ -32,7 +32,7 @@ fn enter<'a, K: Eq + Hash + Drop + Numbered, V: Default + Drop + Numbered, H: Bu
     }
 }
 
-// What a way answers that lends an entry.
+// Returns the answer for a way that returns an entry.
 fn entered<K: Eq + Hash + Drop + Numbered, V: Default + Drop + Numbered, H: BuildHasher + Drop>(
     cache: &mut Owned<K, V, H>,
     way: Way,
@@ -68,7 +68,7 @@ fn fill<K: Eq + Hash + Drop + Numbered, V: Drop + Numbered, H: BuildHasher + Dro
     }
 }
 
-// Puts the key in the place of its equal, or puts the pair.
+// Replaces an equal key by `key`, or puts the pair.
 fn replace_or_fill<K: Eq + Hash + Drop + Numbered, V: Drop + Numbered, H: BuildHasher + Drop>(
     cache: &mut Owned<K, V, H>,
     key: K,
@@ -90,7 +90,7 @@ fn replace_or_fill<K: Eq + Hash + Drop + Numbered, V: Drop + Numbered, H: BuildH
     }
 }
 
-// Does that with the entry of the key, and keeps its pair.
+// Does `act` with the entry of the key, and keeps its pair.
 fn act_and_keep<K: Eq + Hash + Drop + Numbered, V: Drop + Numbered, H: BuildHasher + Drop>(
     cache: &mut Owned<K, V, H>,
     act: Act,
@@ -110,7 +110,7 @@ fn act_and_keep<K: Eq + Hash + Drop + Numbered, V: Drop + Numbered, H: BuildHash
     }
 }
 
-// Takes the pair of the entry out.
+// Removes the pair of the entry.
 fn act_and_remove<K: Eq + Hash + Drop + Numbered, V: Drop + Numbered, H: BuildHasher + Drop>(
     cache: &mut Owned<K, V, H>,
     act: Act,

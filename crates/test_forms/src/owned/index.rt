@@ -1,4 +1,4 @@
-//! The index for one owner, as drivers see it.
+//! `Form` for the owned index.
 
 use crate::answers::{Answer, Kind, refused};
 use crate::form::{Act, At, Form, Sizes, Way};
@@ -24,7 +24,7 @@ fn enter<'a, K: Eq + Hash + Drop + Numbered, V: Default + Drop + Numbered, H: Bu
     }
 }
 
-// What a way answers that lends an entry.
+// Returns the answer for a way that returns an entry.
 fn entered<K: Eq + Hash + Drop + Numbered, V: Default + Drop + Numbered, H: BuildHasher + Drop>(
     index: &mut Owned<K, V, H>,
     way: Way,
@@ -52,7 +52,7 @@ fn fill<K: Eq + Hash + Drop + Numbered, V: Drop + Numbered, H: BuildHasher + Dro
     }
 }
 
-// The occupied entry that is asked for.
+// Returns the occupied entry that `at` names.
 fn find<'a, K: Eq + Hash + Drop + Numbered, V: Drop + Numbered, H: BuildHasher + Drop>(
     index: &'a mut Owned<K, V, H>,
     at: At,
@@ -66,7 +66,7 @@ fn find<'a, K: Eq + Hash + Drop + Numbered, V: Drop + Numbered, H: BuildHasher +
     }
 }
 
-// Looks at the entry that is asked for, or takes its pair out.
+// Reads the entry that `at` names, or removes its pair.
 fn act_and_end<K: Eq + Hash + Drop + Numbered, V: Drop + Numbered, H: BuildHasher + Drop>(
     index: &mut Owned<K, V, H>,
     at: At,
@@ -101,7 +101,7 @@ fn act_and_set<K: Eq + Hash + Clone + Drop + Numbered, V: Drop + Numbered, H: Bu
     }
 }
 
-// Goes on to the next entry.
+// Steps to the next entry.
 fn act_and_step<K: Eq + Hash + Drop + Numbered, V: Drop + Numbered, H: BuildHasher + Drop>(
     index: &mut Owned<K, V, H>,
     at: At,
@@ -116,7 +116,7 @@ fn act_and_step<K: Eq + Hash + Drop + Numbered, V: Drop + Numbered, H: BuildHash
     }
 }
 
-// Takes the pair of the entry out, and goes on to the next entry.
+// Removes the pair of the entry, and steps to the next entry.
 fn act_and_go_on<K: Eq + Hash + Drop + Numbered, V: Drop + Numbered, H: BuildHasher + Drop>(
     index: &mut Owned<K, V, H>,
     at: At,

@@ -1,4 +1,4 @@
-//! The map for one owner, as drivers see it.
+//! `Form` for the owned map.
 
 use crate::answers::{Answer, Kind, Rule, raise_and_keep, refused, verdict};
 use crate::form::{Act, At, Form, Sizes, Way};
@@ -28,7 +28,7 @@ fn enter<'a, K: Eq + Hash + Drop + Numbered, V: Default + Drop + Numbered, H: Bu
     }
 }
 
-// What a way answers that lends an entry.
+// Returns the answer for a way that returns an entry.
 fn entered<K: Eq + Hash + Drop + Numbered, V: Default + Drop + Numbered, H: BuildHasher + Drop>(
     map: &mut Owned<K, V, H>,
     way: Way,
@@ -56,7 +56,7 @@ fn fill<K: Eq + Hash + Drop + Numbered, V: Drop + Numbered, H: BuildHasher + Dro
     }
 }
 
-// Puts the key in the place of its equal, or adds the pair.
+// Replaces an equal key by `key`, or adds the pair.
 fn replace_or_fill<K: Eq + Hash + Drop + Numbered, V: Drop + Numbered, H: BuildHasher + Drop>(
     map: &mut Owned<K, V, H>,
     key: K,
@@ -74,7 +74,7 @@ fn replace_or_fill<K: Eq + Hash + Drop + Numbered, V: Drop + Numbered, H: BuildH
     }
 }
 
-// The occupied entry that is asked for.
+// Returns the occupied entry that `at` names.
 fn find<'a, K: Eq + Hash + Drop + Numbered, V: Drop + Numbered, H: BuildHasher + Drop>(
     map: &'a mut Owned<K, V, H>,
     at: At,
@@ -88,7 +88,7 @@ fn find<'a, K: Eq + Hash + Drop + Numbered, V: Drop + Numbered, H: BuildHasher +
     }
 }
 
-// Does that with the entry that is asked for, and keeps its pair.
+// Does `act` with the entry that `at` names, and keeps its pair.
 fn act_and_keep<K: Eq + Hash + Drop + Numbered, V: Drop + Numbered, H: BuildHasher + Drop>(
     map: &mut Owned<K, V, H>,
     at: At,
@@ -109,7 +109,7 @@ fn act_and_keep<K: Eq + Hash + Drop + Numbered, V: Drop + Numbered, H: BuildHash
     }
 }
 
-// Takes the pair of the entry out.
+// Removes the pair of the entry.
 fn act_and_remove<K: Eq + Hash + Drop + Numbered, V: Drop + Numbered, H: BuildHasher + Drop>(
     map: &mut Owned<K, V, H>,
     at: At,
@@ -125,7 +125,7 @@ fn act_and_remove<K: Eq + Hash + Drop + Numbered, V: Drop + Numbered, H: BuildHa
     }
 }
 
-// Goes on to the next entry.
+// Steps to the next entry.
 fn act_and_step<K: Eq + Hash + Drop + Numbered, V: Drop + Numbered, H: BuildHasher + Drop>(
     map: &mut Owned<K, V, H>,
     at: At,
@@ -140,7 +140,7 @@ fn act_and_step<K: Eq + Hash + Drop + Numbered, V: Drop + Numbered, H: BuildHash
     }
 }
 
-// Takes the pair of the entry out, and goes on to the next entry.
+// Removes the pair of the entry, and steps to the next entry.
 fn act_and_go_on<K: Eq + Hash + Drop + Numbered, V: Drop + Numbered, H: BuildHasher + Drop>(
     map: &mut Owned<K, V, H>,
     at: At,

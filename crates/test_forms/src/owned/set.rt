@@ -1,4 +1,4 @@
-//! The set for one owner, as drivers see it.
+//! `Form` for the owned set.
 
 use crate::answers::{Answer, Kind, Rule, key_verdict, refused_key};
 use crate::form::{Act, At, Form, Sizes, Way};
@@ -8,7 +8,7 @@ use scc_set::entry::OccupiedEntry;
 use std::alloc::Global;
 use std::hash::{BuildHasher, Hash};
 
-// The entry that is asked for: the first one with the key's number, or the first one of all.
+// Returns the occupied entry that `at` names: the first whose key has the key's number, or the first of all.
 fn find<'a, K: Eq + Hash + Drop + Numbered, H: BuildHasher + Drop>(
     set: &'a mut Owned<K, H>,
     at: At,
@@ -21,7 +21,7 @@ fn find<'a, K: Eq + Hash + Drop + Numbered, H: BuildHasher + Drop>(
     }
 }
 
-// Looks at the entry that is asked for, or takes its key out.
+// Reads the entry that `at` names, or removes its key.
 fn act_and_end<K: Eq + Hash + Drop + Numbered, H: BuildHasher + Drop>(
     set: &mut Owned<K, H>,
     at: At,
@@ -37,7 +37,7 @@ fn act_and_end<K: Eq + Hash + Drop + Numbered, H: BuildHasher + Drop>(
     }
 }
 
-// Goes on to the next entry.
+// Steps to the next entry.
 fn act_and_step<K: Eq + Hash + Drop + Numbered, H: BuildHasher + Drop>(
     set: &mut Owned<K, H>,
     at: At,
@@ -52,7 +52,7 @@ fn act_and_step<K: Eq + Hash + Drop + Numbered, H: BuildHasher + Drop>(
     }
 }
 
-// Takes the key of the entry out, and goes on to the next entry.
+// Removes the key of the entry, and steps to the next entry.
 fn act_and_go_on<K: Eq + Hash + Drop + Numbered, H: BuildHasher + Drop>(
     set: &mut Owned<K, H>,
     at: At,

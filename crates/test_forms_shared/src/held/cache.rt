@@ -1,4 +1,4 @@
-//! The cache that threads share, as drivers see it.
+//! `Form` for the shared cache.
 
 use crate::held::Held;
 use scc_cache::EvictedEntry;
@@ -12,7 +12,7 @@ use test_forms::answers::{Answer, Kind, Rule, raise_and_keep, refused, verdict};
 use test_forms::form::{Act, At, Form, Sizes, Way};
 use test_forms::numbered::{Numbered, Seen, note_pairs, raise_to_even, seen, seen_pair, value_of};
 
-// What a way answers that lends an entry.
+// Returns the answer for a way that returns an entry.
 fn entered<K: Eq + Hash + Drop + Numbered, V: Drop + Numbered, H: BuildHasher>(
     answer: Result<(EvictedEntry<K, V>, OccupiedEntry<'_, K, V, H>), InsertError<K, V>>,
 ) -> Answer {
@@ -59,7 +59,7 @@ fn fill<K: Eq + Hash + Drop + Numbered, V: Drop + Numbered, H: BuildHasher>(
     }
 }
 
-// Puts the key in the place of its equal. A missing key gets the value, if there is one.
+// Replaces an equal key by `key`. A missing key gets `value`, if there is one.
 fn swap<K: Eq + Hash + Drop + Numbered, V: Drop + Numbered, H: BuildHasher>(
     rt: &impl Wait,
     cache: &HashCache<K, V, H>,
@@ -78,7 +78,7 @@ fn swap<K: Eq + Hash + Drop + Numbered, V: Drop + Numbered, H: BuildHasher>(
     }
 }
 
-// Sets the value of an entry that is there.
+// Sets the value of the key's entry, if the key is there.
 fn modify_in<K: Eq + Hash + Drop + Numbered, V: Drop + Numbered, H: BuildHasher>(
     rt: &impl Wait,
     cache: &HashCache<K, V, H>,
@@ -100,7 +100,7 @@ fn modify_in<K: Eq + Hash + Drop + Numbered, V: Drop + Numbered, H: BuildHasher>
     }
 }
 
-// Looks at an entry, once its value is written if that is to be.
+// Writes the value of an entry if `written` is a number, and reads the entry.
 fn look<K: Eq + Hash + Drop + Numbered, V: Drop + Numbered, H: BuildHasher>(
     entry: OccupiedEntry<'_, K, V, H>,
     written: Option<u64>,
@@ -122,7 +122,7 @@ fn set<K: Eq + Hash + Drop + Numbered, V: Drop + Numbered, H: BuildHasher>(
     Answer::Old(Some(entry.put(value).number()))
 }
 
-// Does that with an entry.
+// Does `act` with an entry.
 fn act_on<K: Eq + Hash + Drop + Numbered, V: Drop + Numbered, H: BuildHasher>(
     entry: OccupiedEntry<'_, K, V, H>,
     act: Act,
@@ -137,7 +137,7 @@ fn act_on<K: Eq + Hash + Drop + Numbered, V: Drop + Numbered, H: BuildHasher>(
     }
 }
 
-// Does that with the entry of the key.
+// Does `act` with the entry of the key.
 fn act_in<K: Eq + Hash + Drop + Numbered, V: Drop + Numbered, H: BuildHasher>(
     rt: &impl Wait,
     cache: &HashCache<K, V, H>,

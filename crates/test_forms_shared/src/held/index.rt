@@ -1,4 +1,4 @@
-//! The index that threads share, as drivers see it.
+//! `Form` for the shared index.
 
 use crate::held::{Held, walked};
 use scc_common::InsertError;
@@ -10,7 +10,7 @@ use test_forms::answers::{Answer, Kind, refused};
 use test_forms::form::{Act, At, Form, Sizes, Way};
 use test_forms::numbered::{Numbered, Seen, keeps, seen, value_of};
 
-// What a way answers that lends an entry.
+// Returns the answer for a way that returns an entry.
 fn entered<K: Eq + Hash + Drop + Numbered, V: Drop + Numbered, H: BuildHasher>(
     answer: Result<OccupiedEntry<'_, K, V, H>, InsertError<K, V>>,
 ) -> Answer {
@@ -56,7 +56,7 @@ fn fill<K: Eq + Hash + Drop + Numbered, V: Drop + Numbered, H: BuildHasher>(
     }
 }
 
-// Sets the value of an entry that is there.
+// Sets the value of the key's entry, if the key is there.
 fn modify_in<K: Eq + Hash + Clone + Drop + Numbered, V: Drop + Numbered, H: BuildHasher>(
     rt: &impl Wait,
     index: &HashIndex<K, V, H>,
@@ -79,7 +79,7 @@ fn modify_in<K: Eq + Hash + Clone + Drop + Numbered, V: Drop + Numbered, H: Buil
     }
 }
 
-// The pair of an entry, if there is one.
+// Returns the pair of an entry, if there is one.
 fn shown<K: Eq + Hash + Drop + Numbered, V: Drop + Numbered, H: BuildHasher>(
     entry: Option<OccupiedEntry<'_, K, V, H>>,
 ) -> Option<Seen> {
@@ -92,7 +92,7 @@ fn shown<K: Eq + Hash + Drop + Numbered, V: Drop + Numbered, H: BuildHasher>(
     }
 }
 
-// Looks at an entry.
+// Reads an entry.
 fn look<K: Eq + Hash + Drop + Numbered, V: Drop + Numbered, H: BuildHasher>(
     entry: OccupiedEntry<'_, K, V, H>,
 ) -> Answer {
@@ -115,7 +115,7 @@ fn set<K: Eq + Hash + Clone + Drop + Numbered, V: Drop + Numbered, H: BuildHashe
     }
 }
 
-// Takes the pair of an entry out, and goes on to the next entry.
+// Removes the pair of an entry, and steps to the next entry.
 fn go_on<K: Eq + Hash + Drop + Numbered, V: Drop + Numbered, H: BuildHasher>(
     rt: &impl Wait,
     entry: OccupiedEntry<'_, K, V, H>,
@@ -124,7 +124,7 @@ fn go_on<K: Eq + Hash + Drop + Numbered, V: Drop + Numbered, H: BuildHasher>(
     Answer::Gone(gone, shown(entry.remove_and_sync(rt)))
 }
 
-// Does that with an entry.
+// Does `act` with an entry.
 fn act_on<K: Eq + Hash + Drop + Numbered, V: Drop + Numbered, H: BuildHasher>(
     rt: &impl Wait,
     entry: OccupiedEntry<'_, K, V, H>,
@@ -142,7 +142,7 @@ fn act_on<K: Eq + Hash + Drop + Numbered, V: Drop + Numbered, H: BuildHasher>(
     }
 }
 
-// Does that with the entry that is asked for.
+// Does `act` with the entry that `at` names.
 fn act_in<K: Eq + Hash + Clone + Drop + Numbered, V: Drop + Numbered, H: BuildHasher>(
     rt: &impl Wait,
     index: &HashIndex<K, V, H>,
@@ -166,7 +166,7 @@ fn act_in<K: Eq + Hash + Clone + Drop + Numbered, V: Drop + Numbered, H: BuildHa
     }
 }
 
-// Goes from entry to entry.
+// Steps from entry to entry.
 fn step_in<K: Eq + Hash + Drop + Numbered, V: Drop + Numbered, H: BuildHasher>(
     rt: &impl Wait,
     index: &HashIndex<K, V, H>,
@@ -185,7 +185,7 @@ fn step_in<K: Eq + Hash + Drop + Numbered, V: Drop + Numbered, H: BuildHasher>(
     walked(had_room)
 }
 
-// Takes pairs out and goes from entry to entry.
+// Removes pairs by steps from entry to entry.
 fn drain_in<K: Eq + Hash + Drop + Numbered, V: Drop + Numbered, H: BuildHasher>(
     rt: &impl Wait,
     index: &HashIndex<K, V, H>,
@@ -204,7 +204,7 @@ fn drain_in<K: Eq + Hash + Drop + Numbered, V: Drop + Numbered, H: BuildHasher>(
     walked(had_room)
 }
 
-// Reserves so many slots and gives them back.
+// Reserves `slots` slots and releases them.
 fn reserve_in<K: Eq + Hash + Drop, V: Drop, H: BuildHasher>(
     rt: &impl Wait,
     index: &HashIndex<K, V, H>,

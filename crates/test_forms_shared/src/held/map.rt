@@ -1,4 +1,4 @@
-//! The map that threads share, as drivers see it.
+//! `Form` for the shared map.
 
 use crate::held::{Held, walked};
 use scc_common::InsertError;
@@ -11,7 +11,7 @@ use test_forms::answers::{Answer, Kind, Rule, raise_and_keep, refused, verdict};
 use test_forms::form::{Act, At, Form, Sizes, Way};
 use test_forms::numbered::{Numbered, Seen, note_pairs, raise_to_even, seen, seen_pair, value_of};
 
-// What a way answers that lends an entry.
+// Returns the answer for a way that returns an entry.
 fn entered<K: Eq + Hash + Drop + Numbered, V: Drop + Numbered, H: BuildHasher>(
     answer: Result<OccupiedEntry<'_, K, V, H>, InsertError<K, V>>,
 ) -> Answer {
@@ -58,7 +58,7 @@ fn fill<K: Eq + Hash + Drop + Numbered, V: Drop + Numbered, H: BuildHasher>(
     }
 }
 
-// Puts the key in the place of its equal. A missing key gets the value, if there is one.
+// Replaces an equal key by `key`. A missing key gets `value`, if there is one.
 fn swap<K: Eq + Hash + Drop + Numbered, V: Drop + Numbered, H: BuildHasher>(
     rt: &impl Wait,
     map: &HashMap<K, V, H>,
@@ -77,7 +77,7 @@ fn swap<K: Eq + Hash + Drop + Numbered, V: Drop + Numbered, H: BuildHasher>(
     }
 }
 
-// Sets the value of an entry that is there.
+// Sets the value of the key's entry, if the key is there.
 fn modify_in<K: Eq + Hash + Drop + Numbered, V: Drop + Numbered, H: BuildHasher>(
     rt: &impl Wait,
     map: &HashMap<K, V, H>,
@@ -96,7 +96,7 @@ fn modify_in<K: Eq + Hash + Drop + Numbered, V: Drop + Numbered, H: BuildHasher>
     }
 }
 
-// The pair of an entry, if there is one.
+// Returns the pair of an entry, if there is one.
 fn shown<K: Eq + Hash + Drop + Numbered, V: Drop + Numbered, H: BuildHasher>(
     entry: Option<OccupiedEntry<'_, K, V, H>>,
 ) -> Option<Seen> {
@@ -109,7 +109,7 @@ fn shown<K: Eq + Hash + Drop + Numbered, V: Drop + Numbered, H: BuildHasher>(
     }
 }
 
-// Looks at an entry, once its value is written if that is to be.
+// Writes the value of an entry if `written` is a number, and reads the entry.
 fn look<K: Eq + Hash + Drop + Numbered, V: Drop + Numbered, H: BuildHasher>(
     entry: OccupiedEntry<'_, K, V, H>,
     written: Option<u64>,
@@ -131,7 +131,7 @@ fn set<K: Eq + Hash + Drop + Numbered, V: Drop + Numbered, H: BuildHasher>(
     Answer::Old(Some(entry.insert(value).number()))
 }
 
-// Takes the pair of an entry out, and goes on to the next entry.
+// Removes the pair of an entry, and steps to the next entry.
 fn go_on<K: Eq + Hash + Drop + Numbered, V: Drop + Numbered, H: BuildHasher>(
     rt: &impl Wait,
     entry: OccupiedEntry<'_, K, V, H>,
@@ -141,7 +141,7 @@ fn go_on<K: Eq + Hash + Drop + Numbered, V: Drop + Numbered, H: BuildHasher>(
     Answer::Gone(gone, shown(next))
 }
 
-// Does that with an entry.
+// Does `act` with an entry.
 fn act_on<K: Eq + Hash + Drop + Numbered, V: Drop + Numbered, H: BuildHasher>(
     rt: &impl Wait,
     entry: OccupiedEntry<'_, K, V, H>,
@@ -158,7 +158,7 @@ fn act_on<K: Eq + Hash + Drop + Numbered, V: Drop + Numbered, H: BuildHasher>(
     }
 }
 
-// Does that with the entry that is asked for.
+// Does `act` with the entry that `at` names.
 fn act_in<K: Eq + Hash + Drop + Numbered, V: Drop + Numbered, H: BuildHasher>(
     rt: &impl Wait,
     map: &HashMap<K, V, H>,
@@ -182,7 +182,7 @@ fn act_in<K: Eq + Hash + Drop + Numbered, V: Drop + Numbered, H: BuildHasher>(
     }
 }
 
-// Goes from entry to entry.
+// Steps from entry to entry.
 fn step_in<K: Eq + Hash + Drop + Numbered, V: Drop + Numbered, H: BuildHasher>(
     rt: &impl Wait,
     map: &HashMap<K, V, H>,
@@ -201,7 +201,7 @@ fn step_in<K: Eq + Hash + Drop + Numbered, V: Drop + Numbered, H: BuildHasher>(
     walked(had_room)
 }
 
-// Takes pairs out and goes from entry to entry.
+// Removes pairs by steps from entry to entry.
 fn drain_in<K: Eq + Hash + Drop + Numbered, V: Drop + Numbered, H: BuildHasher>(
     rt: &impl Wait,
     map: &HashMap<K, V, H>,
@@ -221,7 +221,7 @@ fn drain_in<K: Eq + Hash + Drop + Numbered, V: Drop + Numbered, H: BuildHasher>(
     walked(had_room)
 }
 
-// Reserves so many slots and gives them back.
+// Reserves `slots` slots and releases them.
 fn reserve_in<K: Eq + Hash + Drop, V: Drop, H: BuildHasher>(
     rt: &impl Wait,
     map: &HashMap<K, V, H>,

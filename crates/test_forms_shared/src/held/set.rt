@@ -1,4 +1,4 @@
-//! The set that threads share, as drivers see it.
+//! `Form` for the shared set.
 
 use crate::held::{Held, walked};
 use scc_shared_set::{HashSet, OccupiedEntry};
@@ -9,7 +9,7 @@ use test_forms::answers::{Answer, Kind, Rule, key_verdict, refused_key};
 use test_forms::form::{Act, At, Form, Sizes, Way};
 use test_forms::numbered::{Numbered, Seen, keeps, note_keys, seen_key};
 
-// The key of an entry, if there is one.
+// Returns the key of an entry, if there is one.
 fn shown<K: Eq + Hash + Drop + Numbered, H: BuildHasher>(
     entry: Option<OccupiedEntry<'_, K, H>>,
 ) -> Option<Seen> {
@@ -22,7 +22,7 @@ fn shown<K: Eq + Hash + Drop + Numbered, H: BuildHasher>(
     }
 }
 
-// Does that with an entry.
+// Does `act` with an entry.
 fn act_on<K: Eq + Hash + Drop + Numbered, H: BuildHasher>(
     rt: &impl Wait,
     entry: OccupiedEntry<'_, K, H>,
@@ -43,7 +43,7 @@ fn act_on<K: Eq + Hash + Drop + Numbered, H: BuildHasher>(
     }
 }
 
-// Does that with the entry that is asked for.
+// Does `act` with the entry that `at` names.
 fn act_in<K: Eq + Hash + Drop + Numbered, H: BuildHasher>(
     rt: &impl Wait,
     set: &HashSet<K, H>,
@@ -63,7 +63,7 @@ fn act_in<K: Eq + Hash + Drop + Numbered, H: BuildHasher>(
     }
 }
 
-// Goes from entry to entry.
+// Steps from entry to entry.
 fn step_in<K: Eq + Hash + Drop + Numbered, H: BuildHasher>(
     rt: &impl Wait,
     set: &HashSet<K, H>,
@@ -82,7 +82,7 @@ fn step_in<K: Eq + Hash + Drop + Numbered, H: BuildHasher>(
     walked(had_room)
 }
 
-// Takes keys out and goes from entry to entry.
+// Removes keys by steps from entry to entry.
 fn drain_in<K: Eq + Hash + Drop + Numbered, H: BuildHasher>(
     rt: &impl Wait,
     set: &HashSet<K, H>,
@@ -102,7 +102,7 @@ fn drain_in<K: Eq + Hash + Drop + Numbered, H: BuildHasher>(
     walked(had_room)
 }
 
-// Reserves so many slots and gives them back.
+// Reserves `slots` slots and releases them.
 fn reserve_in<K: Eq + Hash + Drop, H: BuildHasher>(
     rt: &impl Wait,
     set: &HashSet<K, H>,

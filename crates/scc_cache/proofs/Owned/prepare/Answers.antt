@@ -19,7 +19,7 @@ invariant_of-self g c =
     let m = c.self.inside.maximum in
     let r = c.prepare_within.ensures in
     let within : 32 * bucket_count d ≤ m = elim c.match-prepare_within.branch as (λ _. 32 * bucket_count d ≤ m) [
-      | in-Ok w ↦ grown-within _ t d m _ w.in-Ok.ensures.grows h.power h.least_slots h.within h.minimum
+      | in-Ok w ↦ grown-within _ t d m _ w.in-Ok.ensures.grows h.power h.least h.within h.minimum
       | in-Err w ↦ subst (λ z. 32 * bucket_count z ≤ m) (sym w.in-Err.ensures.none.1) h.within
     ] in
     state-after g.K.PartialEq.eq _ _ t d m h r.listed r.unique r.settings within
@@ -44,7 +44,7 @@ returns-after-prepare_within g c =
     let m = c.self.inside.maximum in
     let r = c.prepare_within.ensures in
     let within : 32 * bucket_count d ≤ m = elim c.match-prepare_within.branch as (λ _. 32 * bucket_count d ≤ m) [
-      | in-Ok w ↦ grown-within _ t d m _ w.in-Ok.ensures.grows h.power h.least_slots h.within h.minimum
+      | in-Ok w ↦ grown-within _ t d m _ w.in-Ok.ensures.grows h.power h.least h.within h.minimum
       | in-Err w ↦ subst (λ z. 32 * bucket_count z ≤ m) (sym w.in-Err.ensures.none.1) h.within
     ] in
     let f : g.row.K.Denot → ℕ = (λ k. hash_of g.H.BuildHasher g.H.Hasher.Hasher (settings_of t).hasher (g.K.Hash.hash_input k)) in

@@ -60,7 +60,7 @@ invariant_of-self g c =
     let u = c.drop_mark_within.new.self in
     let n = count-same m u c.drop_mark_within.ensures.lists in
     let put = puts-count u c.put_within-evicted.new.self _ _ c.put_within-evicted.result c.put_within-evicted.ensures.step in
-    let within = grown-within _ c.self.inside.table m c.self.inside.maximum _ c.in-Ok.ensures.grows h.power h.least_slots h.within h.minimum in
+    let within = grown-within _ c.self.inside.table m c.self.inside.maximum _ c.in-Ok.ensures.grows h.power h.least h.within h.minimum in
     state-after g.K.PartialEq.eq _ _ c.self.inside.table c.put_within-evicted.new.self c.self.inside.maximum h c.put_within-evicted.ensures.listed c.put_within-evicted.ensures.unique (put.1 ∙ c.drop_mark_within.ensures.settings ∙ c.bucket_within.ensures.settings) (subst (λ n. 32 * n ≤ c.self.inside.maximum) (sym (put.0 ∙ n)) within)
 
 pub returns-in-Ok : goal.returns-in-Ok
@@ -107,7 +107,7 @@ returns-in-Ok g c =
           let u = c.drop_mark_within.new.self in
           let n = count-same m u c.drop_mark_within.ensures.lists in
           let put = puts-count u c.put_within-evicted.new.self _ _ c.put_within-evicted.result c.put_within-evicted.ensures.step in
-          let within = grown-within _ c.self.inside.table m c.self.inside.maximum _ c.in-Ok.ensures.grows h.power h.least_slots h.within h.minimum in
+          let within = grown-within _ c.self.inside.table m c.self.inside.maximum _ c.in-Ok.ensures.grows h.power h.least h.within h.minimum in
           state-after g.K.PartialEq.eq _ _ c.self.inside.table c.put_within-evicted.new.self c.self.inside.maximum h c.put_within-evicted.ensures.listed c.put_within-evicted.ensures.unique (put.1 ∙ c.drop_mark_within.ensures.settings ∙ c.bucket_within.ensures.settings) (subst (λ n. 32 * n ≤ c.self.inside.maximum) (sym (put.0 ∙ n)) within));
       relocates = (
           let t = c.self.inside.table in

@@ -5,8 +5,8 @@ use Rattle.scc_index.proofs.Owned.change_minimum.Goals as goal
 taken : {A B C : Type 0} {b : Bool} → (IsTrue b ↔ A) → (IsTrue b → B) → (IsTrue b → C) → A → B × C
 taken answer gives due a = let t = answer.1 a in (gives t, due t)
 
-pub returns-then-clone_owner-minimum : goal.returns-then-clone_owner-minimum
-returns-then-clone_owner-minimum g c =
+pub returns-then-share-minimum : goal.returns-then-share-minimum
+returns-then-share-minimum g c =
     let start : c.start-minimum.result.now ≡ minimum_of c.args.self.now = c.start-minimum.ensures ∙ c.capacity_range.ensures.low in
     let most = c.requires in
     record {
@@ -17,8 +17,8 @@ returns-then-clone_owner-minimum g c =
       unique = (search rules);
     }
 
-pub returns-then-clone_owner-minimum-2 : goal.returns-then-clone_owner-minimum-2
-returns-then-clone_owner-minimum-2 g c =
+pub returns-then-share-minimum-2 : goal.returns-then-share-minimum-2
+returns-then-share-minimum-2 g c =
     let start : c.start-minimum.result.now ≡ minimum_of c.args.self.now = c.start-minimum.ensures ∙ c.capacity_range.ensures.low in
     record {
       kept = (search rules);

@@ -6,22 +6,21 @@ use Rattle.scc_table.specs.Relocations.{RelocatesTwo}
 use Rattle.scc_index.proofs.Owned.insert_sync.Goals as goal
 use Rattle.scc_index.proofs.Owned.insert_sync.Goals.{in-Ok, in-Err}
 
-pub returns-in-Some : goal.returns-in-Some
-returns-in-Some g c =
+pub returns-in-Some-clause-step : goal.returns-in-Some-clause-step
+returns-in-Some-clause-step g c =
+    (
+    let f = find-position (g.K.PartialEq.eq c.args.k) (entries c.self.inside.table) _ c.in-Some.ensures.place.found in
+    (refl, rw (← c.self.view_is, f.2) (search rules), record { exact = refl; buckets = refl; settings = refl }))
+
+pub returns-in-Some-clause-array : goal.returns-in-Some-clause-array
+returns-in-Some-clause-array g c =
     record {
-      step = (
-          let f = find-position (g.K.PartialEq.eq c.args.k) (entries c.self.inside.table) _ c.in-Some.ensures.place.found in
-          (refl, rw (← c.self.view_is, f.2) (search rules), record { exact = refl; buckets = refl; settings = refl }));
-      finds = (search rules);
-      same = (search rules);
       growth = (search rules);
       kept = (
           let f = find-position (g.K.PartialEq.eq c.args.k) (entries c.self.inside.table) _ c.in-Some.ensures.place.found in
           λ none. let here = rw (← c.self.view_is, f.2) at none in cc);
       once = (search rules);
-      due = (search rules);
-      raised = (record { raised = λ low up. absurd (let z : true ≡ false = sym up ∙ low in cc) });
-      undone = (
+      due = (
           let f = find-position (g.K.PartialEq.eq c.args.k) (entries c.self.inside.table) _ c.in-Some.ensures.place.found in
           λ none. let here = rw (← c.self.view_is, f.2) at none in cc);
       first = (search rules);
@@ -31,47 +30,44 @@ returns-in-Some g c =
           λ none. let here = rw (← c.self.view_is, f.2) at none in cc);
       two = (search rules);
       waiting = (search rules);
-      unique = (search rules);
     }
 
-pub returns-after-insert_made : goal.returns-after-insert_made
-returns-after-insert_made g c =
+pub returns-after-insert_made-clause-step : goal.returns-after-insert_made-clause-step
+returns-after-insert_made-clause-step g c =
+    (
+    let none = find-position_none (g.K.PartialEq.eq c.args.k) (entries c.self.inside.table) c.in-None.ensures.place in
+    elim c.match-insert_made.branch [
+      | in-Ok w ↦ rw (w.result-is, ← c.self.view_is) (none, w.in-Ok.ensures.ok.holds)
+      | in-Err w ↦ rw (w.result-is, ← c.self.view_is) (w.in-Err.ensures.err.0, none, w.in-Err.ensures.err.1)
+    ])
+
+pub returns-after-insert_made-clause-finds : goal.returns-after-insert_made-clause-finds
+returns-after-insert_made-clause-finds g c =
+    (
+    elim c.match-insert_made.branch [
+      | in-Ok w ↦ rw (w.result-is, ← c.self.view_is) (finds-added g.met.K.Eq.laws (entries c.self.inside.table) (entries c.insert_made.new.self) (c.args.k, c.args.v) w.in-Ok.ensures.ok.holds.same w.in-Ok.ensures.unique)
+      | in-Err w ↦ rw w.result-is tt
+    ])
+
+pub returns-after-insert_made-clause-same : goal.returns-after-insert_made-clause-same
+returns-after-insert_made-clause-same g c =
+    (
+    elim c.match-insert_made.branch [
+      | in-Ok w ↦ rw w.result-is tt
+      | in-Err w ↦ rw (w.result-is, ← c.self.view_is) (finds-unchanged g.met.K.Eq.laws c.self.inside.table c.insert_made.new.self w.in-Err.ensures.err.1)
+    ])
+
+pub returns-after-insert_made-clause-array : goal.returns-after-insert_made-clause-array
+returns-after-insert_made-clause-array g c =
     record {
-      step = (
-          let none = find-position_none (g.K.PartialEq.eq c.args.k) (entries c.self.inside.table) c.in-None.ensures.place in
-          elim c.match-insert_made.branch [
-            | in-Ok w ↦ rw (w.result-is, ← c.self.view_is) (none, w.in-Ok.ensures.ok.holds)
-            | in-Err w ↦ rw (w.result-is, ← c.self.view_is) (w.in-Err.ensures.err.0, none, w.in-Err.ensures.err.1)
-          ]);
-      finds = (
-          elim c.match-insert_made.branch [
-            | in-Ok w ↦ rw (w.result-is, ← c.self.view_is) (finds-added g.met.K.Eq.laws (entries c.self.inside.table) (entries c.insert_made.new.self) (c.args.k, c.args.v) w.in-Ok.ensures.ok.holds.same w.in-Ok.ensures.unique)
-            | in-Err w ↦ rw w.result-is tt
-          ]);
-      same = (
-          elim c.match-insert_made.branch [
-            | in-Ok w ↦ rw w.result-is tt
-            | in-Err w ↦ rw (w.result-is, ← c.self.view_is) (finds-unchanged g.met.K.Eq.laws c.self.inside.table c.insert_made.new.self w.in-Err.ensures.err.1)
-          ]);
       growth = (rw (← c.self.view_is) c.insert_made.ensures.growth);
       kept = (λ _. rw (← c.self.view_is) c.insert_made.ensures.kept);
       once = (rw (← c.self.view_is) c.insert_made.ensures.once);
-      due = (
-          elim c.match-insert_made.branch [
-            | in-Ok w ↦ rw (w.result-is, ← c.self.view_is) w.in-Ok.ensures.due
-            | in-Err w ↦ rw w.result-is tt
-          ]);
-      raised = (
-          elim c.match-insert_made.branch [
-            | in-Ok w ↦ rw w.result-is tt
-            | in-Err w ↦ rw (w.result-is, ← c.self.view_is) w.in-Err.ensures.raised
-          ]);
-      undone = (
-          elim c.match-insert_made.branch [
-            | in-Ok w ↦ λ _. rw w.result-is tt
-            | in-Err w ↦ λ _. rw (w.result-is, ← c.self.view_is) w.in-Err.ensures.undone
-          ]);
-      first = (
+      due = (λ _. elim c.match-insert_made.branch [
+        | in-Ok w ↦ rw (← c.self.view_is) w.in-Ok.ensures.due
+        | in-Err w ↦ rw (← c.self.view_is) w.in-Err.ensures.undone
+      ]);
+      first = (λ _.
           elim c.match-insert_made.branch [
             | in-Ok w ↦ rw (w.result-is, ← c.self.view_is) w.in-Ok.ensures.first
             | in-Err w ↦ rw w.result-is tt
@@ -88,5 +84,4 @@ returns-after-insert_made g c =
       waiting = (
           let none = find-position_none (g.K.PartialEq.eq c.args.k) (entries c.self.inside.table) c.in-None.ensures.place in
           rw (← c.self.view_is, none) (λ there. absurd (search rules)));
-      unique = (search rules);
     }

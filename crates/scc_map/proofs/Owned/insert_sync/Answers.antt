@@ -6,17 +6,21 @@ use Rattle.scc_table.specs.Relocations.{RelocatesTwo}
 use Rattle.scc_map.proofs.Owned.insert_sync.Goals as goal
 use Rattle.scc_map.proofs.Owned.insert_sync.Goals.{in-Ok, in-Err}
 
-pub returns-in-Some : goal.returns-in-Some
-returns-in-Some g c =
+pub returns-in-Some-clause-step : goal.returns-in-Some-clause-step
+returns-in-Some-clause-step g c =
+    (
+    let f = find-position (g.K.PartialEq.eq c.args.k) (entries c.self.inside.table) _ c.in-Some.ensures.place.found in
+    (refl, rw (← c.self.view_is, f.2) (search rules), record { exact = refl; buckets = refl; settings = refl }))
+
+pub returns-in-Some-clause-succeeds : goal.returns-in-Some-clause-succeeds
+returns-in-Some-clause-succeeds g c =
+    (
+    let f = find-position (g.K.PartialEq.eq c.args.k) (entries c.self.inside.table) _ c.in-Some.ensures.place.found in
+    λ none room. let here = rw (← c.self.view_is, f.2) at none in cc)
+
+pub returns-in-Some-clause-array : goal.returns-in-Some-clause-array
+returns-in-Some-clause-array g c =
     record {
-      step = (
-          let f = find-position (g.K.PartialEq.eq c.args.k) (entries c.self.inside.table) _ c.in-Some.ensures.place.found in
-          (refl, rw (← c.self.view_is, f.2) (search rules), record { exact = refl; buckets = refl; settings = refl }));
-      succeeds = (
-          let f = find-position (g.K.PartialEq.eq c.args.k) (entries c.self.inside.table) _ c.in-Some.ensures.place.found in
-          λ none room. let here = rw (← c.self.view_is, f.2) at none in cc);
-      finds = (search rules);
-      same = (search rules);
       growth = (search rules);
       kept = (search rules);
       once = (search rules);
@@ -28,38 +32,49 @@ returns-in-Some g c =
       relocates = (search rules);
       two = (search rules);
       waiting = (search rules);
-      unique = (search rules);
     }
 
-pub returns-after-insert_new : goal.returns-after-insert_new
-returns-after-insert_new g c =
+pub returns-after-insert_new-clause-step : goal.returns-after-insert_new-clause-step
+returns-after-insert_new-clause-step g c =
+    (
+    let none = find-position_none (g.K.PartialEq.eq c.args.k) (entries c.self.inside.table) c.in-None.ensures.place in
+    elim c.match-insert_new.branch [
+      | in-Ok w ↦ rw (w.result-is, ← c.self.view_is) (none, w.in-Ok.ensures.ok.holds)
+      | in-Err w ↦ rw (w.result-is, ← c.self.view_is) (w.in-Err.ensures.err.0, none, w.in-Err.ensures.err.1, w.in-Err.ensures.full)
+    ])
+
+pub returns-after-insert_new-clause-succeeds : goal.returns-after-insert_new-clause-succeeds
+returns-after-insert_new-clause-succeeds g c =
+    (
+    elim c.match-insert_new.branch [
+      | in-Ok w ↦ rw w.result-is (λ none room. refl)
+      | in-Err w ↦ λ none room. absurd (w.in-Err.ensures.full (rw c.self.view_is room))
+    ])
+
+pub returns-after-insert_new-clause-finds : goal.returns-after-insert_new-clause-finds
+returns-after-insert_new-clause-finds g c =
+    (
+    elim c.match-insert_new.branch [
+      | in-Ok w ↦ rw (w.result-is, ← c.self.view_is) (finds-added g.met.K.Eq.laws (entries c.self.inside.table) (entries c.insert_new.new.self) (c.args.k, c.args.v) w.in-Ok.ensures.ok.holds.same w.in-Ok.ensures.unique)
+      | in-Err w ↦ rw w.result-is tt
+    ])
+
+pub returns-after-insert_new-clause-same : goal.returns-after-insert_new-clause-same
+returns-after-insert_new-clause-same g c =
+    (
+    elim c.match-insert_new.branch [
+      | in-Ok w ↦ rw w.result-is tt
+      | in-Err w ↦ rw (w.result-is, ← c.self.view_is) (finds-rearranged g.met.K.Eq.laws c.self.inside.table c.insert_new.new.self w.in-Err.ensures.err.1 c.insert_new.ensures.unique)
+    ])
+
+pub returns-after-insert_new-clause-array : goal.returns-after-insert_new-clause-array
+returns-after-insert_new-clause-array g c =
     record {
-      step = (
-          let none = find-position_none (g.K.PartialEq.eq c.args.k) (entries c.self.inside.table) c.in-None.ensures.place in
-          elim c.match-insert_new.branch [
-            | in-Ok w ↦ rw (w.result-is, ← c.self.view_is) (none, w.in-Ok.ensures.ok.holds)
-            | in-Err w ↦ rw (w.result-is, ← c.self.view_is) (w.in-Err.ensures.err.0, none, w.in-Err.ensures.err.1, w.in-Err.ensures.full)
-          ]);
-      succeeds = (
-          elim c.match-insert_new.branch [
-            | in-Ok w ↦ rw w.result-is (λ none room. refl)
-            | in-Err w ↦ λ none room. absurd (w.in-Err.ensures.full (rw c.self.view_is room))
-          ]);
-      finds = (
-          elim c.match-insert_new.branch [
-            | in-Ok w ↦ rw (w.result-is, ← c.self.view_is) (finds-added g.met.K.Eq.laws (entries c.self.inside.table) (entries c.insert_new.new.self) (c.args.k, c.args.v) w.in-Ok.ensures.ok.holds.same w.in-Ok.ensures.unique)
-            | in-Err w ↦ rw w.result-is tt
-          ]);
-      same = (
-          elim c.match-insert_new.branch [
-            | in-Ok w ↦ rw w.result-is tt
-            | in-Err w ↦ rw (w.result-is, ← c.self.view_is) (finds-rearranged g.met.K.Eq.laws c.self.inside.table c.insert_new.new.self w.in-Err.ensures.err.1 c.insert_new.ensures.unique)
-          ]);
       growth = (rw (← c.self.view_is) c.insert_new.ensures.growth);
       kept = (λ _. rw (← c.self.view_is) c.insert_new.ensures.kept);
       once = (rw (← c.self.view_is) c.insert_new.ensures.once);
       due = (λ _. rw (← c.self.view_is) c.insert_new.ensures.due);
-      first = (
+      first = (λ _.
           elim c.match-insert_new.branch [
             | in-Ok w ↦ rw (w.result-is, ← c.self.view_is) w.in-Ok.ensures.first
             | in-Err w ↦ rw w.result-is tt
@@ -76,5 +91,4 @@ returns-after-insert_new g c =
       waiting = (
           let none = find-position_none (g.K.PartialEq.eq c.args.k) (entries c.self.inside.table) c.in-None.ensures.place in
           rw (← c.self.view_is, none) (λ there. absurd (search rules)));
-      unique = (search rules);
     }

@@ -17,15 +17,20 @@ module _ {K S : Type 0} (eq : K → K → Bool) where
   refused-then hash b m n q k r same key none h =
       refused (hash m) m n k r none (subst (λ y. Inserts eq (hash m) m y (Err r) n) key (subst (λ x. Inserts eq (hash x) x q (Err r) n) same h))
 
-pub returns-in-Ok : goal.returns-in-Ok
-returns-in-Ok g c =
+pub returns-in-Ok-clause-step : goal.returns-in-Ok-clause-step
+returns-in-Ok-clause-step g c =
+    let swapped = c.in-Ok.ensures.swapped in
+    (swapped.0, swapped.1)
+
+pub returns-in-Ok-clause-finds : goal.returns-in-Ok-clause-finds
+returns-in-Ok-clause-finds g c =
+    let swapped = c.in-Ok.ensures.swapped in
+    swapped.2
+
+pub returns-in-Ok-clause-array : goal.returns-in-Ok-clause-array
+returns-in-Ok-clause-array g c =
     let swapped = c.in-Ok.ensures.swapped in
     record {
-      step = (swapped.0, swapped.1);
-      present = (search rules);
-      succeeds = (search rules);
-      finds = swapped.2;
-      same = (search rules);
       kept = (search rules);
       once = (λ _. swapped.1.buckets);
       growth = (search rules);
@@ -35,42 +40,42 @@ returns-in-Ok g c =
       relocates = (search rules);
       two = (search rules);
       waiting = (search rules);
-      unique = (search rules);
     }
 
-pub returns-in-Ok-insert_sync : goal.returns-in-Ok-insert_sync
-returns-in-Ok-insert_sync g c =
+pub returns-in-Ok-insert_sync-clause-array : goal.returns-in-Ok-insert_sync-clause-array
+returns-in-Ok-insert_sync-clause-array g c =
     let missing = c.in-Err.ensures.missing in
     record {
-      step = (search rules);
-      present = (search rules);
-      succeeds = (search rules);
-      finds = (search rules);
-      same = (search rules);
-      kept = (λ n r. c.insert_sync.ensures.kept (rw (missing.2, missing.0) n) (rw (missing.2, missing.0) r) ∙ ap bucket_count missing.2);
-      once = (λ r. c.insert_sync.ensures.once (rw (missing.2, missing.0) r) ∙ ap bucket_count missing.2);
+      kept = (λ n r. c.insert_sync.ensures.array.kept (rw (missing.2, missing.0) n) (rw (missing.2, missing.0) r) ∙ ap bucket_count missing.2);
+      once = (λ r. c.insert_sync.ensures.array.once (rw (missing.2, missing.0) r) ∙ ap bucket_count missing.2);
       growth = (search rules);
-      due = (λ n. let d = c.insert_sync.ensures.due (rw (missing.2, missing.0) n) in rw (missing.2, missing.0) at d);
+      due = (λ n. let d = c.insert_sync.ensures.array.due (rw (missing.2, missing.0) n) in rw (missing.2, missing.0) at d);
       first = (search rules);
       noted = (search rules);
       relocates = (search rules);
       two = (search rules);
       waiting = (search rules);
-      unique = (search rules);
     }
 
-pub returns-in-Err-insert_sync : goal.returns-in-Err-insert_sync
-returns-in-Err-insert_sync g c =
+pub returns-in-Err-insert_sync-clause-step : goal.returns-in-Err-insert_sync-clause-step
+returns-in-Err-insert_sync-clause-step g c =
+    let missing = c.in-Err.ensures.missing in
+    let step = rw c.in-Err-insert_sync.is at c.insert_sync.ensures.step in
+    refused-then g.K.PartialEq.eq (key_hash g.H.BuildHasher g.H.Hasher.Hasher g.K.Hash.hash_input) c.swap_key.new.self c.args.self.now c.insert_sync.new.self c.in-Err.key c.args.k c.in-Err-insert_sync.e missing.2 missing.0 missing.1 step
+
+pub returns-in-Err-insert_sync-clause-succeeds : goal.returns-in-Err-insert_sync-clause-succeeds
+returns-in-Err-insert_sync-clause-succeeds g c =
+    let missing = c.in-Err.ensures.missing in
+    let step = rw c.in-Err-insert_sync.is at c.insert_sync.ensures.step in
+    (λ r. let h : IsOk c.insert_sync.result = c.insert_sync.ensures.succeeds (rw (missing.2, missing.0) missing.1) (rw (missing.2, missing.0) r) in rw c.in-Err-insert_sync.is at h)
+
+pub returns-in-Err-insert_sync-clause-array : goal.returns-in-Err-insert_sync-clause-array
+returns-in-Err-insert_sync-clause-array g c =
     let missing = c.in-Err.ensures.missing in
     let step = rw c.in-Err-insert_sync.is at c.insert_sync.ensures.step in
     record {
-      step = refused-then g.K.PartialEq.eq (key_hash g.H.BuildHasher g.H.Hasher.Hasher g.K.Hash.hash_input) c.swap_key.new.self c.args.self.now c.insert_sync.new.self c.in-Err.key c.args.k c.in-Err-insert_sync.e missing.2 missing.0 missing.1 step;
-      present = (search rules);
-      succeeds = (λ r. let h : IsOk c.insert_sync.result = c.insert_sync.ensures.succeeds (rw (missing.2, missing.0) missing.1) (rw (missing.2, missing.0) r) in rw c.in-Err-insert_sync.is at h);
-      finds = (search rules);
-      same = (search rules);
-      kept = (λ n r. c.insert_sync.ensures.kept (rw (missing.2, missing.0) n) (rw (missing.2, missing.0) r) ∙ ap bucket_count missing.2);
-      once = (λ r. c.insert_sync.ensures.once (rw (missing.2, missing.0) r) ∙ ap bucket_count missing.2);
+      kept = (λ n r. c.insert_sync.ensures.array.kept (rw (missing.2, missing.0) n) (rw (missing.2, missing.0) r) ∙ ap bucket_count missing.2);
+      once = (λ r. c.insert_sync.ensures.array.once (rw (missing.2, missing.0) r) ∙ ap bucket_count missing.2);
       growth = (search rules);
       due = (search rules);
       first = (search rules);
@@ -78,5 +83,4 @@ returns-in-Err-insert_sync g c =
       relocates = (search rules);
       two = (search rules);
       waiting = (search rules);
-      unique = (search rules);
     }

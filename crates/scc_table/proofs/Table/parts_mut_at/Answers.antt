@@ -88,8 +88,8 @@ parts_mut_at-requires-2-clause-bucket g c =
     let far : bucket_count c.self.inside.current ≤ c.args.place.bucket = omega (arith, count) in
     rw count (old-is laws inv c.args.place within far).0
 
-pub parts_mut_at-requires-2-clause-place : goal.parts_mut_at-requires-2-clause-place
-parts_mut_at-requires-2-clause-place g c =
+pub parts_mut_at-requires-2-clause-slot : goal.parts_mut_at-requires-2-clause-slot
+parts_mut_at-requires-2-clause-slot g c =
     let inv = c.self.invariant in
     let laws = g.met.E.Key.Eq.laws in
     let within = place-seen c.self.invariant c.args.place c.self.view_is c.requires in

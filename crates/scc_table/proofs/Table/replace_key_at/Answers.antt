@@ -92,8 +92,8 @@ replace_key_at-requires-2-clause-bucket g c =
     let far : bucket_count c.self.inside.current ≤ c.args.place.bucket = omega (arith, count) in
     rw count (old-is laws inv c.args.place within far).0
 
-pub replace_key_at-requires-2-clause-place : goal.replace_key_at-requires-2-clause-place
-replace_key_at-requires-2-clause-place g c =
+pub replace_key_at-requires-2-clause-slot : goal.replace_key_at-requires-2-clause-slot
+replace_key_at-requires-2-clause-slot g c =
     let inv = c.self.invariant in
     let laws = g.met.E.Key.Eq.laws in
     let within = place-seen c.self.invariant c.args.place c.self.view_is c.requires.within in

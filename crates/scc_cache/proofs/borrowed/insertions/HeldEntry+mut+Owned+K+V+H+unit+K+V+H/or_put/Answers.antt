@@ -9,7 +9,7 @@ returns-in-Occupied g c =
     let r = c.as_it_is.result in
     let is = c.in-Occupied.is in
     let same = c.as_it_is.ensures.same in
-    ((refl, c.as_it_is.follows.holds, rw same tt), record { entry = or-handed g.K.PartialEq.eq self o r is same c.args.default; refused = none-refused r same _; kept = tt })
+    ((refl, c.as_it_is.follows.holds, none-refused r same _), record { entry = or-handed g.K.PartialEq.eq self o r is same c.args.default; refused = none-refused r same _; kept = tt })
 
 pub returns-in-Vacant : goal.returns-in-Vacant
 returns-in-Vacant g c =

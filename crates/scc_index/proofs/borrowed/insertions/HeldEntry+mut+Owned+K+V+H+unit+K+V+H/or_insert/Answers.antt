@@ -10,7 +10,7 @@ returns-in-Occupied g c =
     let is = c.in-Occupied.is in
     let same = c.as_it_is.ensures.same in
     let ends = ends-handed self o r is same in (
-      (refl, c.as_it_is.follows.holds, rw same tt),
+      (refl, c.as_it_is.follows.holds, none-refused self o r is same _),
       record {
         inserts = record {
           entry = or-handed self o r is same c.args.default;

@@ -1,8 +1,8 @@
-//! How an entry is made from a guard of a cache, alike for all guards. The pair of the key first becomes the most
-//! recent of its bucket.
+//! How an entry is made from the guard of a cache. The pair of the key first becomes the most recent of its bucket. The
+//! guard may be of any kind, but the owned form, whose contracts say more of a guard that goes, makes its entries itself.
 ghost use Rattle.scc_cache.specs.CacheSteps.{IsAbsent};
 ghost use Rattle.scc_cache.specs.Caches.{IsCacheState};
-ghost use Rattle.scc_cache.specs.Entries.{entry_guard, occupied_cache, IsEntryOf, IsRefreshed, replaced_guard, Replaces};
+ghost use Rattle.scc_cache.specs.Entries.{entry_guard, occupied_cache, IsEntryOf, IsRefreshed, replaced_guard, Replaces, occupied_guard};
 ghost use Rattle.scc_common.specs.Contents.{hash_in};
 ghost use Rattle.std.specs.Prelude.{◌≡◌, IfSome, IfNone};
 
@@ -62,7 +62,7 @@ impl<G: Guard<Inner = Owned<K, V, H>>, N, K: Eq + Hash, V, H: BuildHasher> HeldO
     where
         G: Drop,
         N: Drop,
-        ensures same_guard { IfSome result (λ o. o.guard ≡ G.with_inner guard (occupied_cache o)) }
+        ensures same_guard { IfSome result (λ o. occupied_guard o ≡ G.with_inner guard (occupied_cache o)) }
         ensures entry { IfSome result (IsRefreshed K.eq (G.inner guard) k.now) }
         ensures missing { IfNone result (IsAbsent (hash_in ⟦<H as Hashes<K>>⟧.hash_of (G.inner guard).contents) K.eq
             (G.inner guard).contents k.now) }

@@ -1,15 +1,16 @@
-//! How an entry is made from a guard of an index, alike for all guards.
-ghost use Rattle.scc_common.specs.Contents.{entries};
+//! How an entry is made from the guard of a map. The guard may be of any kind, but the owned form, whose contracts say
+//! more of a guard that goes, makes its entries itself.
+ghost use Rattle.scc_common.specs.Contents.{entries, refused_of, waiting_of};
 ghost use Rattle.scc_common.specs.PairWalks.{Declines, PassesAt};
 ghost use Rattle.scc_common.specs.Pairs.{find, IsUnique};
 ghost use Rattle.scc_common.specs.Walks.{CalledOn, CallableWhile};
-ghost use Rattle.scc_index.specs.Entries.{entry_guard, occupied_pair, occupied_front, IsOccupiedAt, IsEntryOf};
-ghost use Rattle.scc_index.specs.EntrySteps.{StandsIn};
-ghost use Rattle.scc_index.specs.Seats.{entry_rest, occupied_rest};
+ghost use Rattle.scc_map.specs.Entries.{entry_guard, occupied_pair, occupied_front, IsOccupiedAt, IsEntryOf, replaced_guard, Replaces, occupied_guard};
+ghost use Rattle.scc_map.specs.EntrySteps.{StandsIn};
+ghost use Rattle.scc_map.specs.Seats.{entry_rest, occupied_rest, replaced_rest};
 ghost use Rattle.std.specs.Prelude.{◌≡◌, [], None, false, IfOk, IfErr, IfSome, IfNone};
 
 use crate::Owned;
-use crate::held::{HeldEntry, HeldOccupied, HeldVacant};
+use crate::held::{HeldEntry, HeldOccupied, HeldReplace, HeldVacant};
 use scc_common::Guard;
 use std::hash::{BuildHasher, Hash};
 use std::marker::PhantomData;
@@ -21,7 +22,7 @@ impl<G: Guard<Inner = Owned<K, V, H>>, N, K: Eq + Hash, V, H: BuildHasher> HeldE
     V,
     H,
 > {
-    /// Returns the entry of `k` in the index of `guard`: occupied at the stored pair, or vacant with `k`. Allocates
+    /// Returns the entry of `k` in the map of `guard`: occupied at the stored pair, or vacant with `k`. Allocates
     /// nothing and makes no array.
     pub fn of(guard: G, k: K, rest: N) -> Self
     where
@@ -57,13 +58,13 @@ impl<G: Guard<Inner = Owned<K, V, H>>, N, K: Eq + Hash, V, H: BuildHasher> HeldO
     V,
     H,
 > {
-    /// Returns the occupied entry of `k` in the index of `guard`. If no key equals `k`, drops the guard and returns
+    /// Returns the occupied entry of `k` in the map of `guard`. If no key equals `k`, drops the guard and returns
     /// `None`.
     pub fn of(guard: G, k: &K, rest: N) -> Option<Self>
     where
         G: Drop,
         N: Drop,
-        ensures guard { IfSome result (λ o. o.guard ≡ guard) }
+        ensures guard { IfSome result (λ o. occupied_guard o ≡ guard) }
         ensures rest { IfSome result (λ o. occupied_rest o ≡ rest) }
         ensures entry { IfSome result (IsOccupiedAt K.eq (G.inner guard) k.now) }
         ensures missing { IfNone result (find K.eq (entries (G.inner guard)) k.now ≡ None) }
@@ -81,11 +82,11 @@ impl<G: Guard<Inner = Owned<K, V, H>>, N, K: Eq + Hash, V, H: BuildHasher> HeldO
         }
     }
 
-    /// Returns the first entry of the index of `guard`. If the index is empty, drops the guard and returns `rest`.
+    /// Returns the first entry of the map of `guard`. If the map is empty, drops the guard and returns `rest`.
     pub fn first(guard: G, rest: N) -> Result<Self, N>
     where
         G: Drop,
-        ensures guard { IfOk result (λ o. o.guard ≡ guard) }
+        ensures guard { IfOk result (λ o. occupied_guard o ≡ guard) }
         ensures rest { IfOk result (λ o. occupied_rest o ≡ rest) }
         ensures first { IfOk result (λ o. StandsIn (G.inner guard) o × (occupied_front o ≡ [])) }
         ensures empty { IfErr result (λ n. (n ≡ rest) × (entries (G.inner guard) ≡ [])) }
@@ -101,8 +102,8 @@ impl<G: Guard<Inner = Owned<K, V, H>>, N, K: Eq + Hash, V, H: BuildHasher> HeldO
         }
     }
 
-    /// Returns the first entry of the index of `guard` on whose pair `p` returns true. If there is none, drops the
-    /// guard and returns `rest`.
+    /// Returns the first entry of the map of `guard` on whose pair `p` returns true. If there is none, drops the guard
+    /// and returns `rest`.
     pub fn passing<P: FnMut(&K, &V) -> bool>(guard: G, p: &mut P, rest: N) -> Result<Self, N>
     where
         G: Drop,
@@ -121,6 +122,48 @@ impl<G: Guard<Inner = Owned<K, V, H>>, N, K: Eq + Hash, V, H: BuildHasher> HeldO
                 of: PhantomData,
             }),
             None => Err(rest),
+        }
+    }
+}
+
+impl<G: Guard<Inner = Owned<K, V, H>>, N, K: Eq + Hash, V, H: BuildHasher> HeldReplace<
+    G,
+    N,
+    K,
+    V,
+    H,
+> {
+    /// Puts `k` in the place of the key that equals it, and returns the entry with the old key. If no key equals `k`,
+    /// returns the vacant entry of `k`.
+    pub fn of(guard: G, k: K, rest: N) -> Self
+        ensures rest { replaced_rest result ≡ rest }
+        ensures step { Replaces K.eq (G.inner guard) k result }
+        ensures noted { refused_of (G.inner (replaced_guard result)) ≡ refused_of (G.inner guard) }
+        ensures waiting { waiting_of (G.inner (replaced_guard result)) ≡ waiting_of (G.inner guard) }
+        ensures unique { IsUnique K.eq (G.inner (replaced_guard result)) }
+    {
+        let mut guard = guard;
+        let hash = guard.look().hash_of(&k);
+        match guard.look().place_of(hash, &k) {
+            Some(place) => {
+                let old = guard.lend().replace_key_at(place, k);
+                HeldReplace::Replaced(
+                    HeldOccupied {
+                        guard,
+                        place,
+                        rest,
+                        of: PhantomData,
+                    },
+                    old,
+                )
+            }
+            None => HeldReplace::NotReplaced(HeldVacant {
+                guard,
+                key: k,
+                hash,
+                rest,
+                of: PhantomData,
+            }),
         }
     }
 }
