@@ -25,10 +25,6 @@ const STRIPES: usize = 4;
 /// The number of passes, which take the lines in turn.
 const PASSES: usize = 2;
 
-fn out_of_memory() -> io::Error {
-    io::Error::from(io::ErrorKind::OutOfMemory)
-}
-
 /// Finishes a run. By contract every merge of the histories is then a run of the whole, from no entries to the entries
 /// at the end, and the records of each pass agree with its receipts.
 fn audit<C: Calls + Drop, L: Ledger, M: Site<C::Hasher>>(
@@ -49,52 +45,45 @@ where
     }
 }
 
-// Publishes a route by the pass: the first route to a destination is inserted, a later one is updated. Returns false
-// if a call is refused.
+// Publishes a route by the pass: the first route to a destination is inserted, a later one is updated.
 fn publish_route<L: Ledger, M: Site<Fold>, R: Wait>(
     rt: &R,
     recorded: &Recorded<Routes, L, M>,
     pass: &mut Pass<Routes, L>,
     destination: u64,
     hop: u64,
-) -> bool {
-    match recorded.call(rt, pass, IndexCall::Insert(destination, hop)) {
-        Ok(Reply::Exists(_, _)) => recorded
-            .call(rt, pass, IndexCall::Update(destination, hop))
-            .is_ok(),
-        Ok(_) => true,
-        Err(_) => false,
+) -> io::Result<()> {
+    if let Reply::Exists(_, _) = recorded.call(rt, pass, IndexCall::Insert(destination, hop))? {
+        recorded.call(rt, pass, IndexCall::Update(destination, hop))?;
     }
+    Ok(())
 }
 
-// Publishes the routes of every other line, from line `number` on. Returns false if a call is refused.
+// Publishes the routes of every other line, from line `number` on.
 fn publish_part<L: Ledger, M: Site<Fold>, R: Wait>(
     rt: &R,
     recorded: &Recorded<Routes, L, M>,
     pass: &mut Pass<Routes, L>,
     lines: &[Line],
     number: usize,
-) -> bool {
+) -> io::Result<()> {
     for line in lines.iter().skip(number).step_by(PASSES) {
         for offset in 0..line.count {
             let destination = line.first.wrapping_add(offset);
-            if !publish_route(rt, recorded, pass, destination, line.hop) {
-                return false;
-            }
+            publish_route(rt, recorded, pass, destination, line.hop)?;
         }
     }
-    true
+    Ok(())
 }
 
-// Publishes the routes of all lines, each pass on a thread of its own, and returns the passes. Returns `None` if a call
-// is refused.
+// Publishes the routes of all lines, each pass on a thread of its own, and returns the passes.
 fn publish_all<L: Ledger + Send + Sync, M: Site<Fold> + Send + Sync, R: Threads + Sync + Wait>(
     rt: &R,
     alloc: Global,
     recorded: &Recorded<Routes, L, M>,
     passes: Vec<Pass<Routes, L>>,
     lines: &[Line],
-) -> Result<Option<Vec<Pass<Routes, L>>>, AllocError> {
+) -> io::Result<Vec<Pass<Routes, L>>> {
     let published = map_vec(
         rt,
         passes,
@@ -107,12 +96,10 @@ fn publish_all<L: Ledger + Send + Sync, M: Site<Fold> + Send + Sync, R: Threads 
     )?;
     let mut passes = Vec::new(alloc);
     for (pass, made) in published {
-        if !made {
-            return Ok(None);
-        }
+        made?;
         passes.push(pass).map_err(AllocError::from)?;
     }
-    Ok(Some(passes))
+    Ok(passes)
 }
 
 // Returns the number of call records.
@@ -146,19 +133,16 @@ fn record_in<L: Ledger + Send + Sync, M: Site<Fold> + Send + Sync, R: Threads + 
         maximum: 0,
         hasher,
     };
-    let opened = Recorded::<Routes, L, M>::open(alloc, setup, STRIPES, PASSES, receipts, records);
-    let (recorded, passes) = opened?;
-    let Some(passes) = publish_all(rt, alloc, &recorded, passes, lines)? else {
-        return Err(out_of_memory());
-    };
+    let (recorded, passes) = Recorded::<Routes, L, M>::open(
+        alloc, setup, STRIPES, PASSES, receipts, records,
+    )?;
+    let passes = publish_all(rt, alloc, &recorded, passes, lines)?;
     Ok(calls_of(&audit(recorded, passes)?))
 }
 
 /// Publishes the routes in a recorded index, and returns the number of recorded calls once the audit has succeeded.
 pub fn record<R: Threads + Sync + Wait>(rt: &R, alloc: Global, lines: &[Line]) -> io::Result<u64> {
-    let Ok(owner) = Arc::new(alloc, BuildHasherDefault::new()) else {
-        return Err(out_of_memory());
-    };
+    let owner = Arc::new(alloc, BuildHasherDefault::new()).map_err(AllocError::from)?;
     record_in::<Brand, Brand, R>(
         rt,
         alloc,

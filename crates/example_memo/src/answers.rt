@@ -1,19 +1,17 @@
-//! Workers with a memo each.
-ghost use Rattle.std.specs.Prelude.{◌≡◌, IfOk, length};
-
-use crate::walks::{EndOfWalk, Walk, end_by_memo};
+//! Workers, each with its own memo. A memo is called by `&mut`, so threads can't share one without a lock.
+use crate::input::Line;
+use crate::walks::{EndOfWalk, end_by_memo};
 use scc::memo::Memo;
 use std::alloc::{AllocError, Global};
 use std::hash::{BuildHasherDefault, FoldHasher};
 use std::io;
-use std::sync::Wait;
 use std::thread::{Threads, map_indices};
 
-/// The value of a walk, and whether the memo knew it.
+/// The ends of the walks of a line: their sum modulo 2^64, and how many of them a memo knew.
 #[derive(Clone, Copy, Drop)]
 pub struct Answer {
-    pub value: u64,
-    pub known: bool,
+    pub sum: u64,
+    pub known: u64,
 }
 
 /// The number of workers.
@@ -24,49 +22,58 @@ const MOST_SLOTS: usize = 256;
 
 type Known = Memo<EndOfWalk, BuildHasherDefault<FoldHasher>>;
 
-// Returns the values of every fourth walk, from number `worker` on.
-fn answer_part(alloc: Global, walks: &[Walk], worker: usize) -> io::Result<Vec<Answer>> {
-    let made = Known::with_capacity_and_hasher(
+// Evaluates every fourth walk of `line`, from number `worker` on.
+fn answer_line(memo: &mut Known, line: Line, worker: usize) -> Answer {
+    let mut answer = Answer { sum: 0, known: 0 };
+    for number in (worker as u64..line.count).step_by(WORKERS) {
+        let walk = line.walk(number);
+        let is_known = memo.known(&walk).is_some();
+        answer.known = answer.known.saturating_add(u64::from(is_known));
+        answer.sum = answer.sum.wrapping_add(end_by_memo(memo, walk));
+    }
+    answer
+}
+
+// Evaluates every fourth walk of each line by a new memo, and returns an answer for each line.
+fn answer_part(alloc: Global, lines: &[Line], worker: usize) -> io::Result<Vec<Answer>> {
+    let mut memo = Known::with_capacity_and_hasher(
         alloc,
         EndOfWalk,
         0,
         MOST_SLOTS,
         BuildHasherDefault::new(),
-    );
-    let Ok(mut memo) = made else {
-        return Err(io::Error::from(io::ErrorKind::OutOfMemory));
-    };
+    )?;
     let mut answers = Vec::new(alloc);
-    for walk in walks.iter().skip(worker).step_by(WORKERS) {
-        let known = memo.known(walk).is_some();
-        let value = end_by_memo(&mut memo, *walk);
+    for line in lines {
         answers
-            .push(Answer { value, known })
+            .push(answer_line(&mut memo, *line, worker))
             .map_err(AllocError::from)?;
     }
     Ok(answers)
 }
 
-/// Returns the values of all walks, in their order. Each worker evaluates every fourth walk.
+/// Evaluates all walks, and returns an answer for each line.
 pub fn answer_all<R: Threads + Sync>(
     rt: &R,
     alloc: Global,
-    walks: &[Walk],
+    lines: &[Line],
 ) -> io::Result<Vec<Answer>> {
     let parts = map_indices(
         rt,
         alloc,
         WORKERS,
-        &|worker| answer_part(alloc, walks, worker),
+        &|worker| answer_part(alloc, lines, worker),
     )?;
     let mut answers = Vec::new(alloc);
-    for place in 0..walks.len() {
-        match parts.get(place % WORKERS) {
-            Some(Ok(part)) => match part.get(place / WORKERS) {
-                Some(answer) => answers.push(*answer).map_err(AllocError::from)?,
-                None => return Err(io::Error::from(io::ErrorKind::OutOfMemory)),
-            },
-            _ => return Err(io::Error::from(io::ErrorKind::OutOfMemory)),
+    for _ in lines {
+        answers
+            .push(Answer { sum: 0, known: 0 })
+            .map_err(AllocError::from)?;
+    }
+    for part in parts {
+        for (answer, more) in answers.iter_mut().zip(part?) {
+            answer.sum = answer.sum.wrapping_add(more.sum);
+            answer.known = answer.known.saturating_add(more.known);
         }
     }
     Ok(answers)

@@ -1,31 +1,38 @@
-//! Evaluates a function that takes long, for each line `START STEPS` of standard input, by four workers with a memo
-//! each.
+//! Evaluates a function that takes long, by four workers. Each worker has its own memo, since a memo is called by
+//! `&mut`: nobody waits, and a walk that two workers evaluate is evaluated twice.
 //!
-//! Prints the value for each line, in their order, and then how many values were known. The status is 2 if a line
-//! isn't two numbers, and this line is named; 3 if memory is refused; and 4 if a stream fails.
+//! A line `START STEPS COUNT` of standard input stands for COUNT walks of STEPS steps, from START, START + 1 and so on.
+//! Prints for each line the sum of the ends of its walks, and at last how many ends were known. The status is 2 if a
+//! line isn't three numbers, and this line is named; 3 if memory is refused; and 4 if a stream fails.
 #![tactic(auto)]
 
 mod answers;
 mod input;
 mod walks;
 
-use answers::{Answer, answer_all};
-use input::{Input, read_walks};
+use answers::answer_all;
+use input::{Input, Line, read_lines};
 use std::alloc::Global;
 use std::io::{self, Read};
 use std::process::ExitCode;
 use std::thread::Threads;
 
-// Prints the value for each line, and how many values were known.
-fn print_answers<R: Print>(rt: &R, answers: &[Answer]) -> io::Result<()> {
-    let mut known = 0u64;
-    for answer in answers {
-        let value = answer.value;
-        known = known.saturating_add(u64::from(answer.known));
-        println!(rt; "{value}")?;
+// Prints the sum of the ends for each line, and how many ends were known.
+fn print_answers<R: Threads + Sync + Print>(
+    rt: &R,
+    alloc: Global,
+    lines: &[Line],
+) -> io::Result<()> {
+    let (mut walks, mut known) = (0u64, 0u64);
+    for line in lines {
+        walks = walks.saturating_add(line.count);
     }
-    let all = answers.len();
-    println!(rt; "{known} of {all} were known")?;
+    for answer in answer_all(rt, alloc, lines)? {
+        let sum = answer.sum;
+        known = known.saturating_add(answer.known);
+        println!(rt; "{sum}")?;
+    }
+    println!(rt; "{known} of {walks} were known")?;
     Ok(())
 }
 
@@ -35,14 +42,13 @@ fn evaluate<R: Threads + Sync + Print, I: Read + Drop>(
     alloc: Global,
     reader: I,
 ) -> io::Result<u8> {
-    match read_walks(alloc, reader)? {
-        Input::Walks(walks) => {
-            let answers = answer_all(rt, alloc, walks.as_slice())?;
-            print_answers(rt, answers.as_slice())?;
+    match read_lines(alloc, reader)? {
+        Input::Lines(lines) => {
+            print_answers(rt, alloc, lines.as_slice())?;
             Ok(0)
         }
         Input::BadLine(number) => {
-            println!(rt; "line {number}: not two numbers")?;
+            println!(rt; "line {number}: not three numbers")?;
             Ok(2)
         }
     }

@@ -1,35 +1,52 @@
-//! Requests that are read from lines.
+//! Lines, each of which stands for many requests.
 use std::alloc::{AllocError, Global};
 use std::io::{self, Read};
+
+/// `count` requests, from `first` on, each greater than the one before by `step`.
+#[derive(Clone, Copy, Drop)]
+pub struct Line {
+    pub first: u64,
+    pub count: u64,
+    pub step: u64,
+}
+
+impl Line {
+    /// Returns request number `number` of the line, counted from 0.
+    pub fn request(&self, number: u64) -> u64 {
+        self.first.wrapping_add(number.wrapping_mul(self.step))
+    }
+}
 
 /// What the lines of a text are.
 #[derive(Drop)]
 pub enum Input {
-    /// The requests, in their order.
-    Requests(Vec<u64>),
-    /// The number of the first line with a word that is no number, counted from 1.
+    /// The lines, in their order.
+    Lines(Vec<Line>),
+    /// The number of the first line that isn't three numbers, counted from 1.
     BadLine(usize),
 }
 
-// Adds the requests of `line` to `requests`, and returns whether all its words are numbers.
-fn add_line(requests: &mut Vec<u64>, line: &str) -> Result<bool, AllocError> {
-    for word in line.split_whitespace() {
-        match word.parse::<u64>() {
-            Ok(request) => requests.push(request)?,
-            Err(_) => return Ok(false),
-        }
+// Returns the requests that `line` stands for, or `None` if it isn't three numbers.
+fn parse_line(line: &str) -> Option<Line> {
+    let mut words = line.split_whitespace();
+    let first = words.next()?.parse::<u64>().ok()?;
+    let count = words.next()?.parse::<u64>().ok()?;
+    let step = words.next()?.parse::<u64>().ok()?;
+    match words.next() {
+        None => Some(Line { first, count, step }),
+        Some(_) => None,
     }
-    Ok(true)
 }
 
-/// Reads requests up to the end of `reader`.
-pub fn read_requests<R: Read + Drop>(alloc: Global, reader: R) -> io::Result<Input> {
+/// Reads lines up to the end of `reader`.
+pub fn read_lines<R: Read + Drop>(alloc: Global, reader: R) -> io::Result<Input> {
     let text = io::read_to_string(alloc, reader)?;
-    let mut requests = Vec::new(alloc);
+    let mut lines = Vec::new(alloc);
     for (number, line) in text.lines().enumerate() {
-        if !add_line(&mut requests, line)? {
-            return Ok(Input::BadLine(number.saturating_add(1)));
+        match parse_line(line) {
+            Some(line) => lines.push(line).map_err(AllocError::from)?,
+            None => return Ok(Input::BadLine(number.saturating_add(1))),
         }
     }
-    Ok(Input::Requests(requests))
+    Ok(Input::Lines(lines))
 }

@@ -1,13 +1,25 @@
-//! A cache before a slow reader, and what it did.
-ghost use Rattle.std.specs.Prelude.{◌≡◌};
+//! A cache of answers that all workers share, and what it does for one of them.
+ghost use Rattle.std.specs.Prelude.{◌≡◌, IfSome};
+ghost use Rattle.example_requests.specs.Service.{answer_to};
 ghost use Rattle.example_requests.specs.Tallies.{Counts, Serves};
 
-use scc::hash_cache::Owned;
+use crate::service::ask;
+use scc::HashCache;
+use std::sync::Wait;
 
-/// Answers, by their requests.
-pub type Answers = Owned<u64, u64>;
+/// A request with the service's answer to it. A wrong answer can't be made, so whatever a worker reads from the cache
+/// is right, whichever worker stored it.
+#[derive(Clone, Copy, Drop)]
+pub struct Answer {
+    pub request: u64,
+    pub answer: u64,
+    pub ghost right: { answer ≡ answer_to request },
+}
 
-/// The numbers of hits and misses, and of the answers that were evicted.
+/// The answers by their requests.
+pub type Answers = HashCache<u64, Answer>;
+
+/// The numbers of hits and misses of a worker, and of the answers that its misses evicted.
 #[derive(Clone, Copy, Drop)]
 pub struct Tally {
     pub hits: u64,
@@ -15,46 +27,41 @@ pub struct Tally {
     pub evictions: u64,
 }
 
-// Returns the answer to `request`, slowly.
-fn read(request: u64) -> u64 {
-    let mut answer = request;
-    for _ in 0..100 {
-        answer = answer
-            .wrapping_mul(6_364_136_223_846_793_005)
-            .wrapping_add(1);
-    }
-    answer
-}
-
-// Reads the answer to a request that missed, and stores it unless memory is refused.
-fn serve_missing(answers: &mut Answers, tally: Tally, request: u64) -> Tally
-    ensures { Serves (record { hits = tally.hits; misses = tally.misses; evictions = tally.evictions })
-        (record { hits = result.hits; misses = result.misses; evictions = result.evictions }) }
+// Returns the stored answer to `request`, or `None` if there is none.
+fn known<R: Wait>(rt: &R, answers: &Answers, request: u64) -> Option<u64>
+    ensures { IfSome result (λ answer. answer ≡ answer_to request) }
 {
-    let evicted = match answers.put_sync(request, read(request)) {
-        Ok(Some(_)) => 1u64,
-        _ => 0,
-    };
-    Tally {
-        hits: tally.hits,
-        misses: tally.misses.saturating_add(1),
-        evictions: tally.evictions.saturating_add(evicted),
-    }
-}
-
-/// Serves a request, by the cache or else by the reader. It is one hit more or one miss more. Only a miss evicts an
-/// answer.
-pub fn serve(answers: &mut Answers, tally: Tally, request: u64) -> Tally
-    ensures { Serves (record { hits = tally.hits; misses = tally.misses; evictions = tally.evictions })
-        (record { hits = result.hits; misses = result.misses; evictions = result.evictions }) }
-{
-    if answers.get_sync(&request).is_some() {
-        Tally {
-            hits: tally.hits.saturating_add(1),
-            misses: tally.misses,
-            evictions: tally.evictions,
-        }
+    let entry = answers.get_sync(rt, &request)?;
+    let found = entry.get();
+    if found.request == request {
+        Some(found.answer)
     } else {
-        serve_missing(answers, tally, request)
+        None
+    }
+}
+
+/// Returns the answer to `request`, from the cache or else from the service. No stripe of the cache is locked while the
+/// service is asked, so two workers may ask it the same. The answer is stored unless another worker was faster or memory
+/// is refused.
+///
+/// The tally has one hit more or one miss more, and only a miss evicts an answer.
+pub fn serve<R: Wait>(rt: &R, answers: &Answers, tally: &mut Tally, request: u64) -> u64
+    ensures answer { result ≡ answer_to request }
+    ensures tally { Serves (record { hits = tally.old.hits; misses = tally.old.misses; evictions = tally.old.evictions })
+        (record { hits = tally.new.hits; misses = tally.new.misses; evictions = tally.new.evictions }) }
+{
+    match known(rt, answers, request) {
+        Some(answer) => {
+            tally.hits = tally.hits.saturating_add(1);
+            answer
+        }
+        None => {
+            let answer = ask(request);
+            tally.misses = tally.misses.saturating_add(1);
+            if let Ok(Some(_evicted)) = answers.put_sync(rt, request, Answer { request, answer }) {
+                tally.evictions = tally.evictions.saturating_add(1);
+            }
+            answer
+        }
     }
 }

@@ -1,8 +1,9 @@
-//! Publishes the routes of standard input, lines `DESTINATION HOP`, in an index that four workers share, while the
-//! workers keep the versions that were replaced.
+//! Publishes the routes of standard input in an index that four workers share, while the workers keep the versions that
+//! were replaced.
 //!
-//! The status is 2 if a line isn't two numbers, and this line is named; 3 if memory is refused; and 4 if a stream
-//! fails.
+//! A line `FIRST HOP COUNT` stands for COUNT routes, to the destinations from FIRST on. The routes at the end are
+//! printed by such lines too, in rising order. The status is 2 if a line isn't three numbers, and this line is named; 3
+//! if memory is refused; and 4 if a stream fails.
 #![tactic(auto)]
 
 mod input;
@@ -19,8 +20,9 @@ use workers::{listed, publish_all};
 
 // Prints the routes, by destination.
 fn print_routes<R: Print>(rt: &R, routes: &[Line]) -> io::Result<()> {
-    for (destination, hop) in routes {
-        println!(rt; "{destination} {hop}")?;
+    for line in routes {
+        let (first, hop, count) = (line.first, line.hop, line.count);
+        println!(rt; "{first} {hop} {count}")?;
     }
     Ok(())
 }
@@ -35,7 +37,7 @@ fn print_all<R: Threads + Sync + Wait + Print>(
     let routes = listed(rt, alloc, &published.routes)?;
     print_routes(rt, routes.as_slice())?;
     let kept = published.kept;
-    println!(rt; "{kept} versions that went were kept")?;
+    println!(rt; "{kept} replaced versions are what they were")?;
     Ok(())
 }
 
@@ -51,7 +53,7 @@ fn run<R: Threads + Sync + Wait + Print, I: Read + Drop>(
             Ok(0)
         }
         Input::BadLine(number) => {
-            println!(rt; "line {number}: not two numbers")?;
+            println!(rt; "line {number}: not three numbers")?;
             Ok(2)
         }
     }

@@ -4,6 +4,7 @@ ghost use Rattle.std.specs.Prelude.{◌≡◌, IfOk, IfSome};
 
 use scc::HashIndex;
 use scc::hash_index::{Entry, Version};
+use std::alloc::AllocError;
 use std::io;
 use std::sync::{Arc, Wait};
 
@@ -12,10 +13,6 @@ pub type Routes = HashIndex<u64, u64>;
 
 /// A route that a reader keeps.
 pub type Kept = Arc<Version<u64, u64>>;
-
-pub fn out_of_memory() -> io::Error {
-    io::Error::from(io::ErrorKind::OutOfMemory)
-}
 
 /// Publishes `hop` for `destination`, and returns the route that was there before, which its reader may keep. It is a
 /// route to `destination`, and it stays what it was.
@@ -27,16 +24,12 @@ pub fn publish<R: Wait>(
 ) -> io::Result<Option<Kept>>
     ensures { IfOk result (λ old. IfSome old (λ a. (arc_value a).0 ≡ destination)) }
 {
-    let Ok(old) = routes.peek(rt, &destination) else {
-        return Err(out_of_memory());
-    };
-    let is_published = match routes.entry_sync(rt, destination) {
-        Entry::Occupied(mut entry) => entry.update(hop).is_ok(),
-        Entry::Vacant(entry) => entry.insert_entry(hop).is_ok(),
-    };
-    if is_published {
-        Ok(old)
-    } else {
-        Err(out_of_memory())
+    let old = routes.peek(rt, &destination)?;
+    match routes.entry_sync(rt, destination) {
+        Entry::Occupied(mut entry) => entry.update(hop).map_err(|_| AllocError)?,
+        Entry::Vacant(entry) => {
+            entry.insert_entry(hop)?;
+        }
     }
+    Ok(old)
 }

@@ -44,7 +44,7 @@ pub type Sessions = HashMap<u64, Session>;
 
 /// Makes a store without sessions.
 pub fn new_sessions(alloc: Global) -> io::Result<Sessions> {
-    HashMap::new(alloc).map_err(|_| io::Error::from(io::ErrorKind::OutOfMemory))
+    Ok(HashMap::new(alloc)?)
 }
 
 /// Returns how long a session lasts. The subtraction can't overflow, since no session ends before it begins.

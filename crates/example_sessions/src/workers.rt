@@ -3,6 +3,7 @@ use crate::sessions::{Sessions, expire, length, touch};
 use crate::steps::Step;
 use rand::rngs::SmallRng;
 use rand::{Rng, SeedableRng};
+use scc::InsertError;
 use std::alloc::{AllocError, Global};
 use std::io;
 use std::sync::Wait;
@@ -22,20 +23,20 @@ pub fn draw_tokens(alloc: Global, seed: usize, number: usize) -> Result<Vec<u64>
 }
 
 // Makes the step on the session of a token, and returns what it counts for: the length of the session, or 1 if the step
-// met one. Returns `None` if memory is refused.
-fn make_one<R: Wait>(rt: &R, sessions: &Sessions, token: u64, step: Step) -> Option<u64> {
+// met one.
+fn make_one<R: Wait>(rt: &R, sessions: &Sessions, token: u64, step: Step) -> io::Result<u64> {
     let met = match step {
         Step::Open(_, session) => match sessions.insert_sync(rt, token, session) {
             Ok(()) => true,
-            Err(scc::InsertError::Exists(_)) => false,
-            Err(scc::InsertError::Memory(_)) => return None,
+            Err(InsertError::Exists(_)) => false,
+            Err(error) => return Err(io::Error::from(error)),
         },
         Step::Touch(time) => touch(rt, sessions, token, time).is_some(),
         Step::Expire(now) => expire(rt, sessions, token, now).is_some(),
-        Step::Lengths => return Some(length(rt, sessions, token).unwrap_or(0)),
+        Step::Lengths => return Ok(length(rt, sessions, token).unwrap_or(0)),
         Step::Count => sessions.contains_sync(rt, &token),
     };
-    Some(met as u64)
+    Ok(met as u64)
 }
 
 // Makes the step on every fourth token, from the token number `worker` on, and adds up what they count for.
@@ -45,12 +46,12 @@ fn make_part<R: Wait>(
     tokens: &[u64],
     step: Step,
     worker: usize,
-) -> Option<u64> {
+) -> io::Result<u64> {
     let mut met = 0u64;
     for token in tokens.iter().skip(worker).step_by(WORKERS) {
         met = met.saturating_add(make_one(rt, sessions, *token, step)?);
     }
-    Some(met)
+    Ok(met)
 }
 
 /// Lets all workers make the step, each on its tokens, and adds up what their sessions count for.
@@ -69,10 +70,7 @@ pub fn make_step<R: Threads + Sync + Wait>(
     )?;
     let mut met = 0u64;
     for part in parts {
-        match part {
-            Some(some) => met = met.saturating_add(some),
-            None => return Err(io::Error::from(io::ErrorKind::OutOfMemory)),
-        }
+        met = met.saturating_add(part?);
     }
     Ok(met)
 }

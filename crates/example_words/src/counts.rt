@@ -1,8 +1,10 @@
 //! What is known of each word, in a map that workers share.
 ghost use Rattle.std.specs.Prelude.{◌≡◌, ◌≤◌, ◌<◌, IfOk};
 
+use crate::words::Word;
+use scc::HashMap;
 use scc::hash_map::Entry;
-use scc::{HashMap, InsertError};
+use std::io;
 use std::sync::Wait;
 
 /// The place at which a word was met first, and how often it was met.
@@ -13,7 +15,7 @@ pub struct Count {
 }
 
 /// What is known of the words that were met.
-pub type Counts<'a> = HashMap<&'a str, Count>;
+pub type Counts = HashMap<Word, Count>;
 
 impl Count {
     // Returns the count of a word that was met once, at `place`.
@@ -42,12 +44,7 @@ impl Count {
 }
 
 /// Records that `word` stands at `place`, and returns what is then known of it: it was met at `place` or before.
-pub fn note<'a, R: Wait>(
-    rt: &R,
-    counts: &Counts<'a>,
-    word: &'a str,
-    place: u64,
-) -> Result<Count, InsertError<&'a str, Count>>
+pub fn note<R: Wait>(rt: &R, counts: &Counts, word: Word, place: u64) -> io::Result<Count>
     ensures { IfOk result (λ count. count.first ≤ place) }
 {
     match counts.entry_sync(rt, word) {

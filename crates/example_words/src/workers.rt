@@ -1,68 +1,78 @@
 //! Workers that intern words in a set and count them in a map.
 use crate::counts::{Count, Counts, note};
-use scc::{HashMap, HashSet, KeyError, Verdict};
-use std::alloc::{AllocError, Global};
+use crate::input::Line;
+use crate::words::{Word, Words, intern};
+use scc::Verdict;
+use std::alloc::Global;
 use std::io;
 use std::sync::Wait;
 use std::thread::{Threads, map_indices};
 
 /// The number of workers.
-const WORKERS: usize = 4;
+const WORKERS: u64 = 4;
 
-fn out_of_memory() -> io::Error {
-    io::Error::from(io::ErrorKind::OutOfMemory)
-}
-
-/// Returns the words of `text`.
-pub fn words_of(alloc: Global, text: &str) -> Result<Vec<&str>, AllocError> {
-    let mut words = Vec::new(alloc);
-    for word in text.split_whitespace() {
-        words.push(word)?;
-    }
-    Ok(words)
-}
-
-// Interns and counts every fourth word, from number `worker` on. Returns false if memory is refused.
-fn count_part<'a, R: Wait>(
+// Interns and counts the words of `line` whose places leave `worker` as rest. `start` is the place of its first word.
+fn count_line<R: Wait>(
     rt: &R,
-    seen: &HashSet<&'a str>,
-    counts: &Counts<'a>,
-    words: &[&'a str],
-    worker: usize,
-) -> bool {
-    for (place, word) in words.iter().enumerate().skip(worker).step_by(WORKERS) {
-        if let Err(KeyError::Memory(_)) = seen.insert_sync(rt, *word) {
-            return false;
-        }
-        if note(rt, counts, *word, place as u64).is_err() {
-            return false;
+    alloc: Global,
+    words: &Words,
+    counts: &Counts,
+    line: &Line<'_>,
+    start: u64,
+    worker: u64,
+) -> io::Result<()> {
+    let mut place = start;
+    for _ in 0..line.times {
+        for text in line.words.as_slice() {
+            if place % WORKERS == worker {
+                let word = Word::from_string(text.to_ascii_lowercase(alloc)?)?;
+                note(rt, counts, intern(rt, words, word)?, place)?;
+            }
+            place = place.saturating_add(1);
         }
     }
-    true
+    Ok(())
+}
+
+// Interns and counts every fourth word, from number `worker` on.
+fn count_part<R: Wait>(
+    rt: &R,
+    alloc: Global,
+    words: &Words,
+    counts: &Counts,
+    lines: &[Line<'_>],
+    worker: u64,
+) -> io::Result<()> {
+    let mut start = 0u64;
+    for line in lines {
+        count_line(rt, alloc, words, counts, line, start, worker)?;
+        start = start.saturating_add(line.count());
+    }
+    Ok(())
 }
 
 /// Returns what is known of each word once all workers are done.
-pub fn count_words<'a, R: Threads + Sync + Wait>(
+pub fn count_words<R: Threads + Sync + Wait>(
     rt: &R,
     alloc: Global,
-    words: &[&'a str],
-) -> io::Result<Vec<(&'a str, Count)>> {
-    let seen = HashSet::new(alloc).map_err(|_| out_of_memory())?;
-    let counts: Counts<'a> = HashMap::new(alloc).map_err(|_| out_of_memory())?;
+    lines: &[Line<'_>],
+) -> io::Result<Vec<(Word, Count)>> {
+    let words = Words::new(alloc)?;
+    let counts = Counts::new(alloc)?;
     let parts = map_indices(
         rt,
         alloc,
-        WORKERS,
-        &|worker| { count_part(rt, &seen, &counts, words, worker) },
+        WORKERS as usize,
+        &|worker| count_part(rt, alloc, &words, &counts, lines, worker as u64),
     )?;
-    for done in parts {
-        if !done {
-            return Err(out_of_memory());
-        }
+    for part in parts {
+        part?;
     }
     let mut counted = Vec::new(alloc);
-    match counts.iter_mut_sync(rt, |_, _| Verdict::Take, &mut counted) {
-        Ok(_) if counted.len() == seen.len(rt) => Ok(counted),
-        _ => Err(out_of_memory()),
+    counts.iter_mut_sync(rt, |_, _| Verdict::Take, &mut counted)?;
+    if counted.len() == words.len(rt) {
+        Ok(counted)
+    } else {
+        Err(io::Error::from(io::ErrorKind::InvalidData))
     }
 }

@@ -1,13 +1,14 @@
 //! Plays a script of calls.
 //!
 //! [`play::play`] reads a whole script, checks every line, makes the calls, and writes the replies, the contents and
-//! the number of call records.
+//! the number of call records. [`play::play_explaining`] says besides why a line isn't in the grammar.
 #![tactic(auto)]
 
 mod crew;
 pub mod ends;
 mod kinds;
 pub mod play;
+pub mod reasons;
 mod receipts;
 pub mod stripes;
 mod whole;

@@ -12,11 +12,12 @@ ghost use Rattle.scc_play.specs.Kinds.{MapPlayed, SetPlayed, IndexPlayed, CacheP
 
 use crate::ends::{Cause, End};
 use crate::kinds::{play_cache, play_index, play_map, play_set};
+use crate::reasons::bad_line_of;
 use scc_calls::{CacheCall, IndexCall, MapCall, SetCall};
 use scc_script::line::WorkerCall;
 use scc_script::script::{Script, parse_script};
 use std::alloc::{AllocError, Global};
-use std::io::{ErrorKind, Read, Write};
+use std::io::{ErrorKind, Read, Write, sink};
 use std::sync::Wait;
 use std::thread::Threads;
 
@@ -205,6 +206,15 @@ fn finish<W: Write>(writer: &mut W, text: &str, status: u8) -> u8
     status
 }
 
+// Writes to `errors` the first bad line with its reason, if `status` is `BAD_CALL`. A write that fails is passed over.
+fn explain<E: Write>(script: &[u8], status: u8, errors: &mut E) {
+    if status == BAD_CALL {
+        if let Some(bad) = bad_line_of(script) {
+            let _ = writeln!(errors, "{bad}");
+        }
+    }
+}
+
 /// Reads a script, makes its calls on a new container of the kind that the script names, and writes their replies.
 /// Returns the exit status.
 ///
@@ -233,6 +243,24 @@ pub fn play<T: Threads + Wait + Sync, R: Read, W: Write>(
     ensures status { (result ≡ FINISHED) ⊎ ((result ≡ BAD_CALL)
         ⊎ ((result ≡ NO_MEMORY) ⊎ ((result ≡ STREAM_FAILED) ⊎ ((result ≡ UNFINISHED) ⊎ (result ≡ DIFFERS))))) }
 {
+    play_explaining(rt, alloc, reader, writer, &mut sink())
+}
+
+/// Plays a script as `play` does. If a line isn't in the grammar, writes besides to `errors` a line `line N: REASON`,
+/// which names the same line. Nothing else is written to `errors`, and a write to `errors` that fails changes neither
+/// the output nor the status.
+pub fn play_explaining<T: Threads + Wait + Sync, R: Read, W: Write, E: Write>(
+    rt: &T,
+    alloc: Global,
+    reader: &mut R,
+    writer: &mut W,
+    errors: &mut E,
+) -> u8
+    ensures ends { IfSome (R.remaining reader.old)
+        (λ script. Ends (W.contents writer.old) (W.contents writer.new) (script_of script) result) }
+    ensures status { (result ≡ FINISHED) ⊎ ((result ≡ BAD_CALL)
+        ⊎ ((result ≡ NO_MEMORY) ⊎ ((result ≡ STREAM_FAILED) ⊎ ((result ≡ UNFINISHED) ⊎ (result ≡ DIFFERS))))) }
+{
     let mut script = Vec::new(alloc);
     if let Err(error) = reader.read_to_end(&mut script) {
         if error.kind() == ErrorKind::OutOfMemory {
@@ -240,8 +268,12 @@ pub fn play<T: Threads + Wait + Sync, R: Read, W: Write>(
         }
         return STREAM_FAILED;
     }
-    match answer_script(rt, alloc, script.as_slice()) {
-        Ok(answer) => finish(writer, answer.text.as_str(), answer.status),
+    let text = script.as_slice();
+    match answer_script(rt, alloc, text) {
+        Ok(answer) => {
+            explain(text, answer.status, errors);
+            finish(writer, answer.text.as_str(), answer.status)
+        }
         Err(AllocError) => finish(writer, OUT_OF_MEMORY, NO_MEMORY),
     }
 }

@@ -1,4 +1,5 @@
-//! Scripts and how their runs end, streams that fail, runs of calls as values, and the texts of refusals.
+//! Scripts and how their runs end, the reasons of bad lines, streams that fail, runs of calls as values, and the texts
+//! of refusals.
 #![tactic(auto)]
 
 #[cfg(test)]
@@ -13,6 +14,8 @@ mod hashes;
 mod lines;
 #[cfg(test)]
 mod played;
+#[cfg(test)]
+mod reasons;
 #[cfg(test)]
 mod replies;
 #[cfg(test)]
