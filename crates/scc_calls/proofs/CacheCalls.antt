@@ -176,27 +176,27 @@ module _ {K V H : Type 0} (hash : K → ℕ) where
     len-changes c n e = inl (refl, (e, refl))
 
     -- a get that finds its key
-    pub get-moves : (c d : Cached (K × V) H) (k : K) (p : K × V) (v : V) → v ≡ p.1 → steps.MovesResized (Refreshes (list_number hash c.contents) eq k p) c d → CacheMoves eq (list_number hash c.contents) (lists_of c.contents) (Get k) (Value (Some v)) (lists_of d.contents)
+    pub get-moves : (c d : Cached (K × V) H) (k : K) (p : K × V) (v : V) → v ≡ p.1 → steps.ChangesLists (Refreshes (list_number hash c.contents) eq k p) c d → CacheMoves eq (list_number hash c.contents) (lists_of c.contents) (Get k) (Value (Some v)) (lists_of d.contents)
     get-moves c d k p v is h = (p.0, subst (λ x. Refreshes (list_number hash c.contents) eq k (p.0, x) (lists_of c.contents) (lists_of d.contents)) (sym is) h.lists)
 
-    pub get-changes : (c d : Cached (K × V) H) (k : K) (p : K × V) (v : V) → v ≡ p.1 → steps.MovesResized (Refreshes (list_number hash c.contents) eq k p) c d
+    pub get-changes : (c d : Cached (K × V) H) (k : K) (p : K × V) (v : V) → v ≡ p.1 → steps.ChangesLists (Refreshes (list_number hash c.contents) eq k p) c d
         → MovesResized length (CacheMoves eq (list_number hash c.contents)) (CacheResizes (cache_setting c) (list_number hash c.contents)) (lists_of c.contents) (Get k) (Value (Some v)) (lists_of d.contents)
     get-changes c d k p v is h = inl (ap length h.lists.2 ∙ length-set (lists_of c.contents) _ _, get-moves c d k p v is h)
 
     -- a write of a value
-    pub write-moves : (c d : Cached (K × V) H) (k : K) (p : K × V) (w v : V) → w ≡ p.1 → steps.MovesResized (RefreshesAs (list_number hash c.contents) eq k p (p.0, v)) c d
+    pub write-moves : (c d : Cached (K × V) H) (k : K) (p : K × V) (w v : V) → w ≡ p.1 → steps.ChangesLists (RefreshesAs (list_number hash c.contents) eq k p (p.0, v)) c d
         → CacheMoves eq (list_number hash c.contents) (lists_of c.contents) (Write k v) (Old (Some w)) (lists_of d.contents)
     write-moves c d k p w v is h = (p.0, subst (λ x. RefreshesAs (list_number hash c.contents) eq k (p.0, x) (p.0, v) (lists_of c.contents) (lists_of d.contents)) (sym is) h.lists)
 
-    pub write-changes : (c d : Cached (K × V) H) (k : K) (p : K × V) (w v : V) → w ≡ p.1 → steps.MovesResized (RefreshesAs (list_number hash c.contents) eq k p (p.0, v)) c d
+    pub write-changes : (c d : Cached (K × V) H) (k : K) (p : K × V) (w v : V) → w ≡ p.1 → steps.ChangesLists (RefreshesAs (list_number hash c.contents) eq k p (p.0, v)) c d
         → MovesResized length (CacheMoves eq (list_number hash c.contents)) (CacheResizes (cache_setting c) (list_number hash c.contents)) (lists_of c.contents) (Write k v) (Old (Some w)) (lists_of d.contents)
     write-changes c d k p w v is h = inl (ap length h.lists.2 ∙ length-set (lists_of c.contents) _ _, write-moves c d k p w v is h)
 
     -- a replacement of a key
-    pub replace-moves : (c d : Cached (K × V) H) (k l : K) (v : V) (q : K × V) → q ≡ (k, v) → steps.MovesResized (RefreshesAs (list_number hash c.contents) eq k (l, v) q) c d
+    pub replace-moves : (c d : Cached (K × V) H) (k l : K) (v : V) (q : K × V) → q ≡ (k, v) → steps.ChangesLists (RefreshesAs (list_number hash c.contents) eq k (l, v) q) c d
         → CacheMoves eq (list_number hash c.contents) (lists_of c.contents) (Replace k) (Key (Some l)) (lists_of d.contents)
     replace-moves c d k l v q is h = (v, subst (λ x. RefreshesAs (list_number hash c.contents) eq k (l, v) x (lists_of c.contents) (lists_of d.contents)) is h.lists)
 
-    pub replace-changes : (c d : Cached (K × V) H) (k l : K) (v : V) (q : K × V) → q ≡ (k, v) → steps.MovesResized (RefreshesAs (list_number hash c.contents) eq k (l, v) q) c d
+    pub replace-changes : (c d : Cached (K × V) H) (k l : K) (v : V) (q : K × V) → q ≡ (k, v) → steps.ChangesLists (RefreshesAs (list_number hash c.contents) eq k (l, v) q) c d
         → MovesResized length (CacheMoves eq (list_number hash c.contents)) (CacheResizes (cache_setting c) (list_number hash c.contents)) (lists_of c.contents) (Replace k) (Key (Some l)) (lists_of d.contents)
     replace-changes c d k l v q is h = inl (ap length h.lists.2 ∙ length-set (lists_of c.contents) _ _, replace-moves c d k l v q is h)

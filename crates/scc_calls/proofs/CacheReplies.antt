@@ -124,7 +124,7 @@ module _ {K V H : Type 0} (hash : K → ℕ) (eq : K → K → Bool) (c d : Cach
       omega arith
 
   -- a pair that is moved within its list leaves them
-  pub refresh-same : (k : K) (p q : K × V) → steps.MovesResized (RefreshesAs (list_number hash c.contents) eq k p q) c d → length (lists_of d.contents) ≡ length (lists_of c.contents)
+  pub refresh-same : (k : K) (p q : K × V) → steps.ChangesLists (RefreshesAs (list_number hash c.contents) eq k p q) c d → length (lists_of d.contents) ≡ length (lists_of c.contents)
   refresh-same k p q h = ap length h.lists.2 ∙ length-set (lists_of c.contents) _ _
 
 module _ {K V S : Type 0} (hash : K → ℕ) (eq : K → K → Bool) (c : Contents (K × V) S) (k : K) where

@@ -60,9 +60,9 @@ module _ {G N K V S T : Type 0} {d : guard.Ghosts G (Contents (K × V) S)} {g : 
   near = laws.congr k (occupied_pair o).0 up.key at.equal ∙ laws.symm (occupied_pair o).0 up.key ∙ up.equal
 
   -- an update of a present key
-  pub updated : MovesResized (λ s. s.1) (IndexMoves eq C) (ResizesTo (setting_of c)) (state_of c) (Update k v) (Has true) (state_of (d.kept p.guard))
+  pub updated : MovesResized (λ s. s.1) (IndexMoves eq C) (ResizesTo (setting_of c)) (state_of c) (Update k v) (Has true) (state_of (d.inner p.guard))
   updated =
-      let buckets : bucket_count (d.kept p.guard) ≡ bucket_count c = up.at.contents.buckets ∙ ap bucket_count at.contents in
+      let buckets : bucket_count (d.inner p.guard) ≡ bucket_count c = up.at.contents.buckets ∙ ap bucket_count at.contents in
       inl (
         buckets,
         (
@@ -84,5 +84,5 @@ module _ {G N K V S T : Type 0} {d : guard.Ghosts G (Contents (K × V) S)} {g : 
         ),
       )
 
-  pub updated-setting : setting_of (d.kept p.guard) ≡ setting_of c
+  pub updated-setting : setting_of (d.inner p.guard) ≡ setting_of c
   updated-setting = ap setting_by up.at.contents.settings ∙ ap setting_of at.contents

@@ -30,15 +30,15 @@ module _ {G N S T : Type 0} {keep : guard.Ghosts G (Contents (ℕ × ℕ) S)} {g
 
   module _ (c : Contents (ℕ × ℕ) S) (k : ℕ) where
     -- what look-ups find once the word is counted
-    pub counted : (C : ℕ → ℕ → Type 0) (e d : HeldEntry G N ℕ ℕ S T keep g h b w) (o : HeldOccupied G N ℕ ℕ S T keep g h b w) → IsEntryOf nat_eq c k e → CountsUp C e d → OrInserts d 1 o → IsUnique nat_eq (keep.kept o.guard)
-        → FindsInstead nat_eq (entries c) k (Some (k, one_more (find nat_eq (entries c) k))) (entries (keep.kept o.guard))
+    pub counted : (C : ℕ → ℕ → Type 0) (e d : HeldEntry G N ℕ ℕ S T keep g h b w) (o : HeldOccupied G N ℕ ℕ S T keep g h b w) → IsEntryOf nat_eq c k e → CountsUp C e d → OrInserts d 1 o → IsUnique nat_eq (keep.inner o.guard)
+        → FindsInstead nat_eq (entries c) k (Some (k, one_more (find nat_eq (entries c) k))) (entries (keep.inner o.guard))
     counted C (Occupied p) (Occupied d) o at up ins u =
         let stored : (occupied_pair p).0 ≡ k = sym (eqb-true k (occupied_pair p).0 at.equal) in
         let key : up.2.key ≡ k = eqb-true up.2.key (occupied_pair p).0 up.2.equal ∙ stored in
         let count : up.0 ≡ one_more (find nat_eq (entries c) k) = up.1 ∙ sym (ap one_more at.found) in
         record {
           finds = λ q.
-              ap (λ (y : HeldOccupied G N ℕ ℕ S T keep g h b w). find nat_eq (entries (keep.kept y.guard)) q) ins
+              ap (λ (y : HeldOccupied G N ℕ ℕ S T keep g h b w). find nat_eq (entries (keep.inner y.guard)) q) ins
               ∙ up.2.finds.finds q
               ∙ (λ i. cond (nat_eq q (stored i)) (Some (key i, count i)) (find nat_eq (entries (at.contents i)) q));
         }
@@ -46,7 +46,7 @@ module _ {G N S T : Type 0} {keep : guard.Ghosts G (Contents (ℕ × ℕ) S)} {g
         let put : IsInserted e 1 o = subst (λ (y : HeldEntry G N ℕ ℕ S T keep g h b w). OrInserts y 1 o) (ap Vacant up) ins in
         record {
           finds = λ q.
-              (finds-inserted nat_eq_equiv (keep.kept e.guard) (keep.kept o.guard) (e.key, 1) put.at.contents u).finds q
+              (finds-inserted nat_eq_equiv (keep.inner e.guard) (keep.inner o.guard) (e.key, 1) put.at.contents u).finds q
               ∙ (λ i. cond (nat_eq q (at.key i)) (Some (at.key i, one_more (sym at.found i))) (find nat_eq (entries (at.contents i)) q));
         }
     counted C (Occupied p) (Vacant d) o at up ins u = absurd up

@@ -30,25 +30,25 @@ module _ {G N S T : Type 0} {keep : guard.Ghosts G (Cached (ℕ × ℕ) S)} {g :
     {F : Type 0} (f : Once F (MutBor ℕ × Unit {0}) (Unit {0} × (MutBor ℕ × Unit {0}))) (x : F) (says : (m n : ℕ) → FnOnceReturnsAtMut f x m tt n → n ≡ min (suc m) (2 ^ 64 - 1)) (v : Option (ℕ × ℕ)) (o : HeldOccupied G N ℕ ℕ S T keep g h b w) where
   -- a word that was there has one more, and goes to the end of its list
   pub counted-again : (e d : HeldEntry G N ℕ ℕ S T keep g h b w) → IsEntryOf nat_eq c k e → Modifies f x e d → OrPuts nat_eq d 1 v o → (p : ℕ × ℕ) → IsPresent (key_hash b w h.hash_input c.contents) nat_eq c.contents k p
-      → (v ≡ None) × ChangesLists (RefreshesAs (list_number (key_hash b w h.hash_input c.contents) c.contents) nat_eq k p (p.0, one_more (Some p))) c (keep.kept o.guard)
+      → (v ≡ None) × ChangesLists (RefreshesAs (list_number (key_hash b w h.hash_input c.contents) c.contents) nat_eq k p (p.0, one_more (Some p))) c (keep.inner o.guard)
   counted-again (Occupied e) (Occupied d) at is or p there =
       let number = list_number (key_hash b w h.hash_input c.contents) c.contents in
       let one : occupied_pair e ≡ p = one-pair number nat_eq (lists_of c.contents) k _ _ (occupied_pair e) p at.changes.lists.1 there.1 in
       let value : is.0 ≡ one_more (Some p) = says (occupied_pair e).1 is.0 is.1 ∙ ap (λ (q : ℕ × ℕ). one_more (Some q)) one in
       let moved = moved-written nat_eq c k (occupied_pair e) e d is.0 at is.2 in
-      let now : ChangesLists (RefreshesAs number nat_eq k p (p.0, is.0)) c (keep.kept d.guard) = subst (λ (q : ℕ × ℕ). ChangesLists (RefreshesAs number nat_eq k q (q.0, is.0)) c (keep.kept d.guard)) one moved in
-      let then : ChangesLists (RefreshesAs number nat_eq k p (p.0, one_more (Some p))) c (keep.kept d.guard) = subst (λ (n : ℕ). ChangesLists (RefreshesAs number nat_eq k p (p.0, n)) c (keep.kept d.guard)) value now in
-      (or.0, subst (λ (q : HeldOccupied G N ℕ ℕ S T keep g h b w). ChangesLists (RefreshesAs number nat_eq k p (p.0, one_more (Some p))) c (keep.kept q.guard)) (sym or.1) then)
+      let now : ChangesLists (RefreshesAs number nat_eq k p (p.0, is.0)) c (keep.inner d.guard) = subst (λ (q : ℕ × ℕ). ChangesLists (RefreshesAs number nat_eq k q (q.0, is.0)) c (keep.inner d.guard)) one moved in
+      let then : ChangesLists (RefreshesAs number nat_eq k p (p.0, one_more (Some p))) c (keep.inner d.guard) = subst (λ (n : ℕ). ChangesLists (RefreshesAs number nat_eq k p (p.0, n)) c (keep.inner d.guard)) value now in
+      (or.0, subst (λ (q : HeldOccupied G N ℕ ℕ S T keep g h b w). ChangesLists (RefreshesAs number nat_eq k p (p.0, one_more (Some p))) c (keep.inner q.guard)) (sym or.1) then)
   counted-again (Vacant e) (Vacant d) at is or p there = absurd (let z : None ≡ Some there.0 = sym at.absent ∙ there.1.first in cc)
   counted-again (Occupied e) (Vacant d) at is or p there = absurd is
   counted-again (Vacant e) (Occupied d) at is or p there = absurd is
 
   -- a new word is put in with 1
   pub counted-first : (e d : HeldEntry G N ℕ ℕ S T keep g h b w) → IsEntryOf nat_eq c k e → Modifies f x e d → OrPuts nat_eq d 1 v o → IsAbsent (key_hash b w h.hash_input c.contents) nat_eq c.contents k
-      → PutsNew (key_hash b w h.hash_input c.contents) nat_eq c (k, 1) v (keep.kept o.guard)
+      → PutsNew (key_hash b w h.hash_input c.contents) nat_eq c (k, 1) v (keep.inner o.guard)
   counted-first (Occupied e) d at is or none = absurd (let z : None ≡ Some at.changes.lists.0 = sym none ∙ at.changes.lists.1.first in cc)
   counted-first (Vacant e) (Vacant d) at is or none =
       let put : IsPut nat_eq e 1 v o = subst (λ y. IsPut nat_eq y 1 v o) is or in
-      let at_key : PutsNew (key_hash b w h.hash_input (keep.kept e.guard).contents) nat_eq (keep.kept e.guard) (k, 1) v (keep.kept o.guard) = subst (λ (q : ℕ). PutsNew (key_hash b w h.hash_input (keep.kept e.guard).contents) nat_eq (keep.kept e.guard) (q, 1) v (keep.kept o.guard)) at.key put.step in
-      subst (λ (m : Cached (ℕ × ℕ) S). PutsNew (key_hash b w h.hash_input m.contents) nat_eq m (k, 1) v (keep.kept o.guard)) at.contents at_key
+      let at_key : PutsNew (key_hash b w h.hash_input (keep.inner e.guard).contents) nat_eq (keep.inner e.guard) (k, 1) v (keep.inner o.guard) = subst (λ (q : ℕ). PutsNew (key_hash b w h.hash_input (keep.inner e.guard).contents) nat_eq (keep.inner e.guard) (q, 1) v (keep.inner o.guard)) at.key put.step in
+      subst (λ (m : Cached (ℕ × ℕ) S). PutsNew (key_hash b w h.hash_input m.contents) nat_eq m (k, 1) v (keep.inner o.guard)) at.contents at_key
   counted-first (Vacant e) (Occupied d) at is or none = absurd is
