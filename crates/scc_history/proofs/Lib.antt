@@ -7,4 +7,4 @@ pub mod Places
 mod Readying
 pub mod Telling
 pub mod Unique
-pub mod Queued
+pub mod Waiting
