@@ -3,7 +3,7 @@ ghost use Rattle.scc_buckets.specs.Bounded.{HasList, IsBounded, IsListed, PutsLa
 ghost use Rattle.scc_common.specs.Contents.{entries, bucket_count, list_of, settings_of, key_hash, IsUniqueBy};
 ghost use Rattle.scc_common.specs.Routing.{bucket_number};
 ghost use Rattle.std.specs.List.{position};
-ghost use Rattle.std.specs.Prelude.{◌≡◌, ◌<◌, ◌++◌, [], ◌∷◌, length, None, Some, slice_get, remove};
+ghost use Rattle.std.specs.Prelude.{◌≡◌, ◌<◌, ◌++◌, [], ◌∷◌, length, suc, None, Some, slice_get, remove};
 
 use crate::Buckets;
 use crate::place::{Place, tag};
@@ -33,27 +33,30 @@ where
         self.length += 1;
     }
 
-    /// Puts `entry`, whose key is new, at the end of the list of `bucket`. If the bucket holds 32 entries, first takes
-    /// its first entry out, and returns it. `bucket` must be the bucket of `hash`. Allocates nothing.
+    /// Puts `entry`, whose key is new, at the end of the list of `bucket`, and returns its slot. If the bucket holds 32
+    /// entries, first takes its first entry out, and returns that entry too. `bucket` must be the bucket of `hash`.
+    /// Allocates nothing.
     #[inline(always)]
-    pub fn put_last(&mut self, bucket: usize, hash: u64, entry: E) -> Option<E>
+    pub fn put_last(&mut self, bucket: usize, hash: u64, entry: E) -> (Option<E>, usize)
         requires within { bucket < bucket_count self.old }
         requires routed { bucket ≡ bucket_number (settings_of self.old).skipped (bucket_count self.old) hash }
         requires hashed { hash ≡ key_hash H.BuildHasher H.Hasher.Hasher E.Key.hash_input self.old (E.key_of entry) }
         requires absent { position (λ e. E.Key.eq (E.key_of entry) (E.key_of e)) (entries self.old) ≡ None }
         requires bounded { IsBounded self.old }
-        ensures step { PutsLast self.old bucket entry result self.new }
+        ensures step { PutsLast self.old bucket entry result.0 self.new }
+        ensures slot { suc result.1 ≡ length (list_of self.new bucket) }
         ensures listed { IsListed (λ e. key_hash H.BuildHasher H.Hasher.Hasher E.Key.hash_input self.new (E.key_of e))
             self.new }
         ensures unique { IsUniqueBy E.Key.eq E.key_of self.new }
     {
-        if self.list_len(bucket) < 32 {
+        let count = self.list_len(bucket);
+        if count < 32 {
             self.push_last(bucket, hash, entry);
-            return None;
+            return (None, count);
         }
         let first = self.take_in(Place { bucket, slot: 0 });
         self.push_last(bucket, hash, entry);
-        Some(first)
+        (Some(first), 31)
     }
 
     /// Moves the entry at `slot` to the end of the list of `bucket`, unless it is the last there. `hash` must be the

@@ -1,9 +1,10 @@
--- What an insertion does to the array, in one word for map, set and index.
-use Rattle.std.specs.Prelude.{◌≡◌, ℕ, None, Option, Result, IsSome}
+-- What an insertion does to the array, and what a removal does, in one word each for map, set and index.
+use Rattle.std.specs.Prelude.{◌≡◌, ◌≢◌, ℕ, length, None, Option, Result, IsSome}
 use Rattle.std.specs.Result.{OnOk}
-use Rattle.scc_common.specs.Contents.{Contents, bucket_count, refused_of, waiting_of, HasRoomBy}
-use Rattle.scc_common.specs.Steps.{FirstArrayWhenDue, Grows, GrowsWhenDue, IsPreparedFor}
-use Rattle.scc_table.specs.Relocations.{Relocates, RelocatesTwo}
+use Rattle.scc_common.specs.Contents.{Contents, bucket_count, entries, minimum_of, refused_of, waiting_of, HasRoomBy}
+use Rattle.scc_common.specs.Sizes.{IsSmaller}
+use Rattle.scc_common.specs.Steps.{FirstArrayWhenDue, Grows, GrowsWhenDue, IsPreparedFor, ShrinksWhenDue}
+use Rattle.scc_table.specs.Relocations.{Relocates, RelocatesNone, RelocatesTwo}
 
 module _ {E K S : Type 0} (key : E → K) where
   -- what an insertion of the key k with this result does to the array, the note and the waiting buckets of c, which
@@ -28,3 +29,18 @@ module _ {E K S : Type 0} (key : E → K) where
     pub two : found ≡ None → OnOk result (RelocatesTwo (hash k) c d)
     -- a key that is there relocates no bucket
     pub waiting : IsSome found → waiting_of d ≡ waiting_of c
+
+module _ {E S : Type 0} where
+  -- what a removal does to the array, the note and the waiting buckets of c, which becomes d. `Removed` says that an
+  -- entry was removed
+  pub record ShrinksByRule (Removed : Type 0) (c d : Contents E S) : Type 0 where
+    -- the number of buckets changes only by a shrink to the size that the entries and the minimum name
+    pub smaller : bucket_count d ≢ bucket_count c → IsSmaller (minimum_of c) (length (entries d)) (bucket_count c) (bucket_count d)
+    -- if an entry was removed and a shrink is due, it is made, unless memory for it was refused
+    pub due : Removed → ShrinksWhenDue c d
+    -- note and mark stay if no entry was removed
+    pub noted : (Removed → ⊥) → refused_of d ≡ refused_of c
+    -- a removal relocates no bucket
+    pub relocates : Removed → RelocatesNone c d
+    -- the same buckets wait as before if no entry was removed
+    pub waiting : (Removed → ⊥) → waiting_of d ≡ waiting_of c

@@ -1,5 +1,5 @@
 -- What an insertion of a new entry into the list of its bucket does to a table of two arrays.
-use Rattle.std.specs.Prelude.{◌≡◌, ◌≤◌, ◌+◌, ◌++◌, ◌∷◌, [], ℕ, Bool, false, List, remove, slice_get, Option, Some, Result, IfOk, IfErr}
+use Rattle.std.specs.Prelude.{◌≡◌, ◌≤◌, ◌+◌, ◌++◌, ◌∷◌, [], ℕ, suc, length, Bool, false, List, remove, slice_get, Option, Some, Result, IfOk, IfErr}
 use Rattle.std.specs.Result.{OnErr}
 use Rattle.scc_common.specs.Contents.{Contents, list_of, owed_of, pending_of, waiting_of, IsUniqueBy}
 use Rattle.scc_buckets.specs.Bounded.{HasList, IsListed, PutsLast}
@@ -26,10 +26,12 @@ module _ {E K S : Type 0} (eq : K → K → Bool) (key : E → K) where
     pub unique : IsUniqueBy eq key d
 
   module _ (hash : Contents E S → K → ℕ) where
-    -- the new entry e is put at the end of list i; if the list held 32 entries, its first entry is the result
-    pub record PutsAtEnd (c : Contents E S) (i : ℕ) (e : E) (result : Option E) (d : Contents E S) : Type 0 where
+    -- the new entry e is put at the end of list i; if the list held 32 entries, its first entry is `result.0`
+    pub record PutsAtEnd (c : Contents E S) (i : ℕ) (e : E) (result : Option E × ℕ) (d : Contents E S) : Type 0 where
       -- e stands at the end of list i
-      pub step : PutsLast c i e result d
+      pub step : PutsLast c i e result.0 d
+      -- `result.1` is the slot of e
+      pub slot : suc result.1 ≡ length (list_of d i)
       -- if each entry stood in the bucket of its hash and no list had more than 32 entries, both still hold
       pub listed : IsListed (λ f. hash c (key f)) c → IsListed (λ f. hash d (key f)) d
       -- the waiting buckets stay
@@ -52,11 +54,13 @@ module _ {E K S : Type 0} (eq : K → K → Bool) (key : E → K) where
       -- no two keys are equal
       pub unique : IsUniqueBy eq key d
 
-    -- the new entry e is put at the end of list i; if the list held 32 entries, its first entry is the result.
+    -- the new entry e is put at the end of list i; if the list held 32 entries, its first entry is `result.0`.
     -- Afterwards the buckets `left` wait, `fewer` less than before
-    pub record PutsWithin (c : Contents E S) (i : ℕ) (e : E) (left : List ℕ) (fewer : ℕ) (result : Option E) (d : Contents E S) : Type 0 where
+    pub record PutsWithin (c : Contents E S) (i : ℕ) (e : E) (left : List ℕ) (fewer : ℕ) (result : Option E × ℕ) (d : Contents E S) : Type 0 where
       -- e stands at the end of list i
-      pub step : PutsLast c i e result d
+      pub step : PutsLast c i e result.0 d
+      -- `result.1` is the slot of e
+      pub slot : suc result.1 ≡ length (list_of d i)
       -- each entry stands in the bucket of its hash, and no list has more than 32
       pub listed : IsListed (λ f. hash d (key f)) d
       -- bucket i doesn't wait

@@ -35,11 +35,12 @@ where
         }
     }
 
-    /// Puts `entry`, whose key is new, at the end of the list of `bucket`. If the list holds 32 entries, first takes
-    /// its first entry out, and returns it. Relocates two waiting buckets in all: `bucket` before the put, if it waits,
-    /// and the first waiting buckets after it. `bucket` must be the bucket of `hash`. Allocates nothing.
+    /// Puts `entry`, whose key is new, at the end of the list of `bucket`, and returns its slot. If the list holds 32
+    /// entries, first takes its first entry out, and returns that entry too. Relocates two waiting buckets in all:
+    /// `bucket` before the put, if it waits, and the first waiting buckets after it. `bucket` must be the bucket of
+    /// `hash`. Allocates nothing.
     #[inline(always)]
-    pub fn put_within(&mut self, bucket: usize, hash: u64, entry: E) -> Option<E>
+    pub fn put_within(&mut self, bucket: usize, hash: u64, entry: E) -> (Option<E>, usize)
         requires within { bucket < bucket_count self.old }
         requires routed { bucket ≡ bucket_number (settings_of self.old).skipped (bucket_count self.old) hash }
         requires hashed { hash ≡ key_hash H.BuildHasher H.Hasher.Hasher E.Key.hash_input self.old (E.key_of entry) }
@@ -57,7 +58,7 @@ where
 
     /// As `put_within`, if `bucket` waits.
     #[cold]
-    fn put_after_relocation(&mut self, bucket: usize, hash: u64, entry: E) -> Option<E>
+    fn put_after_relocation(&mut self, bucket: usize, hash: u64, entry: E) -> (Option<E>, usize)
         requires within { bucket < bucket_count self.old }
         requires waits { IsWaiting self.old bucket }
         requires routed { bucket ≡ bucket_number (settings_of self.old).skipped (bucket_count self.old) hash }
@@ -74,7 +75,13 @@ where
 
     /// As `put_within`, if `bucket` doesn't wait, and relocates the first `most` waiting buckets after the put.
     #[inline(always)]
-    fn put_then_relocate(&mut self, bucket: usize, hash: u64, entry: E, most: usize) -> Option<E>
+    fn put_then_relocate(
+        &mut self,
+        bucket: usize,
+        hash: u64,
+        entry: E,
+        most: usize,
+    ) -> (Option<E>, usize)
         requires within { bucket < bucket_count self.old }
         requires not_waiting { waits_at (waiting_of self.old) bucket ≡ false }
         requires routed { bucket ≡ bucket_number (settings_of self.old).skipped (bucket_count self.old) hash }
@@ -85,16 +92,16 @@ where
         ensures { PutsWithin E.Key.eq E.key_of (key_hash H.BuildHasher H.Hasher.Hasher E.Key.hash_input) self.old
             bucket entry (drop most (pending_targets self.old)) most result self.new }
     {
-        let first = self.put_last(bucket, hash, entry);
+        let put = self.put_last(bucket, hash, entry);
         self.relocate_some(most);
-        first
+        put
     }
 
-    /// Puts `entry`, whose key is new, at the end of the list of `bucket`, which must not wait. If the list holds 32
-    /// entries, first takes its first entry out, and returns it. `bucket` must be the bucket of `hash`. Allocates
-    /// nothing.
+    /// Puts `entry`, whose key is new, at the end of the list of `bucket`, which must not wait, and returns its slot. If
+    /// the list holds 32 entries, first takes its first entry out, and returns that entry too. `bucket` must be the
+    /// bucket of `hash`. Allocates nothing.
     #[inline(always)]
-    pub fn put_last(&mut self, bucket: usize, hash: u64, entry: E) -> Option<E>
+    pub fn put_last(&mut self, bucket: usize, hash: u64, entry: E) -> (Option<E>, usize)
         requires within { bucket < bucket_count self.old }
         requires not_waiting { IsWaiting self.old bucket → ⊥ }
         requires routed { bucket ≡ bucket_number (settings_of self.old).skipped (bucket_count self.old) hash }

@@ -1,4 +1,5 @@
-use Rattle.std.proofs.Common.{◌∙◌, Bool, ◌≤◌, ◌++◌, [], ◌∷◌, rules, ap, length, subst}
+use Rattle.std.proofs.Common.{◌∙◌, Bool, ◌≤◌, ◌++◌, [], ◌∷◌, rules, arith, ap, length, length-append, subst}
+use Rattle.std.proofs.lemmas.List.{length-drop}
 use Rattle.std.specs.List.{remove, position}
 use Rattle.scc_buckets.specs.Bounded.{HasList}
 use Rattle.scc_common.specs.Contents.{entries, list_of}
@@ -25,3 +26,23 @@ returns-clause-step g c =
         subst (λ es. HasList c.args.self.now c.args.bucket (es ++ c.args.entry ∷ []) c.push_last-2.new.self) here (has-list-then c.args.self.now c.take_in-first.new.self c.args.bucket _ taken c.push_last-2.new.self _ c.push_last-2.ensures.list),
       ),
     )
+
+pub returns-then-count-lt32-clause-slot : goal.returns-then-count-lt32-clause-slot
+returns-then-count-lt32-clause-slot g c =
+    let old = c.args.self.now in
+    let i = c.args.bucket in
+    let there = has-list-of old c.push_last.new.self i _ c.push_last.ensures.list c.requires.within in
+    omega (arith, c.list_len-count.ensures, ap length there, length-append (list_of old i) (c.args.entry ∷ []))
+
+pub returns-clause-slot : goal.returns-clause-slot
+returns-clause-slot g c =
+    let old = c.args.self.now in
+    let i = c.args.bucket in
+    let l = list_of old i in
+    let taken = c.take_in-first.ensures.lists c.requires.bounded in
+    let whole = has-list-then old c.take_in-first.new.self i _ taken c.push_last-2.new.self _ c.push_last-2.ensures.list in
+    let here = has-list-of old c.take_in-first.new.self i _ taken c.requires.within in
+    let there = has-list-of old c.push_last-2.new.self i _ whole c.requires.within in
+    let full : 32 ≤ length l = search rules in
+    let short = c.take_in-first.ensures.short c.requires.bounded in
+    omega (arith, ap length here, ap length there, length-append (list_of c.take_in-first.new.self i) (c.args.entry ∷ []), length-append (remove l 0) (c.args.entry ∷ []), length-drop 1 l, full, short)

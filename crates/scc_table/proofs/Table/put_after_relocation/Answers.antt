@@ -27,7 +27,8 @@ returns g c =
     record {
       step = (
           let r = c.relocate_within.ensures.moved in
-          puts-from c.args.self.now c.relocate_within.new.self r.lists r.settings r.refused c.put_then_relocate.new.self c.args.bucket c.args.entry c.put_then_relocate.result c.put_then_relocate.ensures.step);
+          puts-from c.args.self.now c.relocate_within.new.self r.lists r.settings r.refused c.put_then_relocate.new.self c.args.bucket c.args.entry c.put_then_relocate.result.0 c.put_then_relocate.ensures.step);
+      slot = (search rules);
       listed = (search rules);
       not_waiting = (search rules);
       exact = (relocated-left c.args.bucket c.args.self.now c.relocate_within.new.self c.relocate_within.ensures.moved (pending_targets c.put_then_relocate.new.self) c.put_then_relocate.ensures.exact);

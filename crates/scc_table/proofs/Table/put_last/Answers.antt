@@ -1,4 +1,4 @@
-use Rattle.std.proofs.Common.{◌≡◌, ℕ, ◌+◌, ◌^◌, ◌<◌, Bool, None, map, sym, ap, ◌∙◌, subst, arith}
+use Rattle.std.proofs.Common.{◌≡◌, ℕ, ◌+◌, ◌^◌, ◌<◌, Bool, None, length, map, sym, ap, ◌∙◌, subst, arith}
 use Rattle.std.specs.List.{position, IsDistinct}
 use Rattle.scc_buckets.specs.Bounded.{IsBounded, IsListed, PutsLast}
 use Rattle.scc_common.specs.Contents.{Contents, bucket_count, entries, owed_of, key_hash, settings_of, overflow_of}
@@ -96,18 +96,18 @@ invariant_of-self g c =
     let passes : g.row.E.Denot → Bool = λ e. g.E.Key.PartialEq.eq (key c.args.entry) (key e) in
     let absent : position passes (entries u) ≡ None = subst (λ (z : Contents g.row.E.Denot g.row.H.Denot). position passes (entries z) ≡ None) (sym view) c.requires.absent in
     let d = c.put_last.new.self in
-    let changes = puts-list cur d i c.args.entry c.put_last.result c.put_last.ensures.step in
+    let changes = puts-list cur d i c.args.entry c.put_last.result.0 c.put_last.ensures.step in
     let changed = changes.1 in
     let stay = changed.settings in
     let same = ap (λ s. let h : g.row.E-Key.Denot → ℕ = λ k. hash_of g.H.BuildHasher g.H.Hasher.Hasher s.hasher (g.E.Key.Hash.hash_input k) in h) stay in
     let v = together hash d ws olds in
-    let first = own-puts_last hash cur d ws olds i down bounded c.args.entry c.put_last.result c.put_last.ensures.step in
+    let first = own-puts_last hash cur d ws olds i down bounded c.args.entry c.put_last.result.0 c.put_last.ensures.step in
     let low : overflow_of d ≡ 0 = changed.bounded in
     let few : overflow_of d + t.draining.left_overflow < 2 ^ 62 = let f = inv.few in omega arith in
     let inside : i < bucket_count u = let n = ap bucket_count view in let q = c.requires.within in omega arith in
     subst (λ (h : g.row.E-Key.Denot → ℕ). IsTable g.E.Key.PartialEq.eq key h d (draining_of t.draining) t.skipped) (sym same)
     (own-fields g.E.Key.PartialEq.eq key hk cur d i changes.0 changed.lists stay (draining_of t.draining) down t.skipped inv few
-    (unique-puts laws key u v i inside inv.unique c.args.entry c.put_last.result first absent))
+    (unique-puts laws key u v i inside inv.unique c.args.entry c.put_last.result.0 first absent))
 
 pub returns : goal.returns
 returns g c =
@@ -128,15 +128,16 @@ returns g c =
     let d = c.put_last.new.self in
     let after = together (λ e. key_hash g.H.BuildHasher g.H.Hasher.Hasher g.E.Key.Hash.hash_input d (key e)) d ws olds in
     let inv = c.self.invariant in
-    let changes = puts-list cur d i c.args.entry c.put_last.result c.put_last.ensures.step in
+    let changes = puts-list cur d i c.args.entry c.put_last.result.0 c.put_last.ensures.step in
     let changed = changes.1 in
     let stay = changed.settings in
     let same = ap (λ s. let h : g.row.E-Key.Denot → ℕ = λ k. hash_of g.H.BuildHasher g.H.Hasher.Hasher s.hasher (g.E.Key.Hash.hash_input k) in h) stay in
-    let first = own-puts_last hash cur d ws olds i down bounded c.args.entry c.put_last.result c.put_last.ensures.step in
-    let moved = subst (λ (h : g.row.E-Key.Denot → ℕ). PutsLast u i c.args.entry c.put_last.result (together (λ e. h (key e)) d ws olds)) (sym same) first in
-    let step = subst (λ (z : Contents g.row.E.Denot g.row.H.Denot). PutsLast z i c.args.entry c.put_last.result after) view moved in
+    let first = own-puts_last hash cur d ws olds i down bounded c.args.entry c.put_last.result.0 c.put_last.ensures.step in
+    let moved = subst (λ (h : g.row.E-Key.Denot → ℕ). PutsLast u i c.args.entry c.put_last.result.0 (together (λ e. h (key e)) d ws olds)) (sym same) first in
+    let step = subst (λ (z : Contents g.row.E.Denot g.row.H.Denot). PutsLast z i c.args.entry c.put_last.result.0 after) view moved in
     record {
       step = step;
+      slot = (c.put_last.ensures.slot ∙ ap length (sym (own-list (λ e. key_hash g.H.BuildHasher g.H.Hasher.Hasher g.E.Key.Hash.hash_input d (key e)) d ws olds i down)));
       listed = (
           let set = settings-seen hash cur ws olds now view in
           let within = within-own c.self.invariant c.self.view_is c.requires.within in
@@ -152,5 +153,5 @@ returns g c =
       unique = (
           let laws = g.met.E.Key.Eq.laws in
           let unique = subst (λ (z : Contents g.row.E.Denot g.row.H.Denot). IsDistinct g.E.Key.PartialEq.eq (map key (entries z))) view inv.unique in
-          unique-puts laws key now after i c.requires.within unique c.args.entry c.put_last.result step c.requires.absent);
+          unique-puts laws key now after i c.requires.within unique c.args.entry c.put_last.result.0 step c.requires.absent);
     }

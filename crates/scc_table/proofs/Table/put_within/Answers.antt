@@ -14,6 +14,7 @@ pub returns : goal.returns
 returns g c =
     record {
       step = (search rules);
+      slot = (search rules);
       listed = (search rules);
       not_waiting = (search rules);
       exact = (
