@@ -1,4 +1,4 @@
--- An entry of an array with something written into it.
+-- A write into an entry of an array.
 use Rattle.std.proofs.Common.{◌≡◌, ℕ, ◌-◌, ◌<◌, ◌≤◌, List, length, set, get_or, Some, nat_lt, true, false, refl, sym, ap, ◌∙◌, arith, rules, length-append}
 use Rattle.std.specs.List.{slice_get}
 use Rattle.std.specs.Vec.{vec_capacity}

@@ -1,11 +1,11 @@
--- What is known of one bucket of columns.
+-- Facts about one bucket of columns.
 use Rattle.std.proofs.Common.{◌≡◌, ℕ, zero, suc, ◌+◌, ◌*◌, ◌^◌, ◌<◌, ◌≤◌, List, [], ◌∷◌, length, get_or, Option, Some, None, sym, ap, ◌∙◌, subst, arith}
 use Rattle.std.specs.List.{slice_get}
 use Rattle.scc_array.proofs.Counting.{slot-used}
 use Rattle.scc_array.proofs.Windows.{length-windows, window-there}
 use Rattle.scc_array.specs.Windows.{Window, window_of, windows, IsPackedWindow, IsColumns}
 
--- the columns are seen as ws, and i is the number of a bucket
+-- ws are the windows of the columns, and i is the number of a bucket
 module _ {E : Type 0} (rows : List (List ℕ)) (cells : List (Option E)) (kept : IsColumns rows cells) (ws : List (Window E)) (view : windows rows cells ≡ ws) (i : ℕ) (within : i < length ws) where
   abbrev slots : List E
   slots = (window_of ws i).slots
@@ -19,7 +19,7 @@ module _ {E : Type 0} (rows : List (List ℕ)) (cells : List (Option E)) (kept :
   pub row-wide : length (get_or rows i []) ≡ 32
   row-wide = kept.lanes i row-within
 
-  -- a place of the bucket is one of the column
+  -- each slot of the bucket has a cell in the column
   pub slot-within : (j : ℕ) → j < 32 → 32 * i + j < length cells
   slot-within j h = let n = kept.sized in let l = row-within in omega arith
 
@@ -33,7 +33,7 @@ module _ {E : Type 0} (rows : List (List ℕ)) (cells : List (Option E)) (kept :
     pub entry-there : (x : E) → get_or cells (32 * i + j) None ≡ Some x → slice_get slots j ≡ Some x
     entry-there x e = let m = packed-there.most in sym (packed-there.cells_are j (omega arith)) ∙ e
 
--- a row that was read
+-- a row that was read is the row at i
 pub row-read : (rows : List (List ℕ)) (i : ℕ) (row : List ℕ) → i < length rows → row ≡ get_or rows i row → get_or rows i [] ≡ row
 row-read [] i row h e = absurd (omega arith)
 row-read (r ∷ rows) zero row h e = sym e

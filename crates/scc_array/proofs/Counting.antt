@@ -1,4 +1,4 @@
--- How many places a row of tags says are in use, and which of them have a tag.
+-- How many slots are in use by a row of tags, and which slots have a given tag.
 use Rattle.std.proofs.Common.{◌≡◌, ◌==◌, ℕ, zero, suc, ◌+◌, ◌*◌, ◌<◌, ◌≤◌, Bool, true, false, cond, List, [], length, map, get_or, Option, Some, None, refl, sym, ap, ◌∙◌, subst, arith, eq-eqb}
 use Rattle.std.proofs.lemmas.Bool.{eqb-true}
 use Rattle.std.proofs.lemmas.List.{get_or-map, length-map, get_or_past}
@@ -14,7 +14,7 @@ use Rattle.scc_array.specs.Windows.{tag_there, IsPackedWindow}
 abbrev pub same_mask : ℕ → List ℕ → ℕ
 same_mask t row = mask_l (map (λ x. x == t) row)
 
--- the bit of a lane
+-- the bit of a lane is 1 if its tag is equal to t, and 0 otherwise
 pub lane-bit : (t : ℕ) (row : List ℕ) (j : ℕ) → j < length row → bit_at (same_mask t row) j ≡ cond (get_or row j 0 == t) 1 0
 lane-bit t row j h = bit_mask_l (map (λ x. x == t) row) j ∙ ap (λ b. cond b 1 0) (get_or-map (λ x. x == t) row j 0 false h)
 
@@ -66,7 +66,7 @@ module _ {E : Type 0} (rows : List (List ℕ)) (cells : List (Option E)) (i : �
   pub tag-free : (j : ℕ) → length xs ≤ j → j < 32 → get_or row j 0 ≡ 0
   tag-free j h l = let n = p.same in tag-none (get_or row j 0) (p.tags_are j l ∙ get-past ts j (omega arith))
 
-  -- a lane with a tag that isn't 0 is that of an entry
+  -- a lane whose tag isn't 0 belongs to an entry
   pub tag-entry : (j t : ℕ) → 0 < t → j < 32 → get_or row j 0 ≡ t → slice_get ts j ≡ Some t
   tag-entry j t h l e = sym (p.tags_are j l) ∙ ap tag_there e ∙ tag-there t h
 

@@ -1,4 +1,4 @@
--- Columns of which no bucket has an entry.
+-- Columns whose buckets have no entries.
 use Rattle.std.proofs.Common.{◌≡◌, ◌≢◌, zero, suc, ℕ, ◌+◌, ◌*◌, ◌/◌, ◌%◌, ◌<◌, List, [], length, get_or, Option, Some, None, refl, sym, ap, ◌∙◌, arith}
 use Rattle.std.proofs.lemmas.List.{get_or_past}
 use Rattle.std.specs.List.{slice_get}
@@ -43,7 +43,7 @@ module _ {E : Type 0} (rows : List (List ℕ)) (cells : List (Option E)) (kept :
   packed : IsPackedWindow rows cells i (window_at rows cells i).slots (window_at rows cells i).tags
   packed = let s = kept.sized in let e = split-slot p in kept.packed i (omega arith)
 
-  -- a place whose tag isn't 0 holds an entry, any other nothing
+  -- a slot whose tag isn't 0 holds an entry; any other slot is free
   pub used-filled : tag ≢ 0 → (x : E) × (get_or cells p None ≡ Some x)
   used-filled h =
       let w = window_at rows cells i in let t = nonzero-tag tag h in

@@ -1,4 +1,4 @@
--- Columns in which all places are free.
+-- Columns in which all slots are free.
 use Rattle.std.proofs.Common.{◌≡◌, ℕ, ◌+◌, ◌*◌, ◌^◌, ◌<◌, ◌≤◌, List, [], length, get_or, replicate, Option, None, refl, sym, ap, ◌∙◌, subst, arith}
 use Rattle.std.proofs.lemmas.List.{ext_get_or, get_or-replicate, length-replicate}
 use Rattle.scc_array.proofs.Windows.{windows-are, columns-are}
@@ -10,7 +10,7 @@ blank = replicate 32 0
 abbrev pub rows : ℕ → List (List ℕ)
 rows n = replicate n blank
 
--- a row of zeros, cloned
+-- a clone of a row of zeros is equal to that row
 pub blank-cloned : (y : List ℕ) → length y ≡ 32 → ((i : ℕ) → i < 32 → get_or y i 0 ≡ get_or blank i 0) → y ≡ blank
 blank-cloned y long each = ext_get_or 0 y blank long (λ i h. each i (omega arith))
 

@@ -23,7 +23,7 @@ module _ {X : Type 0} (p : X → Bool) where
   pub slot-below : (xs : List X) (i : ℕ) → position p xs ≡ Some i → i < length xs
   slot-below xs i e = omega (arith, first-below xs i e, first-slot xs i e)
 
-  -- it stands at the first place that passes
+  -- `find` returns the element at the first index that passes
   pub find-position : (xs : List X) (i : ℕ) → position p xs ≡ Some i → find p xs ≡ slice_get xs i
   find-position xs i e = find_at p xs ∙ ap (slice_get xs) (first-slot xs i e)
 
@@ -33,7 +33,7 @@ module _ {X : Type 0} (p : X → Bool) where
     | no q ↦ find_at p xs ∙ get-past xs (position_or_len p xs) (omega arith)
   ]
 
-  -- there is none where no element passes
+  -- `find` returns `None` if no element passes
   pub find-none : (xs : List X) → ((k : ℕ) (x : X) → slice_get xs k ≡ Some x → p x ≡ true → ⊥) → find p xs ≡ None
   find-none [] f = refl
   find-none (x ∷ xs) f = elim (true-or-false (p x)) [
@@ -41,7 +41,7 @@ module _ {X : Type 0} (p : X → Bool) where
     | inr h ↦ rw h (find-none xs (λ k y e. f (suc k) y e))
   ]
 
-  -- a part that keeps all that pass has the same first one
+  -- if a filter keeps all elements that pass, the first of them is unchanged
   pub find-filter : (q : X → Bool) → ((x : X) → p x ≡ true → q x ≡ true) → (xs : List X) → find p (filter q xs) ≡ find p xs
   find-filter q f [] = refl
   find-filter q f (x ∷ xs) = elim (true-or-false (p x)) [
@@ -62,7 +62,7 @@ module _ {X Y : Type 0} (p : Y → Bool) (f : X → List Y) (d : X) where
   find-flat_none (x ∷ xs) n =
       find-append p (f x) (flat_map f xs) ∙ ap (λ o. option_or o (find p (flat_map f xs))) (n 0 (omega arith)) ∙ find-flat_none xs (λ j l. n (suc j) (omega arith))
 
-  -- where one list alone can have an element that passes, the first among all is the first there
+  -- if only list i can have an element that passes, the first of all lists is the first of list i
   pub find-flat : (xs : List X) (i : ℕ) → i < length xs → ((j : ℕ) → j < length xs → j ≢ i → find p (f (get_or xs j d)) ≡ None) → find p (flat_map f xs) ≡ find p (f (get_or xs i d))
   find-flat [] i l n = absurd (omega arith)
   find-flat (x ∷ xs) zero l n =

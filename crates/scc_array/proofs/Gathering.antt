@@ -11,7 +11,7 @@ pub gather-suc : {X : Type 0} (f : ℕ → Option X) (n : ℕ) → gather f (suc
 unfolding gather
 gather-suc f n = elim (f 0) as (λ o. elim o as (λ _. List _) [ None ↦ [] | Some x ↦ x ∷ gather (λ j. f (suc j)) n ] ≡ joined o (gather (λ j. f (suc j)) n)) [ None ↦ refl | Some x ↦ refl ]
 
--- a function that goes on as a list does has its elements
+-- a function that agrees with a list gathers the elements of the list
 pub gather-is : {X : Type 0} (f : ℕ → Option X) (n : ℕ) (xs : List X) → length xs ≤ n → ((j : ℕ) → j < n → f j ≡ slice_get xs j) → gather f n ≡ xs
 unfolding gather
 gather-is f zero [] h e = refl

@@ -1,4 +1,4 @@
--- A changed list, seen at one place.
+-- The element at one index of a changed list.
 use Rattle.std.proofs.Common.{◌≡◌, ◌≢◌, ℕ, zero, suc, ◌-◌, ◌<◌, ◌≤◌, List, [], ◌∷◌, ◌++◌, length, take, set, get_or, Some, None, refl, sym, ap, ◌∙◌, arith, length-set}
 use Rattle.std.specs.List.{slice_get, swap_remove, remove}
 
@@ -23,7 +23,7 @@ module _ {X : Type 0} where
   get-here (x ∷ xs) zero d h = refl
   get-here (x ∷ xs) (suc i) d h = get-here xs i d (omega arith)
 
-  -- an element at the end
+  -- the index of an appended element is the length of the list before
   pub get-end : (xs : List X) (x : X) (i : ℕ) → i ≡ length xs → slice_get (xs ++ x ∷ []) i ≡ Some x
   get-end [] x zero e = refl
   get-end [] x (suc i) e = absurd (omega arith)
@@ -59,7 +59,7 @@ module _ {X : Type 0} where
   length-take_all (suc n) [] h = absurd (omega arith)
   length-take_all (suc n) (x ∷ xs) h = ap suc (length-take_all n xs (omega arith))
 
-  -- the last element comes to the place of the one that goes
+  -- the last element takes the place of the removed element
   module _ (xs : List X) (i : ℕ) (d : X) (h : i < length xs) where
     abbrev last : ℕ
     last = length xs - 1
@@ -86,7 +86,7 @@ module _ {X : Type 0} where
   get-is (y ∷ xs) zero x d e = let s : y ≡ x = cc in sym s
   get-is (y ∷ xs) (suc i) x d e = get-is xs i x d e
 
-  -- the elements after the one that goes move up
+  -- the elements after the removed element move up
   pub get-removed_before : (xs : List X) (i j : ℕ) → j < i → slice_get (remove xs i) j ≡ slice_get xs j
   get-removed_before [] zero j h = refl
   get-removed_before [] (suc i) j h = refl

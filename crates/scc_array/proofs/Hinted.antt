@@ -1,4 +1,4 @@
--- An entry of a part is one of the whole.
+-- An entry that passes in a part also passes in the whole.
 use Rattle.std.proofs.Common.{◌≡◌, ℕ, zero, suc, ◌+◌, ◌<◌, Bool, true, Option, Some, None, List, [], ◌∷◌, ◌++◌, length, get_or, refl, sym, ap, ◌∙◌, subst, inl, inr, arith}
 use Rattle.std.specs.List.{find, flat_map, slice_get}
 use Rattle.scc_array.proofs.Joined.{true-or-false}
@@ -15,7 +15,7 @@ get-right (z ∷ xs) ys j x h =
     let same : suc (length xs + j) ≡ suc (length xs) + j = omega arith in
     subst (λ n. slice_get (z ∷ (xs ++ ys)) n ≡ Some x) same (get-right xs ys j x h)
 
--- of a list that the same list begins, with more behind it
+-- an entry that passes in a list also passes in an equal list with more elements behind it
 pub moved : {X : Type 0} (p : X → Bool) {xs zs : List X} {x : X} → xs ≡ zs → (ys : List X) → IsPassing p xs x → IsPassing p (zs ++ ys) x
 moved p {xs} {zs} {x} same ys r = record { passes = r.passes; slot = (r.slot.0, get-left zs ys r.slot.0 x (ap (λ l. slice_get l r.slot.0) (sym same) ∙ r.slot.1)) }
 
@@ -24,15 +24,15 @@ slot-flat f d [] i j y h l = absurd (omega arith)
 slot-flat f d (x ∷ xs) zero j y h l = (j, get-left (f x) (flat_map f xs) j y h)
 slot-flat f d (x ∷ xs) (suc i) j y h l = let r = slot-flat f d xs i j y h (omega arith) in (length (f x) + r.0, get-right (f x) (flat_map f xs) r.0 y r.1)
 
--- of one list of several
+-- an entry that passes in one list also passes in the joined lists
 pub passing-flat : {X Y : Type 0} (p : Y → Bool) (f : X → List Y) (d : X) (xs : List X) (i : ℕ) (y : Y) → IsPassing p (f (get_or xs i d)) y → i < length xs → IsPassing p (flat_map f xs) y
 passing-flat p f d xs i y r l = record { passes = r.passes; slot = slot-flat f d xs i r.slot.0 y r.slot.1 l }
 
--- of a list with more before it
+-- an entry that passes in a list also passes in the list with more elements before it
 pub behind : {X : Type 0} (p : X → Bool) (xs : List X) {ys : List X} {x : X} → IsPassing p ys x → IsPassing p (xs ++ ys) x
 behind p xs {ys} {x} r = record { passes = r.passes; slot = (length xs + r.slot.0, get-right xs ys r.slot.0 x r.slot.1) }
 
--- the first that passes
+-- the element that `find` returns passes
 pub found-passing : {X : Type 0} (p : X → Bool) (xs : List X) (x : X) → find p xs ≡ Some x → IsPassing p xs x
 found-passing p [] x h = absurd (let s : None ≡ Some x = h in cc)
 found-passing p (z ∷ xs) x h = elim (true-or-false (p z)) [

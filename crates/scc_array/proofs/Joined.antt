@@ -1,4 +1,4 @@
--- Two lists end to end: what stands in them, and where the first element that passes does.
+-- Two lists end to end: their elements, and the index of the first element that passes.
 use Rattle.std.proofs.Common.{◌≡◌, ℕ, suc, ◌+◌, ◌≤◌, ◌⊎◌, Bool, true, false, List, [], ◌∷◌, ◌++◌, length, Option, Some, None, nat_lt, refl, sym, ap, ◌∙◌, inl, inr, arith, rules}
 use Rattle.std.specs.List.{slice_get, position, position_or_len}
 use Rattle.std.specs.Option.{option_map}
@@ -6,7 +6,7 @@ use native.Mathlib.Decide.{dec_lt}
 use Rattle.scc_array.proofs.ListsLemmas.{get-right}
 use Rattle.scc_array.proofs.Search.{position_is, found, none_by}
 
--- the place in the first list, or the one in the second list, n further on
+-- the index in the first list, or n plus the index in the second list
 abbrev pub or_later : Option ℕ → ℕ → Option ℕ → Option ℕ
 or_later (Some i) n o = Some i
 or_later None n o = option_map (λ k. n + k) o

@@ -1,4 +1,4 @@
--- An entry at the end of the list past the places of a bucket.
+-- A push to the overflow list of a bucket.
 use Rattle.std.proofs.Common.{◌≡◌, ℕ, ◌+◌, ◌<◌, ◌≤◌, List, [], ◌∷◌, ◌++◌, length, set, Result, Ok, Err, refl, sym, ap, ◌∙◌, arith}
 use Rattle.std.specs.Prelude.{IfOk, IfErr, OnErr, slice_get}
 use Rattle.std.specs.Vec.{vec_capacity}
@@ -41,14 +41,14 @@ module _ {E A : Type 0} (ws : List (Window E)) (os ds : List (Vec E A)) (bs : Li
         let l : length u.items ≡ length (shelf_of bs b).overflow = ap length (list-is ws ds bs now b within u entry_count) in
         omega arith
 
--- no list has room for anything where there are none
+-- if there are no lists, no overflow list has room
 pub bare-refused : {E A : Type 0} (ws : List (Window E)) (os : List (Vec E A)) (bs : List (Shelf E)) (view : shelves ws os ≡ bs) (b : ℕ) (within : b < length bs) → length os ≡ 0 → (shelf_of bs b).room ≤ length (shelf_of bs b).overflow
 bare-refused ws os bs view b within none =
     let z : list_room (slice_get os b) ≡ 0 = ap (λ l. list_room (slice_get l b)) (empty-list os none) in
     let r : list_room (slice_get os b) ≡ (shelf_of bs b).room = ap (λ (s : Shelf _). s.room) (sym (shelf-is ws os bs view b within)) in
     omega arith
 
--- a fact beside two others
+-- adds a third fact to two facts about an error
 pub and-third : {X Y : Type 0} (r : Result X Y) (A B : Y → Type 0) (C : Type 0) → C → IfErr r (λ y. A y × B y) → IfErr r (λ y. A y × B y × C)
 and-third (Ok x) A B C c h = tt
 and-third (Err y) A B C c h = (h.0, h.1, c)

@@ -1,4 +1,4 @@
--- A list, and two joined end to end, seen at one place.
+-- The element at one index of a list, and of two lists joined end to end.
 use Rattle.std.proofs.Common.{◌≡◌, ℕ, zero, suc, ◌+◌, ◌<◌, List, [], ◌∷◌, ◌++◌, length, get_or, sym, ap, ◌∙◌, arith, None, Some}
 use Rattle.std.specs.List.{slice_get}
 

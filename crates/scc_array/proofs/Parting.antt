@@ -1,4 +1,4 @@
--- A row whose entries are parted by flags: those that stay close their ranks, one after the other.
+-- A row whose entries are parted by flags: the entries that stay close their ranks, one after the other.
 use Rattle.std.proofs.Common.{◌≡◌, ◌≢◌, ℕ, zero, suc, ◌+◌, ◌<◌, ◌≤◌, Bool, true, false, cond, List, [], ◌∷◌, ◌++◌, length, set, take, get_or, ◌*◌, ◌⊎◌, Option, Some, None, refl, sym, ap, ◌∙◌, inl, inr, arith, length-append, append_assoc, subst}
 use Rattle.std.proofs.lemmas.List.{get_or-set_same, get_or-set_other, set-set}
 use Rattle.std.specs.List.{slice_get}
@@ -10,7 +10,7 @@ use Rattle.scc_array.specs.Sifts.{picked, unflagged, picked_of, unflagged_of, wi
 use Rattle.scc_array.specs.Windows.{Window, empty_window, window_of, windows, pushed, tag_there, IsPackedWindow, IsColumns}
 
 module _ {X : Type 0} where
-  -- the flags up to one more place, whose flag is up
+  -- one more element whose flag is up is picked, and is not kept
   pub kept-up : (fs : List Bool) (xs : List X) (n : ℕ) → slice_get fs n ≡ Some true → unflagged (take (suc n) fs) xs ≡ unflagged (take n fs) xs
   kept-up [] xs n e = absurd (let z : None ≡ Some true = e in cc)
   kept-up (f ∷ fs) [] zero e = refl
@@ -24,7 +24,7 @@ module _ {X : Type 0} where
   picked-up (f ∷ fs) (y ∷ xs) zero x e h = let t : f ≡ true = cc in let s : y ≡ x = cc in ap (λ b. cond b (y ∷ []) []) t ∙ ap (λ z. z ∷ []) s
   picked-up (f ∷ fs) (y ∷ xs) (suc n) x e h = ap (λ z. cond f (y ∷ z) z) (picked-up fs xs n x e h) ∙ (elim f as (λ b. cond b (y ∷ (picked (take n fs) xs ++ x ∷ [])) (picked (take n fs) xs ++ x ∷ []) ≡ cond b (y ∷ picked (take n fs) xs) (picked (take n fs) xs) ++ x ∷ []) [ true ↦ refl | false ↦ refl ])
 
-  -- one more place, whose flag is down
+  -- one more element whose flag is down is kept, and is not picked
   pub picked-down : (fs : List Bool) (xs : List X) (n : ℕ) → slice_get fs n ≡ Some false → picked (take (suc n) fs) xs ≡ picked (take n fs) xs
   picked-down [] xs n e = absurd (let z : None ≡ Some false = e in cc)
   picked-down (f ∷ fs) [] zero e = refl
@@ -38,7 +38,7 @@ module _ {X : Type 0} where
   kept-down (f ∷ fs) (y ∷ xs) zero x e h = let t : f ≡ false = cc in let s : y ≡ x = cc in ap (λ b. cond b [] (y ∷ [])) t ∙ ap (λ z. z ∷ []) s
   kept-down (f ∷ fs) (y ∷ xs) (suc n) x e h = ap (λ z. cond f z (y ∷ z)) (kept-down fs xs n x e h) ∙ (elim f as (λ b. cond b (unflagged (take n fs) xs ++ x ∷ []) (y ∷ (unflagged (take n fs) xs ++ x ∷ [])) ≡ cond b (unflagged (take n fs) xs) (y ∷ unflagged (take n fs) xs) ++ x ∷ []) [ true ↦ refl | false ↦ refl ])
 
-  -- flags past the last element say nothing
+  -- flags past the last element change nothing
   pub kept-all : (fs : List Bool) (xs : List X) (n : ℕ) → length xs ≤ n → unflagged (take n fs) xs ≡ unflagged fs xs
   kept-all [] [] zero h = refl
   kept-all [] [] (suc n) h = refl
@@ -73,7 +73,7 @@ module _ {X : Type 0} where
   kept-fewer (f ∷ fs) [] = omega arith
   kept-fewer (f ∷ fs) (x ∷ xs) = let ih = kept-fewer fs xs in elim f as (λ b. length (cond b (unflagged fs xs) (x ∷ unflagged fs xs)) ≤ suc (length xs)) [ true ↦ omega arith | false ↦ omega arith ]
 
--- f0 was seen at the places of a row; now the first n were looked at, and of these ks stayed
+-- f0 is the row at first, f is the row now: the first n slots were looked at, and the elements ks of them stayed
 pub record Middle {X : Type 0} (f0 f : ℕ → Option X) (ks : List X) (n : ℕ) : Type 0 where
   pub low : (j : ℕ) → j < length ks → f j ≡ slice_get ks j
   pub hole : (j : ℕ) → length ks ≤ j → j < n → f j ≡ None
@@ -85,7 +85,7 @@ module _ {X : Type 0} where
   middle-start f = record { low = λ j l. absurd (omega arith); hole = λ j a b. absurd (omega arith); high = λ j a b. refl; short = omega arith }
 
   module _ (f0 f : ℕ → Option X) (ks : List X) (n : ℕ) (m : Middle f0 f ks n) where
-    -- the place n is free now
+    -- slot n is free now
     pub middle-out : (g : ℕ → Option X) → n < 32 → g n ≡ None → ((j : ℕ) → j ≢ n → g j ≡ f j) → Middle f0 g ks (n + 1)
     middle-out g within gone others = let s = m.short in record {
       low = λ j l. others j (λ e. omega arith) ∙ m.low j l;
@@ -94,7 +94,7 @@ module _ {X : Type 0} where
       short = omega arith;
     }
 
-    -- what stood at the place n stands behind those that stayed
+    -- the element of slot n stands behind those that stayed
     pub middle-stay : (g : ℕ → Option X) (x : X) → n < 32 → f0 n ≡ Some x → g (length ks) ≡ f n → (n ≢ length ks → g n ≡ None) → ((j : ℕ) → j ≢ n → j ≢ length ks → g j ≡ f j) → Middle f0 g (ks ++ x ∷ []) (n + 1)
     middle-stay g x within was there gone others =
         let s = m.short in
@@ -109,7 +109,7 @@ module _ {X : Type 0} where
           short = omega arith;
         }
 
-    -- nothing stood past the places that were looked at
+    -- the slots past those that were looked at are empty
     pub middle-end : ((j : ℕ) → n ≤ j → j < 32 → f0 j ≡ None) → (j : ℕ) → j < 32 → f j ≡ slice_get ks j
     middle-end none j l = elim (dec_lt j (length ks)) [
       | yes h ↦ m.low j h
@@ -125,7 +125,7 @@ place_view cells base j = get_or cells (base + j) None
 abbrev pub tag_view : List ℕ → ℕ → Option ℕ
 tag_view row j = tag_there (get_or row j 0)
 
--- p entries of the bucket w were looked at: so many stay, and the others stand at the end of a bucket of ws, whose next place is known
+-- p entries of w were looked at: `stays` stay, and the others stand in bucket `target` of ws, whose next slot is `next`
 pub record Sifts {E : Type 0} (fs : List Bool) (base target first : ℕ) (w : Window E) (ws : List (Window E)) (places0 cells : List (Option E)) (row0 row : List ℕ) (into : List (Window E)) (p stays next : ℕ) : Type 0 where
   pub cells_are : Middle (place_view places0 base) (place_view cells base) (unflagged (take p fs) w.slots) p
   pub tags_are : Middle (tag_view row0) (tag_view row) (unflagged (take p fs) w.tags) p
@@ -152,7 +152,7 @@ module _ {E : Type 0} (fs : List Bool) (base target first : ℕ) (w : Window E) 
     one_more : take (p + 1) fs ≡ take (suc p) fs
     one_more = let e : p + 1 ≡ suc p = omega arith in ap (λ m. take m fs) e
 
-    -- its flag is up
+    -- the flag of entry p is up
     pub sifts-out : slice_get fs p ≡ Some true → base + p < length cells → p < length row → target < length ws → (e : E) → get_or cells (base + p) None ≡ Some e → (later : List (Window E))
         → later ≡ set into target (pushed (window_of into target) e (get_or row p 0)) → Sifts fs base target first w ws places0 (set cells (base + p) None) row0 (set row p 0) later (p + 1) stays (next + 1)
     sifts-out up lp lr lt e was later put =
@@ -179,7 +179,7 @@ module _ {E : Type 0} (fs : List Bool) (base target first : ℕ) (w : Window E) 
           all = let a = s.all in omega arith;
         }
 
-  -- all were looked at
+  -- all entries were looked at
   module _ (h : length w.slots ≤ p) where
     none-past : (j : ℕ) → p ≤ j → j < 32 → place_view places0 base j ≡ None
     none-past j a b = at.cells_are j b ∙ get-past w.slots j (omega arith)
@@ -205,7 +205,7 @@ module _ {E : Type 0} (fs : List Bool) (base target first : ℕ) (w : Window E) 
         s.moved ∙ ap (λ (z : List E). set ws target (let r : Window E = record { slots = (window_of ws target).slots ++ z; tags = (window_of ws target).tags ++ picked (take p fs) w.tags } in r)) (picked-all fs w.slots p h)
         ∙ ap (λ (z : List ℕ). set ws target (let r : Window E = record { slots = (window_of ws target).slots ++ picked fs w.slots; tags = (window_of ws target).tags ++ z } in r)) (picked-all fs w.tags p (omega arith))
 
--- the bucket b of columns is seen in its places and its row
+-- bucket b of the columns is read from its cells and its row of tags
 pub packed-at : {E : Type 0} (rows : List (List ℕ)) (cells : List (Option E)) (b : ℕ) (w : Window E) (row : List ℕ) → IsPackedWindow rows cells b w.slots w.tags → get_or rows b [] ≡ row → AreAt cells row (32 * b) w
 packed-at rows cells b w row p e = record { cells_are = p.cells_are; tags_are = λ j h. ap (λ (r : List ℕ). tag_view r j) (sym e) ∙ p.tags_are j h; most = p.most; same = p.same }
 

@@ -1,4 +1,4 @@
--- A row whose entries are parted by flags, on the way: first those whose flag is up are taken out, by the bits of a mask, and then the others close their ranks.
+-- A row whose entries are parted by flags: a mask's bits take out those whose flag is up, then the others close their ranks.
 use Rattle.std.proofs.Common.{◌≡◌, ◌≢◌, ℕ, zero, suc, ◌+◌, ◌<◌, ◌≤◌, ◌^◌, bit_and, Bool, true, false, cond, List, [], ◌∷◌, ◌++◌, length, map, set, take, get_or, Option, Some, None, refl, sym, ap, ◌∙◌, inl, inr, arith, length-append, append-nil, append_assoc, subst, ◌==◌}
 use Rattle.std.proofs.lemmas.List.{get_or-set_same, get_or-set_other, set-get_or, set-set, length-map}
 use Rattle.std.proofs.lemmas.Nat.Bits.{bit_at_and, bit_at_not, bit_at-lt, bit_at-zero, bit_at_above}
@@ -14,13 +14,13 @@ use Rattle.scc_array.proofs.Windows.{same_or_not}
 use Rattle.scc_array.specs.Sifts.{picked, unflagged, picked_of, unflagged_of, left_at, window_with, AreAt, AreUnflagged, AreLeft, MovesCell}
 use Rattle.scc_array.specs.Windows.{Window, empty_window, window_of, pushed, tag_there}
 
--- a flag that is up is there
+-- a flag that is up is in the list of flags
 pub get-up : (fs : List Bool) (k : ℕ) → get_or fs k false ≡ true → slice_get fs k ≡ Some true
 get-up [] k e = absurd (let z : false ≡ true = e in cc)
 get-up (f ∷ fs) zero e = ap Some e
 get-up (f ∷ fs) (suc k) e = get-up fs k e
 
--- so is one that is down, among so many
+-- a flag that is down is in the list of flags if its index is below their number
 pub get-down : (fs : List Bool) (k : ℕ) → k < length fs → get_or fs k false ≡ false → slice_get fs k ≡ Some false
 get-down [] k l e = absurd (omega arith)
 get-down (f ∷ fs) zero l e = ap Some e
@@ -40,7 +40,7 @@ module _ {X : Type 0} where
   picked-skip (f ∷ fs) [] (suc n) (suc b) l h = refl
   picked-skip (f ∷ fs) (x ∷ xs) (suc n) (suc b) l h = ap (λ z. cond f (x ∷ z) z) (picked-skip fs xs n b (omega arith) (λ k a z. h (suc k) (omega arith) (omega arith)))
 
-  -- and where all later ones are, no more is picked
+  -- if all flags from n on are down, no more elements are picked
   pub picked-end : (fs : List Bool) (xs : List X) (n : ℕ) → ((k : ℕ) → n ≤ k → k < length xs → get_or fs k false ≡ false) → picked (take n fs) xs ≡ picked fs xs
   picked-end [] xs zero h = refl
   picked-end [] xs (suc n) h = refl
@@ -70,7 +70,7 @@ module _ {X : Type 0} where
   kept-end (f ∷ fs) (x ∷ xs) zero h = sym (ap (λ c. cond c (unflagged fs xs) (x ∷ unflagged fs xs)) (h 0 (omega arith) (omega arith)) ∙ sym (kept-end fs xs zero (λ k a z. h (suc k) (omega arith) (omega arith))))
   kept-end (f ∷ fs) (x ∷ xs) (suc n) h = ap (λ z. cond f z (x ∷ z)) (kept-end fs xs n (λ k a z. h (suc k) (omega arith) (omega arith)))
 
-  -- what is left where a flag is up, and where it is down
+  -- an element is left if its flag is down, and is gone if its flag is up
   pub left-up : (fs : List Bool) (xs : List X) (j : ℕ) → get_or fs j false ≡ true → left_at fs xs j ≡ None
   left-up fs xs j e = ap (λ c. cond c None (slice_get xs j)) e
 
@@ -80,7 +80,7 @@ module _ {X : Type 0} where
   pub left-past : (fs : List Bool) (xs : List X) (j : ℕ) → length xs ≤ j → left_at fs xs j ≡ None
   left-past fs xs j l = ap (λ (o : Option X). cond (get_or fs j false) None o) (get-past xs j l) ∙ (elim (get_or fs j false) as (λ c. ◌≡◌ {A = Option X} (cond c None None) None) [ true ↦ refl | false ↦ refl ])
 
--- the first flags
+-- `take` keeps the first n flags
 pub take-below : (fs : List Bool) (n j : ℕ) → j < n → get_or (take n fs) j false ≡ get_or fs j false
 take-below [] zero j l = refl
 take-below [] (suc n) j l = refl
@@ -96,7 +96,7 @@ take-above (f ∷ fs) (suc n) zero l = absurd (omega arith)
 take-above (f ∷ fs) (suc n) (suc j) l = take-above fs n j (omega arith)
 
 module _ {X : Type 0} (fs : List Bool) (xs : List X) where
-  -- one more is out
+  -- if one more element is taken out, the other indices are unchanged
   pub left-out : (n b : ℕ) → n ≤ b → ((k : ℕ) → n ≤ k → k < b → get_or fs k false ≡ false) → (j : ℕ) → j ≢ b → left_at (take (b + 1) fs) xs j ≡ left_at (take n fs) xs j
   left-out n b l h j ne = ap (λ c. cond c None (slice_get xs j)) (elim (dec_lt j n) [
     | yes a ↦ take-below fs (b + 1) j (omega arith) ∙ sym (take-below fs n j a)
@@ -106,7 +106,7 @@ module _ {X : Type 0} (fs : List Bool) (xs : List X) where
     ]
   ])
 
-  -- all that are to come out are
+  -- if all flags from n on are down, all elements whose flag is up are taken out already
   pub left-end : (n : ℕ) → ((k : ℕ) → n ≤ k → k < length xs → get_or fs k false ≡ false) → (j : ℕ) → left_at (take n fs) xs j ≡ left_at fs xs j
   left-end n h j = elim (dec_lt j n) [
     | yes a ↦ ap (λ c. cond c None (slice_get xs j)) (take-below fs n j a)
@@ -142,7 +142,7 @@ not-small n = omega arith
 flags-small : (fs : List Bool) → length fs ≡ 32 → mask_l fs < 2 ^ 32
 flags-small fs wide = let m = mask_l-lt fs in rw wide at m
 
--- of the bucket w those before place n whose flag is up stand at the end of a bucket of ws, and each bit that is left is one that is to come
+-- the flagged entries of w before slot n stand at the end of bucket `target` of ws; each bit is an entry still to be taken out
 pub record Picks {E : Type 0} (fs : List Bool) (base target first : ℕ) (w : Window E) (ws : List (Window E)) (cells : List (Option E)) (row : List ℕ) (into : List (Window E)) (bits next : ℕ) : Type 0 where
   pub n : ℕ
   pub cells_are : (j : ℕ) → j < 32 → place_view cells base j ≡ left_at (take n fs) w.slots j
@@ -169,7 +169,7 @@ window-with_none v ss ts a b =
     ap (λ (z : List _). let r : Window _ = record { slots = z; tags = v.tags ++ ts } in r) (ap (λ z. v.slots ++ z) a ∙ append-nil v.slots)
     ∙ ap (λ (z : List ℕ). let r : Window _ = record { slots = v.slots; tags = z } in r) (ap (λ z. v.tags ++ z) b ∙ append-nil v.tags)
 
--- as many as there are flags, at most
+-- the first n flags pick at most n elements
 picked-first : {X : Type 0} (fs : List Bool) (xs : List X) (n : ℕ) → length (picked (take n fs) xs) ≤ n
 picked-first [] xs zero = omega arith
 picked-first [] xs (suc n) = omega arith
@@ -178,7 +178,7 @@ picked-first (f ∷ fs) [] (suc n) = omega arith
 picked-first (f ∷ fs) (x ∷ xs) (suc n) = let ih = picked-first fs xs n in elim f as (λ b. length (cond b (x ∷ picked (take n fs) xs) (picked (take n fs) xs)) ≤ suc n) [ true ↦ omega arith | false ↦ omega arith ]
 
 module _ {E : Type 0} (fs : List Bool) (base target : ℕ) (w : Window E) (ws : List (Window E)) where
-  -- nothing is out at first
+  -- at first no entry is taken out
   pub picks-start : (first : ℕ) (cells : List (Option E)) (row : List ℕ) (bits : ℕ) → first ≡ length (window_of ws target).slots → AreAt cells row base w
       → ((k : ℕ) → k < length w.slots → get_or fs k false ≡ true → bit_at bits k ≡ 1) → ((k : ℕ) → bit_at bits k ≡ 1 → (k < length w.slots) × (get_or fs k false ≡ true))
       → Picks fs base target first w ws cells row ws bits first
@@ -193,7 +193,7 @@ module _ {E : Type 0} (fs : List Bool) (base target : ℕ) (w : Window E) (ws : 
   }
 
   module _ (first : ℕ) (same : length w.tags ≡ length w.slots) (most : length w.slots ≤ 32) (cells : List (Option E)) (row : List ℕ) (into : List (Window E)) (bits next : ℕ) (s : Picks fs base target first w ws cells row into bits next) where
-    -- the entry of a bit
+    -- the entry at p, if bit p is set
     module _ (p : ℕ) (set_there : bit_at bits p ≡ 1) where
       here : (s.n ≤ p) × (p < length w.slots) × (get_or fs p false ≡ true)
       here = s.only p set_there
@@ -221,7 +221,7 @@ module _ {E : Type 0} (fs : List Bool) (base target : ℕ) (w : Window E) (ws : 
           let l = picked-first fs w.slots s.n in
           omega arith
 
-      -- the first bit that is left comes out
+      -- the entry of the lowest bit is taken out
       pub picks-out : ((k : ℕ) → bit_at bits k ≡ 1 → p ≤ k) → base + p < length cells → p < length row → target < length ws → (e : E) → get_or cells (base + p) None ≡ Some e → (later : List (Window E))
           → later ≡ set into target (pushed (window_of into target) e (get_or row p 0)) → (rest : ℕ) → ((k : ℕ) → bit_at bits k ≡ 1 → k ≢ p → bit_at rest k ≡ 1) → ((k : ℕ) → bit_at rest k ≡ 1 → (bit_at bits k ≡ 1) × (k ≢ p))
           → Picks fs base target first w ws (set cells (base + p) None) (set row p 0) later rest (next + 1)
@@ -276,7 +276,7 @@ module _ {E : Type 0} (fs : List Bool) (base target : ℕ) (w : Window E) (ws : 
           s.moved ∙ ap (λ (z : List E). set ws target (let r : Window E = record { slots = (window_of ws target).slots ++ z; tags = (window_of ws target).tags ++ picked (take s.n fs) w.tags } in r)) (picked-end fs w.slots s.n rest-down)
           ∙ ap (λ (z : List ℕ). set ws target (let r : Window E = record { slots = (window_of ws target).slots ++ picked fs w.slots; tags = (window_of ws target).tags ++ z } in r)) (picked-end fs w.tags s.n (λ k a z. rest-down k a (omega arith)))
 
--- of those that were left, the ones before place n stand in the first places, and each bit that is left is one that is to move
+-- the unflagged entries of w before slot n stand in the first slots; each bit is an entry still to move
 pub record Ranks {E : Type 0} (fs : List Bool) (base : ℕ) (w : Window E) (places0 cells : List (Option E)) (row0 row : List ℕ) (bits stays : ℕ) : Type 0 where
   pub n : ℕ
   pub cells_are : Middle (place_view places0 base) (place_view cells base) (unflagged (take n fs) w.slots) n
@@ -289,7 +289,7 @@ kept-none : {X : Type 0} (fs : List Bool) (xs : List X) → unflagged (take 0 fs
 kept-none [] xs = refl
 kept-none (f ∷ fs) xs = refl
 
--- places that hold nothing are passed
+-- empty slots are skipped
 middle-skip : {X : Type 0} (f0 f : ℕ → Option X) (ks : List X) (n b : ℕ) → n ≤ b → b ≤ 32 → ((k : ℕ) → n ≤ k → k < b → f0 k ≡ None) → Middle f0 f ks n → Middle f0 f ks b
 middle-skip f0 f ks n b e l none m = let s = m.short in record {
   low = m.low;
@@ -331,7 +331,7 @@ module _ {E : Type 0} (fs : List Bool) (base : ℕ) (w : Window E) (places0 : Li
           let h = stands in let n = left.same in let g = get-some w.tags p (omega arith) in
           (g.0, left.tags_are p ranks-within.0 ∙ left-down fs w.tags p h.2 ∙ g.1, g.1)
 
-      -- the place for it is free, where it is another one
+      -- if the entry moves to another slot, that slot is free
       pub ranks-free : stays < p → get_or cells (base + stays) None ≡ None
       ranks-free l =
           let r = ranks-within in let t = s.stayed in
@@ -340,7 +340,7 @@ module _ {E : Type 0} (fs : List Bool) (base : ℕ) (w : Window E) (places0 : Li
             | no y ↦ s.cells_are.high stays (omega arith) (omega arith) ∙ left.cells_are stays (omega arith) ∙ left-up fs w.slots stays (between stays (omega arith) l)
           ]
 
-      -- it moves there
+      -- the entry moves to the slot `stays`
       pub ranks-stay : (places_left : List (Option E)) (row_left : List ℕ) → MovesCell None cells (base + p) (base + stays) places_left → MovesCell 0 row p stays row_left
           → (rest : ℕ) → ((k : ℕ) → bit_at bits k ≡ 1 → k ≢ p → bit_at rest k ≡ 1) → ((k : ℕ) → bit_at rest k ≡ 1 → (bit_at bits k ≡ 1) × (k ≢ p)) → Ranks fs base w places0 places_left row0 row_left rest (stays + 1)
       ranks-stay places_left row_left mp mr rest others only =

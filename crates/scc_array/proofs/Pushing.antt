@@ -1,4 +1,4 @@
--- An entry in the next place of a bucket.
+-- An entry is put into the next slot of a bucket.
 use Rattle.std.proofs.Common.{◌≡◌, ℕ, ◌+◌, ◌*◌, ◌<◌, ◌≤◌, ◌⊎◌, List, [], ◌∷◌, ◌++◌, length, set, get_or, Option, Some, None, sym, ap, ◌∙◌, arith, inl, inr, length-set, length-append}
 use Rattle.std.proofs.lemmas.List.{get_or-set_same, get_or-set_other}
 use Rattle.scc_array.proofs.Counting.{tag-there}

@@ -1,4 +1,4 @@
--- Room in the list past the places of a bucket.
+-- Room in the overflow list of a bucket.
 use Rattle.std.proofs.Common.{◌≡◌, ℕ, zero, suc, ◌+◌, ◌<◌, ◌≤◌, List, ◌∷◌, ◌++◌, [], length, set, nat_lt, Result, Ok, Err, refl, sym, ap, ◌∙◌, inl, inr, arith}
 use Rattle.std.proofs.lemmas.List.{get_or-set_same}
 use Rattle.std.specs.Prelude.{OnOk, slice_get, Some}
@@ -11,7 +11,7 @@ use Rattle.scc_array.specs.Windows.{Window, window_of}
 use Rattle.scc_array.proofs.Joined.{true-or-false}
 use Rattle.scc_array.specs.Shelf.{Shelf, empty_shelf, with_entry}
 
--- the shelf that was put there
+-- the shelf at b is the one that was set there
 pub shelf-put : {E : Type 0} (bs ds : List (Shelf E)) (b : ℕ) (s : Shelf E) → b < length bs → ds ≡ set bs b s → shelf_of ds b ≡ s
 shelf-put bs ds b s h e = ap (λ v. shelf_of v b) e ∙ get_or-set_same bs b s empty_shelf h
 
@@ -45,7 +45,7 @@ module _ {E A : Type 0} (ws : List (Window E)) (ds : List (Vec E A)) (bs : List 
     reserved-room (Ok _) (u, v, entry_count, items, more, room, changed) = let r = grown-room u v entry_count items es changed in let l = grown-list u v entry_count items es changed in omega arith
     reserved-room (Err _) h = tt
 
-  -- an entry that was pushed leaves no less room
+  -- a push doesn't lessen the room of the overflow list
   pub pushed-more : (e : E) (es : List (Vec E A)) (p : ℕ) → Pushes ds b e (Ok p) es → (shelf_of bs b).room ≤ (shelf_of (shelves ws es) b).room
   pushed-more e es p (u, v, entry_count, is, items, more, changed) =
       let seen : shelves ws es ≡ set bs b (record { slots = (shelf_of bs b).slots; tags = (shelf_of bs b).tags; overflow = (shelf_of bs b).overflow ++ e ∷ []; room = vec_capacity v }) =
@@ -55,12 +55,12 @@ module _ {E A : Type 0} (ws : List (Window E)) (ds : List (Vec E A)) (bs : List 
       let r : (shelf_of (shelves ws es) b).room ≡ vec_capacity v = ap (λ (s : Shelf E). s.room) (shelf-put bs (shelves ws es) b _ within seen) in
       let o = room-is ws ds bs view b within u entry_count in omega arith
 
-  -- a list with room refuses nothing
+  -- an overflow list with room doesn't refuse a push
   pub has-room : (e : E) (es : List (Vec E A)) (x : E) → Pushes ds b e (Err x) es → length (shelf_of bs b).overflow < (shelf_of bs b).room → ⊥
   has-room e es x (same, (u, v, entry_count, items, changed, full)) room =
       let o = room-is ws ds bs view b within u entry_count in let l = ap length (list-is ws ds bs view b within u entry_count) in absurd (omega arith)
 
--- there are lists where one has room
+-- if an overflow list has room, there are lists
 pub list-room : {E A : Type 0} (ws : List (Window E)) (os : List (Vec E A)) (bs : List (Shelf E)) (view : shelves ws os ≡ bs) (b : ℕ) (within : b < length bs) → HasListEach ws os → length (shelf_of bs b).overflow < (shelf_of bs b).room → b < length os
 list-room ws os bs view b within kept room =
     list-within ws os bs view b within kept
@@ -77,7 +77,7 @@ set-twice [] (suc i) x y = refl
 set-twice (z ∷ xs) zero x y = refl
 set-twice (z ∷ xs) (suc i) x y = ap (λ w. z ∷ w) (set-twice xs i x y)
 
--- an entry put in after room was made
+-- room that is reserved, and an entry that is put in afterwards, are one change of the bucket
 pub put-after : {E : Type 0} (bs ms ds : List (Shelf E)) (b : ℕ) (within : b < length bs) (r : ℕ) → ms ≡ set bs b (record (shelf_of bs b) { room = r }) → (e f : E) → e ≡ f → (t q : ℕ)
     → ds ≡ set ms b (record (with_entry (shelf_of ms b) e t) { room = q }) → ds ≡ set bs b (record (with_entry (shelf_of bs b) f t) { room = q })
 put-after {E} bs ms ds b within r made e f same t q put =

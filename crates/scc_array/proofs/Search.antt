@@ -1,4 +1,4 @@
--- What a search of a bucket knows on its way.
+-- Facts that a search of a bucket keeps.
 use Rattle.std.proofs.Common.{◌≡◌, ℕ, ◌+◌, ◌-◌, ◌<◌, ◌≤◌, ◌≢◌, ◌==◌, Bool, true, false, List, [], ◌∷◌, ◌++◌, length, take, map, get_or, refl, sym, ap, ◌∙◌, subst, cond, arith, rules, Some, None, nat_lt, length-append, eq-eqb}
 use Rattle.std.specs.Int.{bit_at, trailing_zeros, w32}
 use Rattle.std.specs.List.{position, position_or_len}
@@ -10,7 +10,7 @@ use Rattle.scc_array.specs.Shelf.{Shelf, HasTag}
 use lib.Lanes.{mask_l}
 use native.Mathlib.Decide.{dec_lt}
 
--- each slot whose entry passes p has its bit still set
+-- the bit of each slot whose entry passes p is still set
 pub record HitsLeft {X : Type 0} (p : X → Bool) (xs : List X) (bits : ℕ) : Type 0 where
   pub hits : (j : ℕ) (d : X) → j < length xs → p (get_or xs j d) ≡ true → bit_at bits j ≡ 1
 

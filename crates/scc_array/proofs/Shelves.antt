@@ -24,7 +24,7 @@ module _ {E A : Type 0} (ws : List (Window E)) (os : List (Vec E A)) where
   shelves-are bs n each = ext_get_or empty_shelf (shelves ws os) bs (length-shelves ∙ sym n) (λ i h. let l : i < length ws = let m = length-shelves in omega arith in shelf-there i l ∙ each i l)
 
 module _ {E A : Type 0} (ws : List (Window E)) (os : List (Vec E A)) (b : ℕ) (within : b < length ws) where
-  -- the places of one bucket changed
+  -- a change of one bucket's slots changes one shelf
   pub shelves-window : (w : Window E) → shelves (set ws b w) os ≡ set (shelves ws os) b (record { slots = w.slots; tags = w.tags; overflow = spilled (slice_get os b); room = list_room (slice_get os b) })
   shelves-window w =
       let s : Shelf E = record { slots = w.slots; tags = w.tags; overflow = spilled (slice_get os b); room = list_room (slice_get os b) } in
@@ -38,7 +38,7 @@ module _ {E A : Type 0} (ws : List (Window E)) (os : List (Vec E A)) (b : ℕ) (
             ∙ sym (shelf-there ws os i (omega arith)) ∙ sym (get_or-set_other (shelves ws os) b i s empty_shelf e)
       ])
 
-  -- the list of one bucket changed
+  -- a change of one bucket's overflow list changes one shelf
   pub shelves-list : (v : Vec E A) → b < length os → shelves ws (set os b v) ≡ set (shelves ws os) b (record { slots = (window_of ws b).slots; tags = (window_of ws b).tags; overflow = v.items; room = vec_capacity v })
   shelves-list v there =
       let s : Shelf E = record { slots = (window_of ws b).slots; tags = (window_of ws b).tags; overflow = v.items; room = vec_capacity v } in
@@ -51,7 +51,7 @@ module _ {E A : Type 0} (ws : List (Window E)) (os : List (Vec E A)) (b : ℕ) (
             ∙ sym (shelf-there ws os i h) ∙ sym (get_or-set_other (shelves ws os) b i s empty_shelf e)
       ])
 
--- the array is seen as bs, and b is the number of a bucket
+-- bs are the shelves of the array, and b is the number of a bucket
 module _ {E A : Type 0} (ws : List (Window E)) (os : List (Vec E A)) (bs : List (Shelf E)) (view : shelves ws os ≡ bs) (b : ℕ) (within : b < length bs) where
   pub window-within : b < length ws
   window-within = let n = length-shelves ws os in let m = ap length view in omega arith
@@ -68,7 +68,7 @@ module _ {E A : Type 0} (ws : List (Window E)) (os : List (Vec E A)) (bs : List 
   pub list-within : HasListEach ws os → os ≢ [] → b < length os
   list-within kept some = elim kept.lists [ inl e ↦ absurd (some e) | inr e ↦ let l = window-within in omega arith ]
 
-  -- there are lists where the bucket has an entry in one
+  -- if the bucket has an entry in its overflow list, there are lists
   pub spilled-there : HasListEach ws os → 0 < length (shelf_of bs b).overflow → b < length os
   spilled-there kept some = list-within kept (λ e. let z : length (shelf_of bs b).overflow ≡ 0 = ap length (sym overflow-is ∙ ap (λ l. spilled (slice_get l b)) e) in omega arith)
 
@@ -79,13 +79,13 @@ module _ {E A : Type 0} (ws : List (Window E)) (os : List (Vec E A)) (bs : List 
   room-is v e = ap list_room (sym e) ∙ ap (λ (s : Shelf E). s.room) (sym shelf-is)
 
 module _ {E A : Type 0} (ws : List (Window E)) (os : List (Vec E A)) (bs : List (Shelf E)) (view : shelves ws os ≡ bs) (b : ℕ) (within : b < length bs) (F : Shelf E → Shelf E) where
-  -- F is what happened to the places of the bucket
+  -- F is the change of the bucket's slots
   pub seen-window : (w : Window E) → F (shelf_at ws os b) ≡ record { slots = w.slots; tags = w.tags; overflow = spilled (slice_get os b); room = list_room (slice_get os b) } → shelves (set ws b w) os ≡ set bs b (F (shelf_of bs b))
   seen-window w e =
       shelves-window ws os b (window-within ws os bs view b within) w ∙ ap (λ s. set (shelves ws os) b s) (sym e)
       ∙ ap (λ v. set v b (F (shelf_at ws os b))) view ∙ ap (λ s. set bs b (F s)) (sym (shelf-is ws os bs view b within))
 
-  -- F is what happened to the list of the bucket
+  -- F is the change of the bucket's overflow list
   pub seen-list : (v : Vec E A) (items : List E) (room : ℕ) → b < length os → v.items ≡ items → vec_capacity v ≡ room
       → F (shelf_at ws os b) ≡ record { slots = (window_of ws b).slots; tags = (window_of ws b).tags; overflow = items; room = room } → shelves ws (set os b v) ≡ set bs b (F (shelf_of bs b))
   seen-list v items room there ei er e =
@@ -96,7 +96,7 @@ module _ {E A : Type 0} (ws : List (Window E)) (os : List (Vec E A)) (bs : List 
       ∙ ap (λ (s : Shelf E). set (shelves ws os) b s) (sym e)
       ∙ ap (λ v. set v b (F (shelf_at ws os b))) view ∙ ap (λ s. set bs b (F s)) (sym (shelf-is ws os bs view b within))
 
--- an array with no entry and no lists
+-- the shelves of an array with no entries and no lists are empty
 pub shelves-empty : (E A : Type 0) (n : ℕ) → shelves {E = E} {A = A} (replicate n empty_window) [] ≡ replicate n empty_shelf
 shelves-empty E A n =
     let ws : List (Window E) = replicate n empty_window in let none : List (Vec E A) = [] in
@@ -104,7 +104,7 @@ shelves-empty E A n =
     shelves-are ws none (replicate n empty_shelf) (length-replicate n (empty_shelf {E = E}) ∙ sym m)
     (λ i h. ap (λ (w : Window E). record { slots = w.slots; tags = w.tags; overflow = []; room = 0 }) (get_or-replicate n i empty_window empty_window (omega arith)) ∙ sym (get_or-replicate n i empty_shelf empty_shelf (omega arith)))
 
--- no list, no entries in it
+-- without lists, no bucket has an entry in an overflow list
 pub no-list : {E A : Type 0} (os : List (Vec E A)) (b : ℕ) → os ≡ [] → spilled (slice_get os b) ≡ []
 no-list os b e = ap (λ l. spilled (slice_get l b)) e
 
@@ -112,19 +112,19 @@ pub empty-list : {E A : Type 0} (os : List (Vec E A)) → length os ≡ 0 → os
 empty-list [] e = refl
 empty-list (o ∷ os) e = absurd (omega arith)
 
--- a list that was read
+-- a list that was read is the list at b
 pub list-read : {E A : Type 0} (os : List (Vec E A)) (b : ℕ) (v : Vec E A) → b < length os → v ≡ get_or os b v → slice_get os b ≡ Some v
 list-read [] b v h e = absurd (omega arith)
 list-read (o ∷ os) zero v h e = ap Some (sym e)
 list-read (o ∷ os) (suc b) v h e = list-read os b v (omega arith) e
 
--- the room of the changed bucket is what it is seen to be
+-- the changed bucket has the room that is seen
 pub own-room : {E : Type 0} (seen bs : List (Shelf E)) (b : ℕ) (s : Shelf E) → b < length bs → seen ≡ set bs b s → seen ≡ set bs b (record s { room = (shelf_of seen b).room })
 own-room seen bs b s h e =
     let r : s.room ≡ (shelf_of seen b).room = sym (ap (λ v. (shelf_of v b).room) e ∙ ap (λ (t : Shelf _). t.room) (get_or-set_same bs b s empty_shelf h)) in
     e ∙ ap (λ r. set bs b (record s { room = r })) r
 
--- lists that were made are seen as none
+-- new lists are seen like no lists
 module _ {E A : Type 0} (ws : List (Window E)) (os ds : List (Vec E A)) (bs : List (Shelf E)) (view : shelves ws os ≡ bs) (kept : HasListEach ws os) (n : ℕ) (count : n ≡ length ws) where
   pub bare-spilled : AreBare ds → (i : ℕ) → (spilled (slice_get ds i) ≡ []) × (list_room (slice_get ds i) ≡ 0)
   bare-spilled h i = elim (dec_lt i (length ds)) [

@@ -1,4 +1,4 @@
--- An entry out of a bucket, where those after it move up.
+-- A removal of an entry from a bucket: the later entries move up.
 use Rattle.std.proofs.Common.{◌≡◌, ◌≢◌, ℕ, suc, ◌+◌, ◌-◌, ◌*◌, ◌<◌, ◌≤◌, ◌⊎◌, List, [], length, set, get_or, Option, None, sym, ap, ◌∙◌, arith, inl, inr, length-set}
 use Rattle.std.proofs.lemmas.List.{get_or-set_same, get_or-set_other}
 use Rattle.std.specs.List.{slice_get, remove}

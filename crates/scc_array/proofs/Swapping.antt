@@ -1,4 +1,4 @@
--- An entry out of a bucket, in whose place the last one comes.
+-- A removal of an entry from a bucket: the last entry takes its place.
 use Rattle.std.proofs.Common.{◌≡◌, ◌≢◌, ℕ, ◌+◌, ◌-◌, ◌*◌, ◌<◌, ◌≤◌, ◌⊎◌, List, [], length, set, get_or, Option, Some, None, sym, ap, ◌∙◌, arith, inl, inr, length-set}
 use Rattle.std.proofs.lemmas.List.{get_or-set_same, get_or-set_other}
 use Rattle.std.specs.List.{slice_get, swap_remove}
@@ -73,7 +73,7 @@ module _ {E : Type 0} (rows : List (List ℕ)) (cells : List (Option E)) (kept :
     pub columns-swapped : IsColumns (set rows b row_left) new
     columns-swapped = columns-changed rows cells new kept b row_left within wide count outside window packed-left
 
-  -- the places after the last one was taken, and those after it was put where the other was
+  -- the cells without the last entry, and the cells with the last entry in the place of the removed entry
   abbrev pub without_last : List (Option E)
   without_last = set cells (32 * b + last) None
 

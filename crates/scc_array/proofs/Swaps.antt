@@ -1,4 +1,4 @@
--- A bucket with an entry taken out and the last one in its place.
+-- A bucket whose removed entry is replaced by its last entry.
 use Rattle.std.proofs.Common.{◌≡◌, ℕ, zero, suc, ◌+◌, ◌-◌, ◌<◌, ◌≤◌, List, [], ◌∷◌, ◌++◌, length, map, set, take, get_or, nat_lt, true, false, rules, refl, sym, ap, ◌∙◌, subst, arith, length-append}
 use Rattle.std.specs.List.{remove, swap_remove}
 use Rattle.std.specs.List.Sorted.{IsPermutation}
@@ -8,7 +8,7 @@ use Rattle.std.proofs.lemmas.List.Sorted.{length_permutation, IsPermutation-appe
 use native.Mathlib.Decide.{dec_lt}
 use Rattle.scc_array.specs.Shelf.{Shelf, shelf_entries, without_slot, swapped_out}
 
--- the tags of the slots that are left, once the last one was written to place i
+-- the tags of the remaining slots, after the last tag was written to slot i
 pub tags_swapped : (tags : List ℕ) (n k i : ℕ) → i < n → n ≤ length tags → k + 1 ≡ n → take k (set tags i (get_or tags (n - 1) 0)) ≡ swap_remove (take n tags) i 0
 tags_swapped tags n k i p q e =
     let long : length (take n tags) ≡ n = length-take-le n tags q in
@@ -19,7 +19,7 @@ tags_swapped tags n k i p q e =
     ∙ ap (take k) (take-set-lt n tags i (get_or tags (n - 1) 0) p ∙ ap (set (take n tags) i) (sym last))
     ∙ ap (λ m. take m (set (take n tags) i (get_or (take n tags) (n - 1) 0))) less ∙ whole
 
--- the bucket that is left, part by part
+-- a bucket whose parts are those of `swapped_out` is equal to it
 pub swapped : {E : Type 0} (b : Shelf E) (slots : List E) (tags : List ℕ) (overflow : List E) (room i : ℕ) (x : E) → i < length b.slots
     → slots ≡ swap_remove b.slots i x → tags ≡ swap_remove b.tags i 0 → overflow ≡ b.overflow → room ≡ b.room
     → ◌≡◌ {A = Shelf E} (record { slots = slots; tags = tags; overflow = overflow; room = room }) (swapped_out b i x)
@@ -31,7 +31,7 @@ up-to-last : {X : Type 0} (y : X) (ys : List X) (d : X) → take (length ys) (y 
 up-to-last y [] d = refl
 up-to-last y (z ∷ zs) d = ap (λ l. y ∷ l) (up-to-last z zs d)
 
--- the first element goes, and the last comes in its place
+-- if the last element replaces the first one, the result is a permutation of the other elements
 rotated : {X : Type 0} (y : X) (ys : List X) (d : X) → IsPermutation ys (take (length ys) (get_or (y ∷ ys) (length ys) d ∷ ys))
 rotated y [] d = IsPermutation-refl []
 rotated y (z ∷ zs) d =
@@ -39,7 +39,7 @@ rotated y (z ∷ zs) d =
     let last = get_or (z ∷ zs) (length zs) d in
     subst (λ l. IsPermutation l (last ∷ front)) (up-to-last z zs d) (IsPermutation-append_comm front (last ∷ []))
 
--- in which order the others stand is all that differs
+-- `remove` and `swap_remove` differ only in the order of the other elements
 pub remove-swap_remove : {X : Type 0} (xs : List X) (i : ℕ) (d : X) → i < length xs → IsPermutation (remove xs i) (swap_remove xs i d)
 remove-swap_remove [] i d h = absurd (omega arith)
 remove-swap_remove (y ∷ ys) zero d h =
@@ -72,7 +72,7 @@ module _ {E : Type 0} (b : Shelf E) (k : ℕ) (x : E) (lk : k < length (shelf_en
         rw c (IsPermutation-append_right b.slots (remove b.overflow (k - length b.slots)) (swap_remove b.overflow (k - length b.slots) x) (remove-swap_remove b.overflow (k - length b.slots) x l))
   ]
 
-  -- each part is as long as if the others had moved up
+  -- each part is as long as after a removal in which the later entries move up
   pub slots-swapped : length (swapped_out b k x).slots ≡ length (without_slot b k).slots
   slots-swapped = elim (dec_lt k (length b.slots)) [
     | yes q ↦

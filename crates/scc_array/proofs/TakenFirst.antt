@@ -17,17 +17,17 @@ later-past n None i e = absurd (let z : None ≡ Some i = e in cc)
 later-past n (Some k) i e = let z : n + k ≡ i = cc in omega arith
 
 module _ {E : Type 0} (p : E → Bool) (b : Shelf E) (i : ℕ) where
-  -- where none of the places passes, the first that does stands past them
+  -- if no entry in the slots passes, the first entry that passes is in the overflow list
   pub past-cells : position p b.slots ≡ None → position p (shelf_entries b) ≡ Some i → length b.slots ≤ i
   past-cells missed first =
       later-past (length b.slots) (position p b.overflow) i
       (sym (position-joined p b.slots b.overflow ∙ ap (λ o. or_later o (length b.slots) (position p b.overflow)) missed) ∙ first)
 
-  -- the first of the places is the first of all
+  -- the first entry that passes in the slots is the first in the bucket
   pub first-slot : position p b.slots ≡ Some i → position p (shelf_entries b) ≡ Some i
   first-slot found = position-joined p b.slots b.overflow ∙ ap (λ o. or_later o (length b.slots) (position p b.overflow)) found
 
--- what happened to the places of a bucket happened to the bucket
+-- a removal from the slots of a bucket is a removal from the bucket
 pub taken-in_places : {E A : Type 0} (p : E → Bool) (ws vs : List (Window E)) (os : List (Vec E A)) (bs : List (Shelf E)) (view : shelves ws os ≡ bs) (b : ℕ) (within : b < length bs) (r : Option E)
     → TakesFirstOf p ws b vs r → TakesInSlots p bs b (shelves vs os) r
 taken-in_places p ws vs os bs view b within None (missed, stays) =

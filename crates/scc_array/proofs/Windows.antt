@@ -19,7 +19,7 @@ module _ {E : Type 0} (rows : List (List ℕ)) (cells : List (Option E)) where
   pub window-there : (i : ℕ) → i < length rows → window_of (windows rows cells) i ≡ window_at rows cells i
   window-there i h = get_or-map-range_with_len (window_at rows cells) 0 (length rows) i i empty_window h (omega arith)
 
-  -- what is packed is what is seen
+  -- the window of the packed slots and tags is the one that `window_at` reads
   pub window-is : (i : ℕ) (w : Window E) → IsPackedWindow rows cells i w.slots w.tags → window_at rows cells i ≡ w
   window-is i w p = rw (gather-is (cell_at rows cells i) 32 w.slots p.most p.cells_are, gather-is (tag_at rows cells i) 32 w.tags (let n = p.same in let m = p.most in omega arith) p.tags_are)
 
@@ -36,7 +36,7 @@ module _ {E : Type 0} (rows : List (List ℕ)) (cells : List (Option E)) where
       packed = λ i h. subst (λ (w : Window E). IsPackedWindow rows cells i w.slots w.tags) (sym (window-is i (window_of ws i) (each i h))) (each i h);
     }
 
--- one row and its places are changed
+-- one row of tags and its cells change
 module _ {E : Type 0} (rows : List (List ℕ)) (cells new : List (Option E)) (kept : IsColumns rows cells) (b : ℕ) (row : List ℕ) (within : b < length rows) (wide : length row ≡ 32)
     (count : length new ≡ length cells) (outside : (p : ℕ) → (p < 32 * b) ⊎ (32 * b + 32 ≤ p) → get_or new p None ≡ get_or cells p None)
     (w : Window E) (here : IsPackedWindow (set rows b row) new b w.slots w.tags) where

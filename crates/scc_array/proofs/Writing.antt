@@ -5,13 +5,13 @@ use Rattle.scc_array.specs.Shelf.{Shelf, shelf_entries}
 use Rattle.scc_array.specs.ShelfWrites.{write_at, shelf_write_at, length-write_at}
 use Rattle.scc_array.proofs.ListsLemmas.{get-index, get-left, get-right}
 
--- a write of the whole entry at a place is a write into the one there
+-- to set the whole entry at index i is to write into the entry at index i
 pub set-write_at : {E X : Type 0} (put : E → X → E) (es : List E) (i : ℕ) (e : E) (w : X) → i < length es → e ≡ get_or es i e → set es i (put e w) ≡ write_at put es i w
 set-write_at put [] i e w l at = absurd (omega arith)
 set-write_at put (x ∷ es) zero e w l at = ap (λ z. put z w ∷ es) at
 set-write_at put (x ∷ es) (suc i) e w l at = ap (λ z. x ∷ z) (set-write_at put es i e w (omega arith) at)
 
--- the shelf of these fields
+-- the shelf with these fields
 abbrev pub shelf_of : {E : Type 0} → List E → List ℕ → List E → ℕ → Shelf E
 shelf_of slots tags overflow room = record { slots = slots; tags = take (length slots) tags; overflow = overflow; room = room }
 

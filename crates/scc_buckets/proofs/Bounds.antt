@@ -26,7 +26,7 @@ nowhere : {X : Type 0} (p : X → Bool) (i : ℕ) → position p (get_or [] i []
 nowhere p zero = refl
 nowhere p (suc i) = refl
 
--- what none passes, the rest doesn't either
+-- if no element of a list passes, no element after the first passes
 pub absent-rest : {X : Type 0} (p : X → Bool) (x : X) (xs : List X) → position p (x ∷ xs) ≡ None → position p xs ≡ None
 absent-rest p x xs n = by_answer (p x)
     (λ y. absurd (let z : Some 0 ≡ None = sym (position_hit p x xs y) ∙ n in cc))
@@ -40,7 +40,7 @@ absent-removed p (x ∷ xs) (suc i) n = by_answer (p x)
     (λ y. absurd (let z : Some 0 ≡ None = sym (position_hit p x xs y) ∙ n in cc))
     (λ y. position_cons p x (remove xs i) y ∙ ap (λ o. option_map suc o) (absent-removed p xs i (absent-rest p x xs n)))
 
--- an entry in the next slot is an entry put in
+-- if the bucket has a free slot, an entry that is put in stands in the next slot
 pub slot-entry : {E : Type 0} (b : Shelf E) (e : E) (t : ℕ) → length b.slots < 32 → (with_slot b e t ≡ record (with_entry b e t) { room = (with_slot b e t).room }) × (next_slot b ≡ length b.slots)
 slot-entry b e t l = let c : nat_lt (length b.slots) 32 ≡ true = search rules in rw c (refl, refl)
 
@@ -51,7 +51,7 @@ apart-none : {E K : Type 0} (eq : K → K → Bool) (key : E → K) (k : K) (es 
 apart-none eq key k [] h = refl
 apart-none {E} eq key k (e ∷ es) h = position_cons (λ (x : E). eq k (key x)) e es h.0 ∙ ap (option_map suc) (apart-none eq key k es h.1)
 
--- no other entry has the key of one that is taken out
+-- no other entry has the key of an entry that is taken out
 pub gone : {E K : Type 0} {eq : K → K → Bool} (laws : IsEquivalence eq) (key : E → K) (es : List E) (i : ℕ) (x : E) → slice_get es i ≡ Some x → IsDistinct eq (map key es) → position (λ e. eq (key x) (key e)) (remove es i) ≡ None
 gone {eq = eq} laws key es i x got d =
     apart-none eq key (key x) (remove es i) (IsDistinct-head eq (key x) (map key (remove es i)) (IsDistinct-IsPermutation eq laws.symm (map key es) (key x ∷ map key (remove es i)) (IsPermutation-map key es (x ∷ remove es i) (IsPermutation-remove es i x (get-below es i x got) (get-is es i x x got))) d))
@@ -71,7 +71,7 @@ module _ {E S : Type 0} (c d : Contents E S) (i : ℕ) (es : List E) (h : HasLis
   unfolding list_of lists_of bucket_count
   has-list-of l = ap (λ z. get_or z i []) h.lists ∙ get_or-set_same c.lists i es [] l
 
-  -- one list changed twice
+  -- if one list changes twice, the second change counts
   pub has-list-then : (f : Contents E S) (fs : List E) → HasList d i fs f → HasList c i fs f
   has-list-then f fs k = record {
     lists = k.lists ∙ ap (λ z. set z i fs) h.lists ∙ set-twice (lists_of c) i es fs;
@@ -92,7 +92,7 @@ module _ {E S : Type 0} (bs : List (Shelf E)) (s : Settings S) (c : Contents E S
   pub slots-are : shelf_entries b ≡ b.slots
   slots-are = ap (λ z. b.slots ++ z) (nil_from_length b.overflow overflow-less) ∙ append-nil b.slots
 
-  -- one bucket changed is one list changed
+  -- a change of one bucket is a change of one list
   pub has-list : (d : Shelf E) (es : List E) → shelf_entries d ≡ es → length d.overflow ≡ length b.overflow → HasList c i es (view_of f (set bs i d) s)
   unfolding lists_of overflow_of settings_of refused_of
   has-list d es w o = record {
@@ -128,7 +128,7 @@ module _ {E S : Type 0} (bs : List (Shelf E)) (s : Settings S) (c : Contents E S
       let r : length (remove (list_of c i) k) ≡ length (remove (shelf_entries b) k) = ap (λ z. length (remove z k)) here in
       rw (has-list-of c (view_of f (set bs i d) s) i (remove (list_of c i) k) (removed-list d k lk w) il) (omega arith)
 
--- an empty table is a resize of one without entries
+-- an empty table is bounded, and is a resize of a table without entries
 pub bounded-fresh : {E S : Type 0} (f : Bool × Bool) (bs : List (Shelf E)) (s : Settings S) → AllEmpty bs → IsBounded (view_of f bs s)
 unfolding overflow_of
 bounded-fresh f bs s h = (sums-empty bs h).1
@@ -151,7 +151,7 @@ resized-fresh {E} {S} hash f bs s c none h a e =
       bounded = bounded-fresh f bs s h;
     }
 
--- without an array nothing is listed
+-- without an array, no list has an entry that passes
 pub unlisted-none : {E S : Type 0} (p : E → Bool) (c : Contents E S) (i : ℕ) → bucket_count c ≡ 0 → IsUnlisted p c i
 unfolding list_of bucket_count entries
 unlisted-none p c i n =
@@ -161,7 +161,7 @@ unlisted-none p c i n =
       all = ap (λ z. position p (flat_map (λ l. l) z)) none;
     }
 
--- what stands in an empty list
+-- an empty list has no element
 pub none-there : {X : Type 0} {C : Type 0} (xs : List X) (j : ℕ) (x : X) → xs ≡ [] → slice_get xs j ≡ Some x → C
 none-there xs j x none got = let l = get-below xs j x got in absurd (let n : length xs ≡ 0 = ap length none in omega arith)
 

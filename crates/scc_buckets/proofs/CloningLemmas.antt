@@ -40,7 +40,7 @@ module _ {E S : Type 0} (C : E → E → Type 0) where
         noted = b.noted ∙ a.noted;
       }
 
-  -- clones that were added to nothing
+  -- clones of all entries, added to an empty table, make a clone of the table
   pub adds-whole : (B : S → S → Type 0) (xs : List E) (h : S) (c d e : Contents E S) → entries c ≡ xs → entries d ≡ [] → bucket_count d ≡ bucket_count c → B (settings_of c).hasher h
       → settings_of d ≡ record { hasher = h; skipped = (settings_of c).skipped; asked = 32 * bucket_count c; reserved = 0 } → AddsClones C xs d e → HasClones C B c e
   adds-whole B xs h c d e same none count clone settings a =
@@ -56,7 +56,7 @@ module _ {E S : Type 0} (C : E → E → Type 0) where
         reserved = ap (λ s. s.reserved) now;
       }
 
--- a lawful number of buckets that isn't 0 is that of an array
+-- a lawful number of buckets that isn't 0 is the number of an array's buckets
 pub array-of_some : (n : ℕ) → IsLawful n → (n ≡ 0 → ⊥) → IsBucketCount n
 array-of_some n (inl none) some = absurd (some none)
 array-of_some n (inr array) some = array
@@ -67,7 +67,7 @@ take-next (y ∷ xs) zero x l e = ap (λ z. z ∷ []) (sym e)
 take-next (y ∷ xs) (suc i) x l e = ap (λ l. y ∷ l) (take-next xs i x (omega arith) e)
 
 module _ {E S : Type 0} (C : E → E → Type 0) where
-  -- the clone of the next source
+  -- the clone of the next entry is added after the clones of the first i entries
   pub adds-next : (xs : List E) (i : ℕ) (x : E) (c d e : Contents E S) → i < length xs → x ≡ get_or xs i x → AddsClones C (take i xs) c d → AddsClones C (x ∷ []) d e → AddsClones C (take (i + 1) xs) c e
   adds-next xs i x c d e l at a b =
       subst (λ ys. AddsClones C ys c e) (sym (ap (λ n. take n xs) (add-one i) ∙ take-next xs i x l at)) (adds-more C (take i xs) (x ∷ []) c d e a b)

@@ -25,7 +25,7 @@ filter-none f i k (x ∷ xs) n h =
     let t : (f x == i) ≡ false = not_equal (f x) i (λ z. n (sym here ∙ z)) in
     rw t (filter-none f i k xs n (λ j d l. h (suc j) d (omega arith)))
 
--- bucket number j and those after it hold what is theirs
+-- bucket number j and the later buckets hold only entries that belong there
 record OwnFrom {E : Type 0} (f : E → ℕ) (j : ℕ) (bs : List (Shelf E)) : Type 0 where
   own : (k : ℕ) (b : Shelf E) → k < length bs → b ≡ get_or bs k b → (m : ℕ) (d : E) → m < length (shelf_entries b) → f (get_or (shelf_entries b) m d) ≡ j + k
 
@@ -50,7 +50,7 @@ flat-here f i j (suc k) (b ∷ bs) d o e l =
     ∙ flat-here f i (suc j) k bs d (own-tail f j b bs o) (omega arith) (omega arith)
 
 module _ {E : Type 0} (hash : E → ℕ) (t n o i : ℕ) (bs : List (Shelf E)) (b : Shelf E) (h : IsBuckets hash t bs n o) (l : i < length bs) (at : b ≡ get_or bs i b) where
-  -- the entries that belong to a bucket are those of its list
+  -- the entries that belong to a bucket are the entries of its shelf
   pub entries-of_bucket : filter (λ e. bucket_number t (length bs) (hash e) == i) (flat_map shelf_entries bs) ≡ shelf_entries b
   entries-of_bucket =
       let z : i ≡ 0 + i = omega arith in

@@ -78,7 +78,7 @@ flat_none : {X : Type 0} (p : X → Bool) (ls : List (List X)) → ((j : ℕ) (d
 flat_none p [] f = record { fails = λ j d l. absurd (omega arith) }
 flat_none p (l ∷ ls) f = none_append p l (flat_map (λ x. x) ls) (f 0 l (omega arith)) (flat_none p ls (λ j d q. f (suc j) d (omega arith)))
 
--- where only list i can have an element that passes, the first among all is the first there
+-- if only list i can have an element that passes, the first of all lists is the first of list i
 pub position_flat : {X : Type 0} (p : X → Bool) (ls : List (List X)) (i : ℕ) (d : List X) → i < length ls → ((j : ℕ) (e : List X) → j < length ls → j ≢ i → NoneOf p (get_or ls j e))
     → position p (flat_map (λ l. l) ls) ≡ option_map (λ k. length (flat_map (λ l. l) (take i ls)) + k) (position p (get_or ls i d))
 position_flat p [] i d q f = absurd (omega arith)
@@ -130,7 +130,7 @@ module _ {E : Type 0} (p : E → Bool) (hash : E → ℕ) (h t n o i : ℕ) (bs 
       ∙ sym (position_flat p ls i (shelf_entries b) (simp length-map l) (λ j d q ne. others j d q ne))
 
   module _ {S : Type 0} (s : Settings S) {f : Bool × Bool} (c : Contents E S) (view : view_of f bs s ≡ c) (b : Shelf E) (l : i < length bs) (at : b ≡ get_or bs i b) where
-    -- where the bucket of the hash has it, it stands there in the table
+    -- if the bucket of the hash has an entry that passes, the table has it at that place
     pub found_at : (slot : ℕ) → Some slot ≡ position p (shelf_entries b) → IsFoundAtSpot p c (record { bucket = i; slot = slot })
     unfolding index_of_spot entries
     found_at slot found = record {
@@ -139,12 +139,12 @@ module _ {E : Type 0} (p : E → Bool) (hash : E → ℕ) (h t n o i : ℕ) (bs 
           ∙ ap (λ (x : Contents E S). Some (length (flat_map (λ l. l) (take i x.lists)) + slot)) view;
     }
 
-    -- where that bucket lacks it, the table lacks it
+    -- if the bucket of the hash has no entry that passes, the table has none
     pub missed_at : position p (shelf_entries b) ≡ None → position p (entries c) ≡ None
     unfolding entries
     missed_at missed = ap (λ (x : Contents E S). position p (flat_map (λ l. l) x.lists)) (sym view) ∙ sym (found_in_lists b None l at (sym missed))
 
--- where there is no bucket there is no entry
+-- a table without buckets has no entries
 pub no-entries : {E S : Type 0} (bs : List (Shelf E)) (s : Settings S) {f : Bool × Bool} (c : Contents E S) → view_of f bs s ≡ c → length bs ≡ 0 → entries c ≡ []
 no-entries [] s c view n = entries-view [] s c view
 no-entries (b ∷ bs) s c view n = absurd (omega arith)

@@ -12,7 +12,7 @@ use Rattle.scc_buckets.specs.Tables.{IsOwn}
 use Rattle.scc_buckets.proofs.FindingLemmas.{HashOf}
 
 module _ {E : Type 0} (p : E → Bool) (hash : E → ℕ) (h : ℕ) (a : HashOf p hash h) where
-  -- where each entry lies in the bucket of its hash
+  -- each entry lies in the bucket of its hash
   module _ (t : ℕ) (bs : List (Shelf E)) (own : (j : ℕ) → j < length bs → IsOwn hash t (length bs) j (shelf_of bs j)) (i : ℕ) (at : i ≡ bucket_number t (length bs) h) (l : i < length bs) where
     own-none : (j : ℕ) → j < length bs → j ≢ i → find p (shelf_entries (shelf_of bs j)) ≡ None
     own-none j lj ne =
@@ -25,7 +25,7 @@ module _ {E : Type 0} (p : E → Bool) (hash : E → ℕ) (h : ℕ) (a : HashOf 
     pub find-own : find p (flat_map shelf_entries bs) ≡ find p (shelf_entries (shelf_of bs i))
     find-own = find-flat p shelf_entries empty_shelf bs i l own-none
 
-  -- where each entry stands in the list of its hash
+  -- each entry stands in the list of its hash
   module _ {S : Type 0} (c : Contents E S) (routed : IsRouted hash c) (i : ℕ) (at : i ≡ bucket_number (settings_of c).skipped (bucket_count c) h) (l : i < bucket_count c) where
     routed-none : (j : ℕ) → j ≢ i → find p (list_of c j) ≡ None
     routed-none j ne =
@@ -35,7 +35,7 @@ module _ {E : Type 0} (p : E → Bool) (hash : E → ℕ) (h : ℕ) (a : HashOf 
     unfolding entries bucket_count list_of
     find-routed = find-flat p (λ l. l) [] c.lists i l (λ j lj ne. routed-none j ne)
 
--- a look-up of a pair
+-- a look-up of a pair is a `find`
 pub lookup-find : {K V : Type 0} (t : K → Bool) (es : List (K × V)) → lookup_entry t es ≡ find (λ e. t e.0) es
 lookup-find t [] = refl
 lookup-find t (x ∷ es) = ap (λ o. cond (t x.0) (Some x) o) (lookup-find t es)

@@ -1,4 +1,4 @@
--- An entry with a key is the one with that key.
+-- An entry with a key is the only entry with that key.
 use Rattle.std.proofs.Common.{◌≡◌, ℕ, zero, suc, Bool, true, false, Option, Some, None, List, [], ◌∷◌, map, refl, sym, ap, ◌∙◌, subst, inl, inr}
 use Rattle.std.specs.Cmp.{IsEquivalence}
 use Rattle.std.specs.List.{find, slice_get, IsDistinct, AllByRecursion}
@@ -26,6 +26,6 @@ module _ {E K : Type 0} (eq : K → K → Bool) (key : E → K) where
         | inr n ↦ rw n (find-at laws k es j x (IsDistinct-tail eq (key e) (map key es) d) h w)
       ]
 
-  -- an entry that has the key
+  -- `find` returns the entry that has the key
   pub find-passing : (laws : IsEquivalence eq) (k : K) (es : List E) (x : E) → IsDistinct eq (map key es) → IsPassing (λ e. eq k (key e)) es x → find (λ e. eq k (key e)) es ≡ Some x
   find-passing laws k es x d r = find-at laws k es r.slot.0 x d r.slot.1 r.passes

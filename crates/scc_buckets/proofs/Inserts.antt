@@ -23,7 +23,7 @@ use Rattle.scc_array.proofs.ListsLemmas.{get-index}
 use Rattle.scc_buckets.proofs.Spots.{before}
 use Rattle.scc_buckets.proofs.Views.{view_of, flat_lists, count-view, settings-view}
 
--- a table with one bucket changed
+-- a table stays a table if one bucket changes and the counts change with it
 pub table_set : {E : Type 0} (hash : E → ℕ) (t n o m q i : ℕ) (bs : List (Shelf E)) (b c : Shelf E) → IsBuckets hash t bs n o → i < length bs → b ≡ get_or bs i b → IsOwn hash t (length bs) i c
     → m + length (shelf_entries b) ≡ n + length (shelf_entries c) → q + length b.overflow ≡ o + length c.overflow → q < 2 ^ 62 → IsBuckets hash t (set bs i c) m q
 table_set hash t n o m q i bs b c h l at own w v few =
@@ -83,7 +83,7 @@ slots_push b e t h = elim (dec_lt (length b.slots) 32) [
   | no q ↦ let c : nat_lt (length b.slots) 32 ≡ false = let r : 32 ≤ length b.slots = omega arith in search rules in rw c h
 ]
 
--- whether the overflow list grew shows in the place
+-- the slot of a pushed entry shows if the overflow list grew
 pub overflow_push : {E : Type 0} (b : Shelf E) (e : E) (t : ℕ) → length b.slots ≤ 32
     → (next_slot b < 32 → (length (with_entry b e t).overflow ≡ length b.overflow) × (length b.slots < 32)) × (32 ≤ next_slot b → (length (with_entry b e t).overflow ≡ length b.overflow + 1) × (32 ≤ length b.slots))
 overflow_push b e t h = elim (dec_lt (length b.slots) 32) [
@@ -119,7 +119,7 @@ own_push hash t k i b c e o h w = record {
 own_same : {E : Type 0} (hash : E → ℕ) (t k i : ℕ) (b c : Shelf E) → IsOwn hash t k i b → c ≡ record b { room = c.room } → IsOwn hash t k i c
 own_same hash t k i b c o w = subst (IsOwn hash t k i) (sym w) (record { tagged = o.tagged; routed = o.routed; within = o.within })
 
--- one list changed by an insertion
+-- to insert into one list is to insert into the joined lists
 flat_insert : {E : Type 0} (ls : List (List E)) (i p : ℕ) (e : E) → i < length ls → p ≤ length (get_or ls i [])
     → flat_map (λ l. l) (set ls i (insert (get_or ls i []) p e)) ≡ insert (flat_map (λ l. l) ls) (before ls i + p) e
 flat_insert [] i p e l q = absurd (omega arith)
@@ -153,14 +153,14 @@ pub none_left : (o : Option ℕ) → option_map suc o ≡ None → o ≡ None
 none_left None e = refl
 none_left (Some k) e = absurd (let z : Some (suc k) ≡ None = e in cc)
 
--- where no entry has the key, the key is apart from all
+-- if no entry has the key, the key is apart from all keys
 pub none-apart : {E K : Type 0} (eq : K → K → Bool) (key : E → K) (k : K) (es : List E) → position (λ e. eq k (key e)) es ≡ None → AllByRecursion (λ y. eq k y ≡ false) (map key es)
 none-apart eq key k [] n = tt
 none-apart {E} eq key k (e ∷ es) n = by_answer (eq k (key e))
     (λ y. absurd (let z : Some 0 ≡ None = sym (position_hit (λ (x : E). eq k (key x)) e es y) ∙ n in cc))
     (λ y. (y, none-apart eq key k es (none_left (position (λ (x : E). eq k (key x)) es) (sym (position_cons (λ (x : E). eq k (key x)) e es y) ∙ n))))
 
--- keys stay distinct where one is added that was not there
+-- keys stay distinct if an entry with a new key is added
 pub unique-inserted : {E K : Type 0} {eq : K → K → Bool} (laws : IsEquivalence eq) (key : E → K) (e : E) (es ds : List E) → IsDistinct eq (map key es) → position (λ x. eq (key e) (key x)) es ≡ None → IsPermutation (e ∷ es) ds
     → IsDistinct eq (map key ds)
 unique-inserted {eq = eq} laws key e es ds d n p =
@@ -246,7 +246,7 @@ module _ {E S : Type 0} (hash : E → ℕ) (t n o i : ℕ) (bs : List (Shelf E))
     same-lists : map shelf_entries (set bs i d) ≡ map shelf_entries bs
     same-lists = map-set_same shelf_entries bs i d b (ap shelf_entries new ∙ ap shelf_entries at)
 
-    -- nothing shows of a refused growth
+    -- a refused growth doesn't change the contents
     pub refused-unchanged : IsUnchanged c (view_of f (set bs i d) s)
     unfolding entries bucket_count settings_of
     refused-unchanged = record {
@@ -264,7 +264,7 @@ module _ {E S : Type 0} (hash : E → ℕ) (t n o i : ℕ) (bs : List (Shelf E))
         let over : length d.overflow ≡ length b.overflow = ap (λ x. length x.overflow) new in
         table_set hash t n o n o i bs b d h l at (own_same hash t (length bs) i b d (h.own i b l at) new) (omega arith) (omega arith) h.few
 
--- a table has at most 32 entries a bucket, and those in overflow lists
+-- a table has at most 32 entries a bucket, plus the entries in overflow lists
 pub sum-bound : {E : Type 0} (bs : List (Shelf E)) → ((i : ℕ) (b : Shelf E) → i < length bs → b ≡ get_or bs i b → length b.slots ≤ 32)
     → sum_by (λ b. length (shelf_entries b)) bs ≤ 32 * length bs + sum_by (λ b. length b.overflow) bs
 sum-bound [] f = omega arith

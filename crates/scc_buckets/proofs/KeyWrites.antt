@@ -16,7 +16,7 @@ use Rattle.scc_buckets.proofs.Lookups.{find-position}
 use Rattle.scc_buckets.proofs.PairWrites.{IsPlaceOf}
 use Rattle.scc_buckets.proofs.PairSplits.{set_value-at, set_key-at, without-at}
 
--- a write leaves the note of refused memory
+-- a write doesn't change the note of refused memory
 pub noted-write : {E S X : Type 0} (put : E → X → E) (c : Contents E S) (p : Place) (w : X) → refused_of (with_write_at_spot put c p w) ≡ refused_of c
 unfolding refused_of with_write_at_spot
 noted-write put c p w = refl
@@ -30,7 +30,7 @@ module _ {K V S : Type 0} {eq : K → K → Bool} (laws : IsEquivalence eq) (c :
   got-here : slice_get (list_of c p.bucket) p.slot ≡ Some (at (list_of c p.bucket) p.slot within.slot)
   got-here = at-get (list_of c p.bucket) p.slot within.slot
 
-  -- a value written at the place of k
+  -- a value written at the place of k is the value of k
   pub value-written : (w : V) → HoldsExactly c (set_value (eq k) (entries c) w) (with_write_at_spot with_pair_value c p w)
   value-written w =
       let h = exactly-write with_pair_value c p within (at (list_of c p.bucket) p.slot within.slot) got-here w in
@@ -40,7 +40,7 @@ module _ {K V S : Type 0} {eq : K → K → Bool} (laws : IsEquivalence eq) (c :
         settings = h.settings;
       }
 
-  -- a key written at the place of k
+  -- a key written at the place of k replaces the key k
   pub key-written : (q : K) → HoldsExactly c (set_key (eq k) (entries c) q) (with_write_at_spot with_pair_key c p q)
   key-written q =
       let h = exactly-write with_pair_key c p within (at (list_of c p.bucket) p.slot within.slot) got-here q in
@@ -50,13 +50,13 @@ module _ {K V S : Type 0} {eq : K → K → Bool} (laws : IsEquivalence eq) (c :
         settings = h.settings;
       }
 
-  -- keys stay distinct where a value is written
+  -- keys stay distinct if a value is written
   pub value-unique : (w : V) → IsDistinct eq (keys_of (entries (with_write_at_spot with_pair_value c p w)))
   value-unique w =
       let h = exactly-write with_pair_value c p within (at (list_of c p.bucket) p.slot within.slot) got-here w in
       rw h.exact (distinct-write laws (λ e. e.0) with_pair_value (entries c) (index_of_spot c p) f.0 w f.1 (laws.refl f.0.0) d)
 
-  -- and where a key is written that equals the old one
+  -- keys stay distinct if a key is written that equals the old one
   pub key-unique : (q : K) → eq q f.0.0 ≡ true → IsDistinct eq (keys_of (entries (with_write_at_spot with_pair_key c p q)))
   key-unique q same =
       let h = exactly-write with_pair_key c p within (at (list_of c p.bucket) p.slot within.slot) got-here q in
@@ -68,7 +68,7 @@ take-set [] (suc i) x = refl
 take-set (y ∷ xs) zero x = refl
 take-set (y ∷ xs) (suc i) x = ap (λ z. y ∷ z) (take-set xs i x)
 
--- a write moves no place
+-- a write doesn't change the index of a place
 pub index-write : {E S X : Type 0} (put : E → X → E) (c : Contents E S) (p : Place) (w : X) → index_of_spot (with_write_at_spot put c p w) p ≡ index_of_spot c p
 unfolding index_of_spot with_write_at_spot
 index-write put c p w = ap (λ l. length (flat_map (λ x. x) l) + p.slot) (take-set c.lists p.bucket _)
@@ -92,7 +92,7 @@ module _ {K V S : Type 0} {eq : K → K → Bool} (laws : IsEquivalence eq) (c :
   written : (w : V) → HoldsExactly c (write_at with_pair_value (entries c) (index_of_spot c p) w) (with_write_at_spot with_pair_value c p w)
   written w = exactly-write with_pair_value c p within (at (list_of c p.bucket) p.slot within.slot) (at-get (list_of c p.bucket) p.slot within.slot) w
 
-  -- the pair of k taken out once w was written into it
+  -- to write w into the pair of k and then take the pair out is to take out the pair of k
   pub written-taken_out : (w : V) (e : Contents (K × V) S) → Holds (with_write_at_spot with_pair_value c p w) (remove (entries (with_write_at_spot with_pair_value c p w)) (index_of_spot (with_write_at_spot with_pair_value c p w) p)) e
       → Holds c (without eq (entries c) k) e
   written-taken_out w e h =
@@ -117,13 +117,13 @@ module _ {K V S : Type 0} {eq : K → K → Bool} (laws : IsEquivalence eq) (c :
       ∙ ap (λ z. slice_get z (index_of_spot c p)) x.exact ∙ get-write_at with_pair_value (entries c) (index_of_spot c p) f.0 w f.1 in
       let s : Some q ≡ Some (f.0.0, w) = sym got ∙ here in cc
 
--- what stands at a place once a key was written there
+-- after a key was written at a place, the entry there has the new key and the old value
 pub key-got : {K V S : Type 0} (c : Contents (K × V) S) (p : Place) (within : IsSpot c p) (q : K) (e : K × V) → slice_get (entries c) (index_of_spot c p) ≡ Some e
     → slice_get (entries (with_write_at_spot with_pair_key c p q)) (index_of_spot (with_write_at_spot with_pair_key c p q) p) ≡ Some (q, e.1)
 key-got c p within q e got =
     let x = exactly-write with_pair_key c p within (at (list_of c p.bucket) p.slot within.slot) (at-get (list_of c p.bucket) p.slot within.slot) q in
     ap (slice_get (entries (with_write_at_spot with_pair_key c p q))) (index-write with_pair_key c p q) ∙ ap (λ z. slice_get z (index_of_spot c p)) x.exact ∙ get-write_at with_pair_key (entries c) (index_of_spot c p) e q got
 
--- where the number of buckets stays, nothing grew
+-- if the number of buckets is unchanged, the table didn't grow
 pub grows-same : {E S : Type 0} (c d : Contents E S) → bucket_count d ≡ bucket_count c → Grows c d
 grows-same c d e = record { first = λ z n. absurd (n e); half = λ z n. absurd (n e); below = λ z n. absurd (n e); doubled = λ z n. absurd (n e); not_waiting = λ z n. absurd (n e) }

@@ -4,7 +4,7 @@ use Rattle.std.specs.List.{remove, slice_get}
 use Rattle.scc_buckets.specs.Bounded.{IsBounded, HasList}
 use Rattle.scc_common.specs.Contents.{Contents, bucket_count, list_of, lists_of}
 
--- the last element, taken out and put at the end again
+-- if the last element is taken out and put at the end again, the list is unchanged
 put-last : {X : Type 0} (xs : List X) (i : ℕ) → suc i ≡ length xs → (x : X) × (slice_get xs i ≡ Some x) × (remove xs i ++ x ∷ [] ≡ xs)
 put-last [] i e = absurd (omega arith)
 put-last (x ∷ []) zero e = (x, refl, refl)
@@ -17,7 +17,7 @@ set-same (x ∷ xs) zero d h = refl
 set-same (x ∷ xs) (suc i) d h = ap (λ l. x ∷ l) (set-same xs i d (omega arith))
 
 module _ {E S : Type 0} (c : Contents E S) (i k : ℕ) where
-  -- a container in whose list i the entry at k stands last has that list with the entry at its end
+  -- if the entry at slot k is the last of list i, to move it to the end of list i changes nothing
   pub stands-last : i < bucket_count c → IsBounded c → suc k ≡ length (list_of c i) → (e : E) × (slice_get (list_of c i) k ≡ Some e) × HasList c i (remove (list_of c i) k ++ e ∷ []) c
   unfolding list_of lists_of bucket_count
   stands-last h b e =

@@ -40,7 +40,7 @@ module _ {K V : Type 0} (t : K → Bool) where
       let r = find-position es s.0 s.1 in
       (r.0, ap (slice_get (x ∷ es)) s.2 ∙ r.1, cond-false (Some x) (lookup_entry t es) y ∙ r.2, r.3))
 
-  -- where a look-up finds a pair, it stands at some place
+  -- a pair that a look-up finds stands at some index
   pub place-of_find : (es : List (K × V)) (p : K × V) → lookup_entry t es ≡ Some p → (i : ℕ) × (slice_get es i ≡ Some p) × (t p.0 ≡ true)
   place-of_find [] p e = absurd (let h : None ≡ Some p = e in cc)
   place-of_find (x ∷ es) p e =
@@ -62,7 +62,7 @@ along f [] h = h
 along f (k ∷ ks) h = (f k h.0, along f ks h.1)
 
 module _ {K V : Type 0} {eq : K → K → Bool} (laws : IsEquivalence eq) where
-  -- rearranged keys stay distinct
+  -- keys stay distinct if the pairs are rearranged
   pub distinct-IsPermutation : (c d : List (K × V)) → IsPermutation c d → IsDistinct eq (keys_of c) → IsDistinct eq (keys_of d)
   distinct-IsPermutation c d p = IsDistinct-IsPermutation eq laws.symm (keys_of c) (keys_of d) (IsPermutation-map (λ e. e.0) c d p)
 
@@ -82,7 +82,7 @@ module _ {K V : Type 0} {eq : K → K → Bool} (laws : IsEquivalence eq) where
       (λ n. by_option (lookup_entry (eq k) d) (λ m. m ∙ sym n) (λ q m. absurd (let h : None ≡ Some q = sym n ∙ found-again d c k q (IsPermutation-sym c d perm) u m in cc)))
       (λ p s. found-again c d k p perm v s ∙ sym s)
 
-  -- a look-up after a pair was added, in some order
+  -- a look-up after a pair was added, in any order of the pairs
   pub finds-added : (c d : List (K × V)) (p : K × V) → IsPermutation (p ∷ c) d → IsDistinct eq (keys_of d) → FindsInstead eq c p.0 (Some p) d
   finds-added c d p perm u = record { finds = λ q. find-IsPermutation (p ∷ c) d q perm (distinct-IsPermutation d (p ∷ c) (IsPermutation-sym (p ∷ c) d perm) u) }
 
@@ -107,7 +107,7 @@ module _ {K V : Type 0} {eq : K → K → Bool} (laws : IsEquivalence eq) where
   pub distinct-remove_entry : (es : List (K × V)) (k : K) (i : ℕ) → IsDistinct eq (keys_of es) → IsPlaceOf eq es k i → IsDistinct eq (keys_of (remove_entry (eq k) es))
   distinct-remove_entry es k i d f = rw (without-at laws k es i d f) (distinct-without laws es i d)
 
-  -- a look-up after the pair of k was taken out, in some order
+  -- a look-up after the pair of k was taken out, in any order of the pairs
   pub finds-removed : (es d : List (K × V)) (k : K) (i : ℕ) → IsPermutation (remove es i) d → IsDistinct eq (keys_of es) → IsPlaceOf eq es k i → FindsInstead eq es k None d
   finds-removed es d k i perm u f = record {
     finds = λ q.
@@ -118,7 +118,7 @@ module _ {K V : Type 0} {eq : K → K → Bool} (laws : IsEquivalence eq) where
 map_suc_none : (o : Option ℕ) → o ≡ None → option_map suc o ≡ None
 map_suc_none o e = ap (option_map suc) e
 
--- a key that a look-up misses is at no place
+-- a key that a look-up doesn't find stands at no index
 pub position-find_none : {K V : Type 0} (t : K → Bool) (es : List (K × V)) → lookup_entry t es ≡ None → position (λ e. t e.0) es ≡ None
 position-find_none t [] n = refl
 position-find_none {K} {V} t (x ∷ es) n = by_answer (t x.0)

@@ -1,4 +1,4 @@
--- Tables that hold nothing.
+-- Tables without entries.
 use Rattle.std.proofs.Common.{◌≡◌, ℕ, suc, ◌^◌, ◌≤◌, Bool, List, [], ◌∷◌, ◌++◌, length, map, refl, sym, ap, ◌∙◌, inl, inr, arith, length-append}
 use Rattle.scc_common.specs.Contents.{Settings, entries}
 use Rattle.scc_buckets.proofs.Views.{view_of, entries-view}
@@ -61,7 +61,7 @@ none-empty = record { empty = λ i b l at. absurd (omega arith) }
 pub kept-none : {E K : Type 0} (eq : K → K → Bool) (key : E → K) (hash : K → ℕ) (t minimum : ℕ) → t ≤ 4 → minimum ≤ 2 ^ 63 → AreBuckets eq key hash t minimum [] 0 0
 kept-none eq key hash t minimum few small = kept-empty eq key hash t minimum [] none-empty (inl refl) few small
 
--- without buckets nothing is counted
+-- without buckets the counts are 0
 pub counts-none : {E : Type 0} (hash : E → ℕ) (t n o : ℕ) (bs : List (Shelf E)) → length bs ≡ 0 → IsBuckets hash t bs n o → (n ≡ 0) × (o ≡ 0)
 counts-none hash t n o [] l h = (h.counted, h.spilled)
 counts-none hash t n o (b ∷ bs) l h = absurd (omega arith)

@@ -1,4 +1,4 @@
--- What holds of contents holds of them seen through a function.
+-- Facts about contents hold of the mapped contents too.
 use Rattle.std.proofs.Common.{◌≡◌, ℕ, zero, suc, Bool, ◌==◌, ◌+◌, inl, inr, cond, List, [], ◌∷◌, ◌++◌, length, map, take, refl, sym, ap, ◌∙◌}
 use Rattle.std.specs.Prelude.{count_by}
 use Rattle.std.specs.List.{flat_map, fold, slice_index_or}
@@ -57,7 +57,7 @@ module _ {E F S : Type 0} (f : E → F) where
   unfolding mapped list_of
   list_of-mapped c i = list-map f c.lists i
 
-  -- a place is one of either, and as many entries stand before it
+  -- a place of the contents is a place of the mapped contents, with as many entries before it
   pub index_of-mapped : (c : Contents E S) (p : Place) → index_of_spot (mapped f c) p ≡ index_of_spot c p
   unfolding mapped index_of_spot
   index_of-mapped c p =

@@ -75,7 +75,7 @@ all_keys_at P [] p back h = h.0
 all_keys_at P (x ∷ front) p back h = all_keys_at P front p back h.1
 
 module _ {K V : Type 0} {eq : K → K → Bool} (laws : IsEquivalence eq) where
-  -- where the keys are distinct, no earlier key equals k
+  -- if the keys are distinct, no earlier key equals k
   pub front_apart : (k : K) (front : List (K × V)) (p : K × V) (back : List (K × V)) → IsDistinct eq (keys_of (front ++ p ∷ back)) → eq k p.0 ≡ true → NonePasses (eq k) front
   front_apart k [] p back d y = tt
   front_apart k (x ∷ front) p back d y =
@@ -83,7 +83,7 @@ module _ {K V : Type 0} {eq : K → K → Bool} (laws : IsEquivalence eq) where
       (by_answer (eq k x.0) (λ e. absurd (false≢true (sym apart ∙ sym (laws.congr k x.0 p.0 e) ∙ y))) (λ e. e), front_apart k front p back (IsDistinct-tail eq x.0 (keys_of (front ++ p ∷ back)) d) y)
 
 module _ {K V : Type 0} {eq : K → K → Bool} (laws : IsEquivalence eq) where
-  -- what a search that stopped at i knows
+  -- a search that stopped at i found the place of k
   pub found-place : (k : K) (es : List (K × V)) (i : ℕ) (p : K × V) → IsDistinct eq (keys_of es) → slice_get es i ≡ Some p → eq k p.0 ≡ true → IsPlaceOf eq es k i
   found-place k es i p d at y =
       let parts : es ≡ take i es ++ p ∷ drop (suc i) es = split-place es i p at in
@@ -106,11 +106,11 @@ module _ {K V : Type 0} {eq : K → K → Bool} (laws : IsEquivalence eq) where
     pub set_key-at : (q : K) → set_key (eq k) es q ≡ take i es ++ (q, found.0.1) ∷ drop (suc i) es
     set_key-at q = ap (λ l. set_key (eq k) l q) parts-at ∙ set_key-split (eq k) (take i es) found.0 (drop (suc i) es) q apart-at found.3
 
-  -- a new pair before the others
+  -- keys stay distinct if a pair with a new key is added before the others
   pub distinct-added : (es : List (K × V)) (p : K × V) → IsDistinct eq (keys_of es) → lookup_entry (eq p.0) es ≡ None → IsDistinct eq (keys_of (p ∷ es))
   distinct-added es p d n = IsDistinct-cons eq p.0 (keys_of es) (apart-keys (eq p.0) es (none-find (eq p.0) es n)) d
 
-  -- the pairs without the one at the place i
+  -- keys stay distinct if the pair at index i is removed
   pub distinct-without : (es : List (K × V)) (i : ℕ) → IsDistinct eq (keys_of es) → IsDistinct eq (keys_of (remove es i))
   distinct-without [] zero d = d
   distinct-without [] (suc i) d = d
@@ -133,7 +133,7 @@ all-get P (x ∷ es) zero p e h = let s : x ≡ p = cc in subst (λ q. P q.0) s 
 all-get P (x ∷ es) (suc i) p e h = all-get P es i p e h.1
 
 module _ {K V : Type 0} {eq : K → K → Bool} (laws : IsEquivalence eq) where
-  -- a key may be replaced by one that equals it
+  -- keys stay distinct if a key is replaced by an equal one
   pub distinct-set : (es : List (K × V)) (i : ℕ) (p q : K × V) → slice_get es i ≡ Some p → eq q.0 p.0 ≡ true → IsDistinct eq (keys_of es) → IsDistinct eq (keys_of (slice_set es i q))
   distinct-set [] i p q e y d = d
   distinct-set (x ∷ es) zero p q e y d =

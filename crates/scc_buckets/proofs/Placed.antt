@@ -1,4 +1,4 @@
--- What stands at a place, before it and after it, once something there changed.
+-- The entries at a place, before the place and after it, once an entry there changed.
 use Rattle.std.proofs.Common.{◌≡◌, ℕ, zero, suc, List, [], ◌∷◌, ◌++◌, length, take, drop, None, Some, refl, sym, ap, ◌∙◌, arith}
 use native.Mathlib.Bridge.{le_prop}
 use Rattle.std.specs.List.{slice_get, remove}
@@ -14,7 +14,7 @@ use Rattle.scc_buckets.proofs.PairSplits.{split-place}
 use Rattle.scc_buckets.proofs.Spots.{place-get}
 use Rattle.scc_buckets.proofs.WritingTables.{exactly-write}
 
--- there is one proof that a place is one
+-- there is at most one proof of `IsSpot` for a place
 pub place-prop : {E S : Type 0} (c : Contents E S) (p : Place) → IsProp (IsSpot c p)
 place-prop c p x y =
     ap (λ q. let r : IsSpot c p = record { bucket = q; slot = x.slot } in r) (le_prop x.bucket y.bucket) ∙ ap (λ q. let r : IsSpot c p = record { bucket = y.bucket; slot = q } in r) (le_prop x.slot y.slot)
@@ -63,7 +63,7 @@ removed-parts (y ∷ es) zero = refl
 removed-parts (y ∷ es) (suc i) = ap (λ l. y ∷ l) (removed-parts es i)
 
 module _ {E S : Type 0} where
-  -- the entry at the place is the one of its index
+  -- the entry at a place is the entry at the place's index
   pub entry_of-get : (c : Contents E S) (p : Place) (h : IsSpot c p) → slice_get (entries c) (index_of_spot c p) ≡ Some (entry_of_spot c p h)
   unfolding entry_of_spot
   entry_of-get c p h = place-get c p h _ (at-get (list_of c p.bucket) p.slot h.slot)
@@ -71,7 +71,7 @@ module _ {E S : Type 0} where
   pub entry_of-is : (c : Contents E S) (p : Place) (h : IsSpot c p) (e : E) → slice_get (entries c) (index_of_spot c p) ≡ Some e → entry_of_spot c p h ≡ e
   entry_of-is c p h e g = let s : Some (entry_of_spot c p h) ≡ Some e = sym (entry_of-get c p h) ∙ g in cc
 
-  -- what was written at the place stands there, between those that stood beside it
+  -- an entry that was written at a place stands there, between the entries that stood beside it
   pub written-there : {X : Type 0} (put : E → X → E) (c : Contents E S) (p : Place) (h : IsSpot c p) (w : X) (d : Contents E S) (j : IsSpot d p) → d ≡ with_write_at_spot put c p w → IsWrittenAtSpot c p (put (entry_of_spot c p h) w) d p j
   unfolding front_of_spot back_of_spot
   written-there put c p h w d j now =
@@ -90,7 +90,7 @@ module _ {E S : Type 0} where
         back = ap (λ i. drop (suc i) (entries d)) index ∙ ap (drop (suc (index_of_spot c p))) es ∙ back-write put (entries c) (index_of_spot c p) w;
       }
 
-  -- what was put in stands at its place
+  -- an entry that was put in stands at its place
   pub put-there : (c : Contents E S) (e : E) (d : Contents E S) (p : Place) (j : IsSpot d p) → IsInsertedAtSpot c e d p → IsPutAtSpot c e d p j
   put-there c e d p j i = record { contents = i.holds; here = entry_of-is d p j e i.here }
 
@@ -98,17 +98,17 @@ module _ {E S : Type 0} where
   unfolding front_of_spot back_of_spot
   splits-there c p h = record { splits = split-place (entries c) (index_of_spot c p) (entry_of_spot c p h) (entry_of-get c p h) }
 
-  -- none stands before the first
+  -- no entry stands before the first
   pub front-none : (c : Contents E S) (p : Place) → index_of_spot c p ≡ 0 → front_of_spot c p ≡ []
   unfolding front_of_spot
   front-none c p e = ap (λ i. take i (entries c)) e
 
-  -- none stands after the last
+  -- no entry stands after the last
   pub back-none : (c : Contents E S) (p : Place) → suc (index_of_spot c p) ≡ length (entries c) → back_of_spot c p ≡ []
   unfolding back_of_spot
   back-none c p e = drop-all (entries c) (suc (index_of_spot c p)) e
 
-  -- the place of the next index stands next
+  -- the place with the next index is the next place
   pub next-there : (c : Contents E S) (p : Place) (h : IsSpot c p) (d : Contents E S) (q : Place) (j : IsSpot d q) → d ≡ c → index_of_spot c q ≡ suc (index_of_spot c p) → IsNextSpot c p h d q j
   unfolding front_of_spot back_of_spot
   next-there c p h d q j now index =
@@ -119,12 +119,12 @@ module _ {E S : Type 0} where
         back = sym (drop-here (entries d) (index_of_spot d q) (entry_of_spot d q j) (entry_of-get d q j)) ∙ ap (λ i. drop i (entries d)) place ∙ ap (λ m. drop (suc (index_of_spot c p)) (entries m)) now;
       }
 
-  -- what is left once the entry at the place was taken out
+  -- after the entry at a place was taken out, the entries before and after the place are left
   pub left-there : (c : Contents E S) (p : Place) (d : Contents E S) → HoldsExactly c (remove (entries c) (index_of_spot c p)) d → HoldsExactly c (front_of_spot c p ++ back_of_spot c p) d
   unfolding front_of_spot back_of_spot
   left-there c p d others = record { exact = others.exact ∙ removed-parts (entries c) (index_of_spot c p); buckets = others.buckets; settings = others.settings }
 
-  -- the place of the same index is that of the entry that stood next
+  -- after the entry at a place was taken out, the place with an equal index has the entry that stood next
   pub past-there : (c : Contents E S) (p : Place) (d : Contents E S) (q : Place) (j : IsSpot d q) → HoldsExactly c (remove (entries c) (index_of_spot c p)) d → refused_of d ≡ refused_of c → index_of_spot d q ≡ index_of_spot c p → IsNextSpotPastRemoved c p d q j
   unfolding front_of_spot back_of_spot
   past-there c p d q j others noted index = record {

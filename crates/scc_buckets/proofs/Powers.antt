@@ -5,7 +5,7 @@ use Rattle.scc_common.specs.Sizes.{IsBucketCount, IsArraySize, IsLawful, IsSmall
 use native.Mathlib.Decide.{dec_lt}
 use lib.Pow.{pow_mono, pow-add}
 
--- a smaller power is at most half
+-- a smaller power of two is at most half of the greater one
 half : (p q j k : ℕ) → p ≡ 2 ^ k → q ≡ 2 ^ j → q < p → q ≤ p / 2
 half p q j k ep eq l = elim (dec_lt j k) [
   | yes h ↦
@@ -30,7 +30,7 @@ least-next n p big small w le half_below = record {
   ];
 }
 
--- 64 or more is 32 times a power of at least 2
+-- a power of two that is at least 64 is 32 times a power of two
 by_32 : (p k : ℕ) → p ≡ 2 ^ k → 64 ≤ p → (p / 32 ≡ 2 ^ (k - 5)) × (32 * (p / 32) ≡ p)
 by_32 p k e l = elim (dec_lt k 5) [
   | yes h ↦ let m : 2 ^ k ≤ 2 ^ 5 = pow_mono {i = k} {j = 5} (omega arith) in absurd (omega arith)
@@ -45,7 +45,7 @@ array-of_size n p h =
     let b = by_32 p h.power.0 h.power.1 h.least in
     (record { power = (h.power.0 - 5, b.0); least = omega (arith, h.least); most = omega (arith, h.most) }, b.1)
 
--- twice an array's buckets may be an array's
+-- twice the number of an array's buckets may be the number of an array's buckets
 pub double-array : (n : ℕ) → IsLawful n → 0 < n → n < 2 ^ 58 → IsBucketCount (2 * n)
 double-array n h pos l = elim h [
   | inl z ↦ absurd (omega arith)
@@ -63,7 +63,7 @@ double-array n h pos l = elim h [
       }
 ]
 
--- there is one size of an array for so many slots
+-- there is one array size for n slots
 pub size-once : (n p q : ℕ) → IsArraySize n p → IsArraySize n q → p ≡ q
 size-once n p q a b =
     let l = a.fewest q b.power b.least b.enough in
@@ -76,7 +76,7 @@ max-array a b p q = elim (dec_lt a b) [
   | no h ↦ let e : a ≡ max a b = omega arith in subst IsBucketCount e p
 ]
 
--- the number of buckets that an array may shrink to is the greater of two
+-- the number of buckets that an array may shrink to is the greater of two numbers
 pub smaller-to : (k l minimum held from : ℕ) → IsArraySize minimum (32 * k) → IsArraySize (2 * held) (32 * l) → 8 * held ≤ 32 * from → max k l < from → IsSmaller minimum held from (max k l)
 smaller-to k l minimum held from sm sl few less = record {
   few = few;

@@ -67,7 +67,7 @@ module _ {E : Type 0} (b : Shelf E) (k : ℕ) (lk : k < length (shelf_entries b)
     within = slots_without o.within;
   }
 
--- keys stay distinct where one is taken out
+-- keys stay distinct if an entry is taken out
 pub unique-removed : {E K : Type 0} {eq : K → K → Bool} (laws : IsEquivalence eq) (key : E → K) (es : List E) (i : ℕ) (x : E) → i < length es → x ≡ get_or es i x → IsDistinct eq (map key es) → IsDistinct eq (map key (remove es i))
 unique-removed {eq = eq} laws key es i x l at d =
     IsDistinct-tail eq (key x) (map key (remove es i)) (IsDistinct-IsPermutation eq laws.symm (map key es) (key x ∷ map key (remove es i)) (IsPermutation-map key es (x ∷ remove es i) (IsPermutation-remove es i x l at)) d)

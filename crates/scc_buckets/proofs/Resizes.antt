@@ -1,4 +1,4 @@
--- Steps after a resize, and before one.
+-- Changes before a resize, and changes after a resize.
 use Rattle.std.proofs.Common.{◌≡◌, ◌≢◌, ℕ, ◌+◌, ◌*◌, ◌^◌, ◌<◌, ◌≤◌, inl, inr, Bool, false, true, List, [], ◌∷◌, length, sym, ap, ◌∙◌, subst, max, arith, Some, None, ap, Bool}
 use Rattle.std.specs.List.{All, position}
 use Rattle.std.specs.List.Sorted.{IsPermutation}
@@ -21,7 +21,7 @@ all-absent p (x ∷ xs) n = by_answer (p x)
     (λ y. absurd (let z : Some 0 ≡ None = sym (position_hit p x xs y) ∙ n in cc))
     (λ y. All-cons (λ z. p z ≡ false) x xs y (all-absent p xs (none_left (position p xs) (sym (position_cons p x xs y) ∙ n))))
 
--- what is absent is absent in any order
+-- an entry that is absent from a list is absent from each permutation of the list
 pub absent-permuted : {X : Type 0} (p : X → Bool) (xs ys : List X) → IsPermutation xs ys → position p xs ≡ None → position p ys ≡ None
 absent-permuted p xs ys h n = position_none p ys (record { fails = All-permutation (λ x. p x ≡ false) xs ys h (all-absent p xs n) })
 
@@ -55,7 +55,7 @@ module _ {E S : Type 0} where
     settings = q.settings ∙ e;
   }
 
-  -- nothing changed is a resize to the same size
+  -- if nothing changed, that is a resize to an equal number of buckets
   pub unchanged-resizes : (a b : Contents E S) → IsUnchanged a b → Resizes a b
   unchanged-resizes a b u = record {
     same = rw u.exact (IsPermutation-refl (entries a));
@@ -81,7 +81,7 @@ module _ {E S : Type 0} where
     settings = g.settings;
   }
 
-  -- a resize to fewer buckets, of the greater of two sizes
+  -- a resize to fewer buckets, whose number is the greater of two sizes
   pub regrouped-shrunk : (hash : E → ℕ) (k l : ℕ) (a b : Contents E S) → IsRegrouped hash (max k l) a b → IsPermutation (entries a) (entries b) → IsBucketCount k → IsBucketCount l → IsArraySize (minimum_of a) (32 * k) → IsArraySize (2 * length (entries a)) (32 * l)
       → minimum_of a ≤ 2 ^ 63 → length (entries a) ≤ 4 * bucket_count a → max k l < bucket_count a → IsShrunk a b
   regrouped-shrunk hash k l a b g h w v sm sl small few less = record {
@@ -93,7 +93,7 @@ module _ {E S : Type 0} where
     };
   }
 
-  -- a try to shrink that goes by the two sizes does what is due
+  -- a try to shrink that follows the two sizes does all that is due
   pub shrinks-due : (k l : ℕ) (a b : Contents E S) → IsArraySize (minimum_of b) (32 * k) → IsArraySize (2 * length (entries b)) (32 * l) → (max k l < bucket_count a → (refused_of b).0 ≡ false → bucket_count b ≡ max k l) → ((refused_of a).0 ≡ false → (refused_of b).0 ≡ true → (length (entries b) ≤ 4 * bucket_count a) × (max k l < bucket_count a))
       → ((refused_of a).0 ≡ true → (refused_of b).0 ≡ false → bucket_count b ≢ bucket_count a) → (bucket_count b ≢ bucket_count a → (refused_of b).0 ≡ false) → ShrinksWhenDue a b
   shrinks-due k l a b sm sl made rose fell low = record {
@@ -111,7 +111,7 @@ module _ {E S : Type 0} where
     down = low;
   }
 
-  -- what a try to shrink did after a change that kept the buckets and the note of refused memory
+  -- after a change that kept the buckets and the note of refused memory, a try to shrink still does all that is due
   pub shrinks-after : (a b c : Contents E S) → bucket_count b ≡ bucket_count a → refused_of b ≡ refused_of a → ShrinksWhenDue b c → ShrinksWhenDue a c
   shrinks-after a b c same noted h = record {
     shrunk = λ m n am an few less down. h.shrunk m n am an (omega (arith, same)) (omega (arith, same)) down;
@@ -120,7 +120,7 @@ module _ {E S : Type 0} where
     down = λ ne. h.down (λ e. ne (e ∙ same));
   }
 
-  -- a try to grow that goes by that size does what is due
+  -- a try to grow that follows the size k does all that is due
   pub reaches-due : (k : ℕ) (a b : Contents E S) → IsArraySize (minimum_of b) (32 * k) → (0 < bucket_count a → bucket_count a < k → length (entries a) < 2 ^ 62 → (refused_of b).0 ≡ false → bucket_count b ≡ k) → ((refused_of a).0 ≡ false → (refused_of b).0 ≡ true → (0 < bucket_count a) × (bucket_count a < k))
       → ((refused_of a).0 ≡ true → (refused_of b).0 ≡ false → bucket_count b ≢ bucket_count a) → (bucket_count b ≢ bucket_count a → (refused_of b).0 ≡ false) → ReachesMinimumWhenDue a b
   reaches-due k a b size made rose fell low = record {
@@ -136,7 +136,7 @@ module _ {E S : Type 0} where
     down = low;
   }
 
-  -- what a try to shrink did to the number of buckets
+  -- a try to shrink that changed the number of buckets made it smaller
   pub smaller-by : (b c : Contents E S) (m k : ℕ) → Shrinks b c → minimum_of b ≡ m → bucket_count b ≡ k → bucket_count c ≢ k → IsSmaller m (length (entries c)) k (bucket_count c)
   smaller-by b c m k h em ek ne = elim h [
     | inl u ↦ absurd (ne (u.buckets ∙ ek))

@@ -1,4 +1,4 @@
--- Lists joined end to end, seen at one place of one of them.
+-- Lists joined end to end, and the element at one index of one list.
 use Rattle.std.proofs.Common.{◌≡◌, ℕ, zero, suc, ◌+◌, ◌-◌, ◌<◌, List, [], ◌∷◌, ◌++◌, length, take, get_or, set, refl, sym, ap, ◌∙◌, arith, length-append, Some}
 use Rattle.std.specs.List.{flat_map, slice_get, remove}
 use Rattle.std.proofs.lemmas.List.Edits.{remove-append_left, remove-append_right}
@@ -19,7 +19,7 @@ flat-get (l ∷ ls) zero k x h e = let z : 0 + k ≡ k = omega arith in ap (slic
 flat-get (l ∷ ls) (suc i) k x h e =
     ap (slice_get (l ++ flat_map (λ y. y) ls)) (before-suc l ls i k) ∙ get-right l (flat_map (λ y. y) ls) (before ls i + k) ∙ flat-get ls i k x (omega arith) e
 
--- one list with an element taken out
+-- to remove an element of one list is to remove it from the joined lists
 pub flat-remove : {E : Type 0} (ls : List (List E)) (i k : ℕ) → i < length ls → k < length (get_or ls i [])
     → flat_map (λ l. l) (set ls i (remove (get_or ls i []) k)) ≡ remove (flat_map (λ l. l) ls) (before ls i + k)
 flat-remove [] i k h q = absurd (omega arith)
@@ -38,7 +38,7 @@ set-right : {X : Type 0} (xs ys : List X) (i : ℕ) (x : X) → set (xs ++ ys) (
 set-right [] ys i x = let z : 0 + i ≡ i = omega arith in ap (λ n. set ys n x) z
 set-right (y ∷ xs) ys i x = let z : suc (length xs) + i ≡ suc (length xs + i) = omega arith in ap (λ n. set (y ∷ (xs ++ ys)) n x) z ∙ ap (λ z. y ∷ z) (set-right xs ys i x)
 
--- one list with an element written
+-- to write an element of one list is to write it in the joined lists
 pub flat-set : {E : Type 0} (ls : List (List E)) (i k : ℕ) (x : E) → i < length ls → k < length (get_or ls i [])
     → flat_map (λ l. l) (set ls i (set (get_or ls i []) k x)) ≡ set (flat_map (λ l. l) ls) (before ls i + k) x
 flat-set [] i k x h q = absurd (omega arith)
@@ -48,7 +48,7 @@ flat-set (l ∷ ls) (suc i) k x h q =
     ∙ sym (ap (λ n. set (l ++ flat_map (λ y. y) ls) n x) (before-suc l ls i k) ∙ set-right l (flat_map (λ y. y) ls) (before ls i + k) x)
 
 module _ {E S : Type 0} (c : Contents E S) (p : Place) (within : IsSpot c p) where
-  -- what stands at the place of a list stands there among all entries
+  -- the entry at a slot of a list stands at the place's index among all entries
   pub place-get : (x : E) → slice_get (list_of c p.bucket) p.slot ≡ Some x → slice_get (entries c) (index_of_spot c p) ≡ Some x
   unfolding entries list_of index_of_spot bucket_count
   place-get x e = flat-get c.lists p.bucket p.slot x within.bucket e

@@ -35,7 +35,7 @@ there (x ∷ xs) zero h = (x, refl)
 there (x ∷ xs) (suc i) h = there xs i (omega arith)
 
 module _ {E S : Type 0} (c : Contents E S) where
-  -- the end of a bucket's list is the start of the next one
+  -- the end of a bucket's list has the same index as the start of the next bucket's list
   pub index-skip : (b s : ℕ) → b < bucket_count c → s ≡ length (list_of c b) → index_of_spot c (record { bucket = suc b; slot = 0 }) ≡ index_of_spot c (record { bucket = b; slot = s })
   unfolding index_of_spot bucket_count list_of
   index-skip b s h e = omega (arith, skip c.lists b h)
@@ -45,7 +45,7 @@ module _ {E S : Type 0} (c : Contents E S) where
   unfolding index_of_spot bucket_count list_of entries
   index-end p h s = omega (arith, all c.lists p.bucket h, past c.lists p.bucket h)
 
-  -- none stands before the start
+  -- no entry stands before the start
   pub index-start : index_of_spot c (record { bucket = 0; slot = 0 }) ≡ 0
   unfolding index_of_spot
   index-start = refl
@@ -75,7 +75,7 @@ take-set (y ∷ xs) zero x = refl
 take-set (y ∷ xs) (suc i) x = ap (λ z. y ∷ z) (take-set xs i x)
 
 module _ {E S : Type 0} (p : Place) (bs : List (Shelf E)) (s : Settings S) {f : Bool × Bool} (c : Contents E S) (view : view_of f bs s ≡ c) (b : Shelf E) (l : p.bucket < length bs) (lk : p.slot < length (shelf_entries b)) (d : Shelf E) (new : d ≡ without_slot b p.slot) where
-  -- as many entries stand before a place once the one there is taken out
+  -- the number of entries before a place is unchanged if the entry at the place is taken out
   pub taken-index : index_of_spot (view_of f (set bs p.bucket d) s) p ≡ index_of_spot c p
   unfolding index_of_spot
   taken-index =
@@ -83,7 +83,7 @@ module _ {E S : Type 0} (p : Place) (bs : List (Shelf E)) (s : Settings S) {f : 
       ∙ ap (λ z. length (flat_map (λ l. l) z) + p.slot) (take-set (map shelf_entries bs) p.bucket (shelf_entries d))
       ∙ ap (λ (x : Contents E S). length (flat_map (λ l. l) (take p.bucket x.lists)) + p.slot) view
 
-  -- and the list of its bucket doesn't end before it
+  -- after the entry at a place was taken out, the list of its bucket still reaches the place
   pub taken-list : p.slot ≤ length (list_of (view_of f (set bs p.bucket d) s) p.bucket)
   taken-list =
       let there : p.bucket < length (set bs p.bucket d) = rw (length-set bs p.bucket d) l in

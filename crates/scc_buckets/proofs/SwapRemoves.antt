@@ -1,4 +1,4 @@
--- A table with an entry taken out of one bucket, and the last one of that bucket in its place.
+-- A table after a removal from one bucket: the bucket's last entry took the place of the removed entry.
 use Rattle.std.proofs.Common.{◌≡◌, ℕ, zero, suc, ◌-◌, ◌<◌, ◌≤◌, Bool, List, [], ◌∷◌, length, map, set, get_or, refl, sym, ap, ◌∙◌, subst, arith, get_or-set_same, length-set, Some}
 use Rattle.std.specs.List.{flat_map, remove, slice_get, IsDistinct}
 use Rattle.std.specs.List.Sorted.{IsPermutation}
@@ -33,7 +33,7 @@ flat-permuted (l ∷ ls) (suc i) xs ys h p = IsPermutation-append_right l (flat_
 
 module _ {E S : Type 0} (hash : E → ℕ) (t n o : ℕ) (p : Place) (bs : List (Shelf E)) (h : IsBuckets hash t bs n o) (s : Settings S) {f : Bool × Bool} (c : Contents E S) (view : view_of f bs s ≡ c) (b : Shelf E) (l : p.bucket < length bs) (at : b ≡ get_or bs p.bucket b)
     (lk : p.slot < length (shelf_entries b)) (x : E) (d : Shelf E) (new : d ≡ swapped_out b p.slot x) where
-  -- the bucket, had the others moved up
+  -- the bucket after a removal in which the later entries move up
   abbrev up : Shelf E
   up = without_slot b p.slot
 

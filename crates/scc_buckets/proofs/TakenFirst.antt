@@ -27,17 +27,17 @@ module _ {E S : Type 0} (p : E → Bool) (hash : E → ℕ) (h t n o i : ℕ) (b
   abbrev bucket : Shelf E
   bucket = shelf_of bs i
 
-  -- where the bucket has no entry that passes, none has
+  -- if the bucket has no entry that passes, the table has none
   pub missed-all : position p (shelf_entries (shelf_of bs i)) ≡ None → (ds : List (Shelf E)) → ds ≡ bs → TakesFirstSpot p c (view_of flag ds s) None
   missed-all missed ds stays = (missed_at p hash h t n o i bs own same here s c view bucket l (shelf-at bs i l) missed, ap (λ z. view_of flag z s) stays ∙ view)
 
-  -- nor where its places have none, and no entry lies past them
+  -- if no entry in the bucket's slots passes and its overflow list is empty, no entry of the table passes
   pub missed-places : position p (shelf_of bs i).slots ≡ None → (shelf_of bs i).overflow ≡ [] → (ds : List (Shelf E)) → ds ≡ bs → TakesFirstSpot p c (view_of flag ds s) None
   missed-places missed empty =
       missed-all (position-joined p bucket.slots bucket.overflow ∙ ap (λ q. or_later q (length bucket.slots) (position p bucket.overflow)) missed ∙ ap (λ z. or_later None (length bucket.slots) (position p z)) empty)
 
   module _ (ds : List (Shelf E)) (j : ℕ) (x : E) (out : IsTakenOut p bs i ds j x) where
-    -- where it stood
+    -- the place of the removed entry
     abbrev spot : Place
     spot = record { bucket = i; slot = j }
 
@@ -64,11 +64,11 @@ module _ {E S : Type 0} (p : E → Bool) (hash : E → ℕ) (h t n o i : ℕ) (b
         let w = swapped-table hash t n o spot bs own s c view bucket l (shelf-at bs i l) within x (shelf_of ds i) left r lower upper in
         (subst (λ z. IsBuckets hash t z (n - 1) (o - r)) (sym put) w.0, w.1)
 
-    -- it is a table still, with an entry less
+    -- if the entry stood in a slot, the table stays a table with one entry less
     pub taken-near : j < length (shelf_of bs i).slots → IsBuckets hash t ds (n - 1) o
     taken-near near = let w = table 0 (λ _. refl) (λ far. absurd (omega arith)) in let e : o - 0 ≡ o = omega arith in subst (λ m. IsBuckets hash t ds (n - 1) m) e w.0
 
-    -- and with one less past the places, where it stood there
+    -- if the entry stood in the overflow list, the table stays a table with one overflow entry less
     pub taken-far : length (shelf_of bs i).slots ≤ j → IsBuckets hash t ds (n - 1) (o - 1) × (1 ≤ o)
     taken-far far = table 1 (λ near. absurd (omega arith)) (λ _. refl)
 

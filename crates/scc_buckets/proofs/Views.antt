@@ -1,4 +1,4 @@
--- A table's words, by its buckets.
+-- The words of a table, computed from its buckets.
 use Rattle.std.proofs.Common.{◌≡◌, ℕ, ◌<◌, Bool, List, [], ◌∷◌, ◌++◌, length, map, get_or, refl, sym, ap, ◌∙◌}
 use Rattle.std.specs.List.{flat_map}
 use Rattle.std.proofs.lemmas.List.{get_or-map, length-map}
@@ -10,7 +10,7 @@ pub flat_lists : {E : Type 0} (bs : List (Shelf E)) → flat_map (λ l. l) (map 
 flat_lists [] = refl
 flat_lists (b ∷ bs) = ap (λ z. shelf_entries b ++ z) (flat_lists bs)
 
--- what a clause sees of this flag, these buckets and settings
+-- the contents that a clause sees of these flags, buckets and settings
 abbrev pub view_of : {E S : Type 0} → Bool × Bool → List (Shelf E) → Settings S → Contents E S
 view_of f bs s = record { lists = map shelf_entries bs; settings = s; refused = f; spilled = overflow_in bs; waiting = []; owed = [] }
 
@@ -43,7 +43,7 @@ module _ {E S : Type 0} (bs : List (Shelf E)) (s : Settings S) {f : Bool × Bool
   unfolding overflow_of
   spilled-view = ap (λ (x : Contents E S). x.spilled) (sym view)
 
-  -- nothing waits
+  -- no bucket waits
   pub waiting-view : waiting_of c ≡ []
   unfolding waiting_of
   waiting-view = ap (λ (x : Contents E S). x.waiting) (sym view)

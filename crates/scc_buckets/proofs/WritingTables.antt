@@ -21,7 +21,7 @@ use Rattle.scc_buckets.proofs.Spots.{before, flat-get, flat-set, place-get}
 use Rattle.scc_buckets.proofs.Views.{view_of, entries-view}
 use Rattle.scc_array.proofs.Writing.{set-write_at}
 
--- a function that reads the same of the written entry reads the same of all
+-- if f is equal at an entry before and after a write, the write changes no value of f
 map-write_at : {E X Y : Type 0} (put : E → X → E) (f : E → Y) (es : List E) (i : ℕ) (e : E) (w : X) → slice_get es i ≡ Some e → f (put e w) ≡ f e → map f (write_at put es i w) ≡ map f es
 map-write_at put f [] i e w got same = refl
 map-write_at put f (x ∷ es) zero e w got same = let s : x ≡ e = cc in ap (λ y. y ∷ map f es) (ap (λ z. f (put z w)) s ∙ same ∙ ap f (sym s))
@@ -92,7 +92,7 @@ all-write P key put [] i e w got y h = h
 all-write P key put (x ∷ es) zero e w got y h = let s : x ≡ e = cc in (subst (λ z. P (key (put z w))) (sym s) y, h.1)
 all-write P key put (x ∷ es) (suc i) e w got y h = (h.0, all-write P key put es i e w got y h.1)
 
--- an entry may be written where its new key equals its old one
+-- keys stay distinct if an entry is written whose new key equals its old one
 pub distinct-write : {E X K : Type 0} {eq : K → K → Bool} (laws : IsEquivalence eq) (key : E → K) (put : E → X → E) (es : List E) (i : ℕ) (e : E) (w : X) → slice_get es i ≡ Some e → eq (key (put e w)) (key e) ≡ true
     → IsDistinct eq (map key es) → IsDistinct eq (map key (write_at put es i w))
 distinct-write laws key put [] i e w got y d = d
@@ -106,7 +106,7 @@ distinct-write {eq = eq} laws key put (x ∷ es) (suc i) e w got y d =
     IsDistinct-cons eq (key x) (map key (write_at put es i w)) (all-write (λ k. eq (key x) k ≡ false) key put es i e w got away apart) (distinct-write laws key put es i e w got y (IsDistinct-tail eq (key x) (map key es) d))
 
 module _ {E S X : Type 0} (put : E → X → E) (c : Contents E S) (p : Place) (within : IsSpot c p) (e : E) (got : slice_get (list_of c p.bucket) p.slot ≡ Some e) (w : X) where
-  -- a write at a place is a write among all entries
+  -- a write at a place is a write at the place's index among all entries
   pub entries-write : entries (with_write_at_spot put c p w) ≡ write_at put (entries c) (index_of_spot c p) w
   unfolding entries list_of bucket_count index_of_spot with_write_at_spot
   entries-write =

@@ -22,7 +22,7 @@ use Rattle.scc_calls.specs.declared.replies.Reply.TheVariants.{Evicted, Exists, 
 use Rattle.scc_common.specs.declared.errors.InsertError.TheVariants.{Memory}
 use Rattle.scc_common.specs.declared.errors.InsertError.TheVariants as error
 
--- the same state is left where nothing happened
+-- a state that is equal to the state before stays
 pub stays-same : {X : Type 0} (R : List X → ℕ → List X → Type 0) (s t : List X) → t ≡ s → Stays length R s t
 stays-same R s t e = subst (λ z. Stays length R s z) (sym e) (let y : (length s == length s) ≡ true = eq-eqb (length s) (length s) refl in rw y refl)
 
@@ -47,7 +47,7 @@ module _ {E H : Type 0} where
     ]
   ]
 
-  -- a shrink leaves the lists, or makes fewer of them, not below the minimum
+  -- a shrink leaves the lists, or makes fewer of them but not below the minimum
   shrunk : (hash : E → ℕ) (c d : Cached E H) → ShrinksTo hash c d → (lists_of d.contents ≡ lists_of c.contents) ⊎ ((bucket_count d.contents < bucket_count c.contents) × (minimum_of c.contents ≤ 32 * bucket_count d.contents) × IsResized hash c.contents d.contents)
   shrunk hash c d s = elim s.shrinks [
     | stays_wide due e ↦ inl (ap lists_of e)
@@ -64,7 +64,7 @@ module _ {K V : Type 0} (eq : K → K → Bool) where
   takes-length number k p s t h = ap length h.2 ∙ length-set s (number (length s) k) _
 
 module _ {K V H : Type 0} (hash : K → ℕ) where
-  -- a resize of the table is one of the lists, under the setting of the cache that the call began with
+  -- a resize of the table is a resize of the lists, under the setting of the cache before the call
   pub resized : (o c d : Cached (K × V) H) → settings_of c.contents ≡ settings_of o.contents → c.maximum ≡ o.maximum → IsResized (λ e. hash e.0) c.contents d.contents → ((i : ℕ) → length (list_of d.contents i) ≤ 32) → 32 * bucket_count d.contents ≤ c.maximum
       → (bucket_count d.contents < bucket_count c.contents → minimum_of c.contents ≤ 32 * bucket_count d.contents)
       → CacheResizes (cache_setting o) (list_number hash o.contents) (lists_of c.contents) (bucket_count d.contents) (lists_of d.contents)
@@ -79,7 +79,7 @@ module _ {K V H : Type 0} (hash : K → ℕ) where
   }
 
   module _ (eq : K → K → Bool) where
-    -- a put of a new key
+    -- a put of a new key is a call on the lists
     pub put-changes : (c d : Cached (K × V) H) (k : K) (v : V) (x : Option (K × V)) → Puts hash eq c (k, v) (Ok x) d → 32 * bucket_count d.contents ≤ d.maximum
         → MovesResized length (CacheMoves eq (list_number hash c.contents)) (CacheResizes (cache_setting c) (list_number hash c.contents)) (lists_of c.contents) (Put k v) (Evicted x) (lists_of d.contents)
     unfolding bucket_count lists_of
@@ -101,7 +101,7 @@ module _ {K V H : Type 0} (hash : K → ℕ) where
           ))
         ]
 
-    -- a removal
+    -- a removal is a call on the lists
     pub takes-changes : (c d : Cached (K × V) H) (k : K) (p : K × V) → TakesThen hash eq c k p d → ((i : ℕ) → length (list_of d.contents i) ≤ 32) → 32 * bucket_count d.contents ≤ d.maximum
         → MovesResized length (CacheMoves eq (list_number hash c.contents)) (CacheResizes (cache_setting c) (list_number hash c.contents)) (lists_of c.contents) (Remove k) (Pair (Some p)) (lists_of d.contents)
     unfolding bucket_count lists_of
@@ -128,7 +128,7 @@ module _ {K V H : Type 0} (hash : K → ℕ) where
           | inr r ↦ inr (inr (omega (arith, r.0), (lists_of left.contents, change.lists, resized c left d change.settings change.maximum r.2 short (let m = h.2.maximum in omega arith) (λ less. r.1))))
         ]
 
-    -- a put of a key that is there
+    -- a put of a key that is there is a call on the lists
     pub exists-changes : (c d : Cached (K × V) H) (k : K) (v : V) (q : K × V) → Puts hash eq c (k, v) (Err (error.Exists q)) d
         → MovesResized length (CacheMoves eq (list_number hash c.contents)) (CacheResizes (cache_setting c) (list_number hash c.contents)) (lists_of c.contents) (Put k v) (Exists q.0 q.1) (lists_of d.contents)
     exists-changes c d k v q h = let e = ap (λ x. lists_of x.contents) h.2 in inl (ap length e, (ap (λ (p : K × V). p.0) h.0, ap (λ (p : K × V). p.1) h.0, (h.1.0, h.1.1.0, h.1.1.1), e))
@@ -142,7 +142,7 @@ module _ {K V H : Type 0} (hash : K → ℕ) where
     remove-changes c d k None h short within = let e = ap (λ x. lists_of x.contents) h.1 in inl (ap length e, (h.0, e))
     remove-changes c d k (Some p) h short within = takes-changes c d k p h short within
 
-    -- the setting after each call
+    -- no call changes the setting
     pub takes-setting : (c d : Cached (K × V) H) (k : K) (p : K × V) → TakesThen hash eq c k p d → cache_setting d ≡ cache_setting c
     takes-setting c d k p h = same-setting c d ((shrunk-within (λ e. hash e.0) h.0.contents d.contents h.2.shrinks).1 ∙ h.1.settings) (h.2.maximum ∙ h.1.maximum)
 
@@ -156,7 +156,7 @@ module _ {K V H : Type 0} (hash : K → ℕ) where
     pub put-setting : (c d : Cached (K × V) H) (k : K) (v : V) (x : Option (K × V)) → Puts hash eq c (k, v) (Ok x) d → cache_setting d ≡ cache_setting c
     put-setting c d k v x h = same-setting c d (h.1.2.settings ∙ h.1.1.settings) (h.1.2.maximum ∙ h.1.1.maximum)
 
-    -- a look-up
+    -- a look-up is a call on the lists
     pub contains-changes : (c : Cached (K × V) H) (k : K) (b : Bool) → (IsTrue b → (p : K × V) × IsPresent hash eq c.contents k p) → ((IsTrue b → ⊥) → IsAbsent hash eq c.contents k)
         → MovesResized length (CacheMoves eq (list_number hash c.contents)) (CacheResizes (cache_setting c) (list_number hash c.contents)) (lists_of c.contents) (Contains k) (Has b) (lists_of c.contents)
     contains-changes c k true there none = let yes_it : IsTrue true = search rules in let y = there yes_it in inl (refl, ((y.0, y.1.0, y.1.1), refl))
@@ -175,7 +175,7 @@ module _ {K V H : Type 0} (hash : K → ℕ) where
     unfolding entries lists_of
     len-changes c n e = inl (refl, (e, refl))
 
-    -- a get that finds its key
+    -- a get that finds its key is a call on the lists
     pub get-moves : (c d : Cached (K × V) H) (k : K) (p : K × V) (v : V) → v ≡ p.1 → steps.ChangesLists (Refreshes (list_number hash c.contents) eq k p) c d → CacheMoves eq (list_number hash c.contents) (lists_of c.contents) (Get k) (Value (Some v)) (lists_of d.contents)
     get-moves c d k p v is h = (p.0, subst (λ x. Refreshes (list_number hash c.contents) eq k (p.0, x) (lists_of c.contents) (lists_of d.contents)) (sym is) h.lists)
 
@@ -183,7 +183,7 @@ module _ {K V H : Type 0} (hash : K → ℕ) where
         → MovesResized length (CacheMoves eq (list_number hash c.contents)) (CacheResizes (cache_setting c) (list_number hash c.contents)) (lists_of c.contents) (Get k) (Value (Some v)) (lists_of d.contents)
     get-changes c d k p v is h = inl (ap length h.lists.2 ∙ length-set (lists_of c.contents) _ _, get-moves c d k p v is h)
 
-    -- a write of a value
+    -- a write of a value is a call on the lists
     pub write-moves : (c d : Cached (K × V) H) (k : K) (p : K × V) (w v : V) → w ≡ p.1 → steps.ChangesLists (RefreshesAs (list_number hash c.contents) eq k p (p.0, v)) c d
         → CacheMoves eq (list_number hash c.contents) (lists_of c.contents) (Write k v) (Old (Some w)) (lists_of d.contents)
     write-moves c d k p w v is h = (p.0, subst (λ x. RefreshesAs (list_number hash c.contents) eq k (p.0, x) (p.0, v) (lists_of c.contents) (lists_of d.contents)) (sym is) h.lists)
@@ -192,7 +192,7 @@ module _ {K V H : Type 0} (hash : K → ℕ) where
         → MovesResized length (CacheMoves eq (list_number hash c.contents)) (CacheResizes (cache_setting c) (list_number hash c.contents)) (lists_of c.contents) (Write k v) (Old (Some w)) (lists_of d.contents)
     write-changes c d k p w v is h = inl (ap length h.lists.2 ∙ length-set (lists_of c.contents) _ _, write-moves c d k p w v is h)
 
-    -- a replacement of a key
+    -- a replacement of a key is a call on the lists
     pub replace-moves : (c d : Cached (K × V) H) (k l : K) (v : V) (q : K × V) → q ≡ (k, v) → steps.ChangesLists (RefreshesAs (list_number hash c.contents) eq k (l, v) q) c d
         → CacheMoves eq (list_number hash c.contents) (lists_of c.contents) (Replace k) (Key (Some l)) (lists_of d.contents)
     replace-moves c d k l v q is h = (v, subst (λ x. RefreshesAs (list_number hash c.contents) eq k (l, v) x (lists_of c.contents) (lists_of d.contents)) is h.lists)

@@ -1,4 +1,4 @@
--- What is said of a new cache, as a part.
+-- Facts about a new cache, as a part.
 use Rattle.std.proofs.Common.{◌≡◌, ℕ, ◌+◌, ◌*◌, ◌<◌, List, [], ◌∷◌, ◌++◌, length, max, Ok, Err, refl, sym, ap, ◌∙◌, subst, arith, length-append}
 use Rattle.std.specs.Prelude.{Result, IfOk, replicate}
 use Rattle.std.specs.List.{flat_map}
@@ -33,7 +33,7 @@ unfolding bucket_count lists_of
 made-size h t (Ok m) s = let a = ap (λ u. u.asked) s in let z = ap (λ u. u.reserved) s in omega (arith, a, z)
 made-size h t (Err y) s = tt
 
--- lists that hold nothing together are empty
+-- if the joined lists have no element, each list is empty
 none-left : {X : Type 0} (ls : List (List X)) → flat_map (λ l. l) ls ≡ [] → ls ≡ replicate (length ls) []
 none-left [] none = refl
 none-left {X} (l ∷ ls) none =

@@ -25,7 +25,7 @@ use Rattle.scc_calls.specs.declared.replies.Reply.TheVariants.{Evicted, Exists, 
 use Rattle.scc_calls.proofs.CacheCalls.{grown, puts-length, takes-length}
 
 module _ {X : Type 0} (l : List X) where
-  -- a list with room loses none, a full one its first
+  -- a put into a list with room evicts no pair, and a put into a full list evicts its first pair
   pub roomy-none : length l < 32 → first_of_full l ≡ None
   roomy-none h = let z : nat_lt (length l) 32 ≡ true = search rules in ap (λ b. cond b None (slice_get l 0)) z
 
@@ -45,7 +45,7 @@ module _ {K V : Type 0} (eq : K → K → Bool) (number : ℕ → K → ℕ) whe
   put-first p None s t h = roomy-none (list_for number s p.0) h.2
   put-first p (Some y) s t h = full-first (list_for number s p.0) h.1 ∙ ap (λ (l : List (K × V)). slice_get l 0) h.2.1
 
-  -- a call gives the reply of its lists
+  -- a call gives the reply that `cache_answer` reads from its lists
   pub moves-answer : (s t : List (List (K × V))) (call : CacheCall K V) (reply : Reply K V) → CacheMoves eq number s call reply t → cache_answer eq number s call ≡ reply
   moves-answer s t (Put k v) (Evicted x) m =
       ap (λ (o : Option (K × V)). cond (is_some o) (Exists k v) (Evicted (first_of_full (list_for number s k)))) (missing-found number eq s k (put-missing (k, v) x s t m)) ∙ ap (λ (o : Option (K × V)). let r : Reply K V = Evicted o in r) (put-first (k, v) x s t m)
@@ -69,7 +69,7 @@ module _ {K V : Type 0} (eq : K → K → Bool) (number : ℕ → K → ℕ) whe
   moves-answer s t Len (Count n) m = ap (λ x. let r : Reply K V = Count x in r) (sym m.0)
   moves-answer s t call reply m = absurd m
 
-  -- and so it does with a resize, unless that is a growth
+  -- a call with a resize also gives the reply of `cache_answer`, unless the resize is a growth
   pub changes-answer : (R : List (List (K × V)) → ℕ → List (List (K × V)) → Type 0) (s t : List (List (K × V))) (call : CacheCall K V) (reply : Reply K V) → length t ≤ length s → MovesResized length (CacheMoves eq number) R s call reply t → cache_answer eq number s call ≡ reply
   changes-answer R s t call reply less (inl c) = moves-answer s t call reply c.1
   changes-answer R s t call reply less (inr (inl c)) = absurd (let more = c.0 in omega arith)
@@ -82,7 +82,7 @@ module _ {K V : Type 0} (eq : K → K → Bool) (number : ℕ → K → ℕ) whe
       (λ i e. let q = find-position (eq k) (list_for number s k) i e in f i q.0 record { first = e; pair = q.1 })
       n
 
-  -- what a look-up finds is read
+  -- a read returns the value of the pair that a look-up finds
   pub read-moves : (s : List (List (K × V))) (k : K) → CacheMoves eq number s (Read k) (Value (option_map (λ p. p.1) (pair_for number eq s k))) s
   read-moves s k =
       let P : Option (K × V) → Type 0 = λ o. CacheMoves eq number s (Read k) (Value (option_map (λ p. p.1) o)) s in
@@ -91,7 +91,7 @@ module _ {K V : Type 0} (eq : K → K → Bool) (number : ℕ → K → ℕ) whe
       (λ none. subst P (sym (missing-found number eq s k none)) (none, refl))
 
 module _ {K V H : Type 0} (hash : K → ℕ) (eq : K → K → Bool) (c d : Cached (K × V) H) where
-  -- a put makes the lists no fewer
+  -- a put doesn't lessen the number of lists
   pub put-more : (k : K) (v : V) (x : Option (K × V)) → Puts hash eq c (k, v) (Ok x) d → length (lists_of c.contents) ≤ length (lists_of d.contents)
   unfolding bucket_count lists_of
   put-more k v x h =
@@ -101,13 +101,13 @@ module _ {K V H : Type 0} (hash : K → ℕ) (eq : K → K → Bool) (c d : Cach
         | inr r ↦ let l = r.0 in omega arith
       ]
 
-  -- nor more, where all is made that it wants
+  -- a put doesn't add lists if its preparation is made
   pub put-once : (k : K) (v : V) (x : Option (K × V)) → Puts hash eq c (k, v) (Ok x) d → (IsPreparedForPut hash c k → bucket_count d.contents ≡ bucket_count c.contents) → CacheIsMade eq hash c (Put k v) → length (lists_of d.contents) ≤ length (lists_of c.contents)
   unfolding bucket_count lists_of
   put-once k v x h once (inl p) = absurd (let z : None ≡ Some p.1.0 = sym h.0 ∙ p.1.1.first in cc)
   put-once k v x h once (inr ready) = let e = once ready in omega arith
 
-  -- a removal makes them no more
+  -- a removal doesn't add lists
   pub remove-less : (k : K) (o : Option (K × V)) → Removes hash eq c k o d → length (lists_of d.contents) ≤ length (lists_of c.contents)
   unfolding bucket_count lists_of
   remove-less k None h = let e = ap (λ x. length (lists_of x.contents)) h.1 in omega arith
@@ -123,12 +123,12 @@ module _ {K V H : Type 0} (hash : K → ℕ) (eq : K → K → Bool) (c d : Cach
       let less = (shrunk-within (λ e. hash e.0) h.0.contents d.contents h.2.shrinks).0 in
       omega arith
 
-  -- a pair that is moved within its list leaves them
+  -- a pair that moves within its list leaves the number of lists
   pub refresh-same : (k : K) (p q : K × V) → steps.ChangesLists (RefreshesAs (list_number hash c.contents) eq k p q) c d → length (lists_of d.contents) ≡ length (lists_of c.contents)
   refresh-same k p q h = ap length h.lists.2 ∙ length-set (lists_of c.contents) _ _
 
 module _ {K V S : Type 0} (hash : K → ℕ) (eq : K → K → Bool) (c : Contents (K × V) S) (k : K) where
-  -- what a put would drive out
+  -- the pair that a put would evict
   pub drives-out : (p : K × V) → DrivesOut hash eq c k p → first_of_full (list_of c (list_number hash c (bucket_count c) k)) ≡ Some p
   drives-out p h = full-first (list_of c (list_number hash c (bucket_count c) k)) h.full ∙ h.first
 
@@ -141,7 +141,7 @@ module _ {K V S : Type 0} (hash : K → ℕ) (eq : K → K → Bool) (c : Conten
   list-here = sym (list-is eq (list_number hash c) c k (list_number hash c (bucket_count c) k) refl)
 
 module _ {K V S : Type 0} (hash : K → ℕ) (eq : K → K → Bool) (c : Contents (K × V) S) (k : K) where
-  -- the replies to a put of a new key, and of one that is there
+  -- the replies to a put of a new key, and to a put of a key that is there
   pub put-new : (v : V) → IsAbsent hash eq c k → cache_answer eq (list_number hash c) (lists_of c) (Put k v) ≡ Evicted (first_of_full (list_of c (list_number hash c (bucket_count c) k)))
   put-new v absent =
       ap (λ (o : Option (K × V)). cond (is_some o) (Exists k v) (Evicted (first_of_full (list_for (list_number hash c) (lists_of c) k)))) (missing-found (list_number hash c) eq (lists_of c) k absent)
@@ -150,7 +150,7 @@ module _ {K V S : Type 0} (hash : K → ℕ) (eq : K → K → Bool) (c : Conten
   pub put-there : (v : V) → (p : K × V) × IsPresent hash eq c k p → cache_answer eq (list_number hash c) (lists_of c) (Put k v) ≡ Exists k v
   put-there v p = ap (λ (o : Option (K × V)). cond (is_some o) (Exists k v) (Evicted (first_of_full (list_for (list_number hash c) (lists_of c) k)))) (there-found (list_number hash c) eq (lists_of c) k p.1.0 p.0 p.1.1)
 
-  -- what a look-up tells
+  -- a look-up tells if the key is there
   pub told-there : (b : Bool) → (IsTrue b → (p : K × V) × IsPresent hash eq c k p) → ((IsTrue b → ⊥) → IsAbsent hash eq c k) → is_some (pair_of hash eq c k) ≡ b
   told-there true there none = let y : IsTrue true = search rules in let p = there y in ap (λ (o : Option (K × V)). is_some o) (there-found (list_number hash c) eq (lists_of c) k p.1.0 p.0 p.1.1)
   told-there false there none = let never : IsTrue false → ⊥ = search rules in ap (λ (o : Option (K × V)). is_some o) (missing-found (list_number hash c) eq (lists_of c) k (none never))
@@ -159,11 +159,11 @@ pub count-lists : {E S : Type 0} (c : Contents E S) → length (flat_map (λ l. 
 unfolding entries lists_of
 count-lists c = refl
 
--- what holds of the lists holds of those that are the same
+-- a move to some lists is a move to equal lists
 pub moves-same : {K V : Type 0} (eq : K → K → Bool) (number : ℕ → K → ℕ) (s t u : List (List (K × V))) (call : CacheCall K V) (reply : Reply K V) → CacheMoves eq number s call reply t → u ≡ t → CacheMoves eq number s call reply u
 moves-same eq number s t u call reply m same = subst (λ x. CacheMoves eq number s call reply x) (sym same) m
 
--- a call that was made, with the reply that stems from the one that it gives
+-- a call that was made, and a reply that stems from the call's own reply
 pub answers-own : {K V H : Type 0} (clone : V → V → Type 0) (hash : K → ℕ) (eq : K → K → Bool) (c d : Cached (K × V) H) (call own : CacheCall K V) → call ≡ own → (given reply : Reply K V) → CacheStems clone own given reply
     → MovesResized length (CacheMoves eq (list_number hash c.contents)) (CacheResizes (cache_setting c) (list_number hash c.contents)) (lists_of c.contents) own given (lists_of d.contents)
     → MovesResized length (Answers (CacheStems clone) (CacheMoves eq (list_number hash c.contents))) (CacheResizes (cache_setting c) (list_number hash c.contents)) (lists_of c.contents) call reply (lists_of d.contents)
@@ -174,7 +174,7 @@ answers-own {K = K} clone hash eq c d call own is given reply from raw =
 -- a call that was made, and the copies of its reply
 module _ {K V H : Type 0} {calls : CacheCall K V → CacheCall K V → Bool} {replies : Reply K V → Reply K V → Bool} (pc : IsPartialEquivalence calls) (pr : IsPartialEquivalence replies) (hash : K → ℕ) (eq : K → K → Bool) (c d : Cached (K × V) H) (call own : CacheCall K V) (is : call ≡ own) (made : Reply K V)
     (raw : MovesResized length (CacheMoves eq (list_number hash c.contents)) (CacheResizes (cache_setting c) (list_number hash c.contents)) (lists_of c.contents) own made (lists_of d.contents)) where
-  -- what equals the reply of the lists equals its own
+  -- a copy that is equal to the reply of `cache_answer` is equal to the call's own reply
   pub answers-made : (copy : Reply K V) → length (lists_of d.contents) ≤ length (lists_of c.contents) → replies (cache_answer eq (list_number hash c.contents) (lists_of c.contents) call) copy ≡ true → replies made copy ≡ true
   answers-made copy less asked =
       let number : ℕ → K → ℕ = list_number hash c.contents in

@@ -13,7 +13,7 @@ stays-more : {X : Type 0} (R : List X → ℕ → List X → Type 0) (s t : List
 stays-more R s t more r = let f : (length s == length t) ≡ false = grind (arith, nat_tests, more) in rw f r
 
 module _ {K V H : Type 0} (hash : K → ℕ) (eq : K → K → Bool) (c d : Cached (K × V) H) (k : K) (room : PreparesPut hash c k d) where
-  -- the lists stay, or there are more of them
+  -- room for a put leaves the lists, or makes more of them
   pub room-stays : 32 * bucket_count d.contents ≤ c.maximum → Stays length (CacheResizes (cache_setting c) (list_number hash c.contents)) (lists_of c.contents) (lists_of d.contents)
   unfolding bucket_count lists_of
   room-stays within =
@@ -30,7 +30,7 @@ module _ {K V H : Type 0} (hash : K → ℕ) (eq : K → K → Bool) (c d : Cach
     | inr r ↦ let l = r.0 in omega arith
   ]
 
-  -- with an array nothing is refused
+  -- if there is an array, no put is refused: so a put after room was made is refused only if it may be refused before
   pub room-still : (v : V) → CacheMayRefuse eq (list_number hash c.contents) (lists_of d.contents) (Put k v) → CacheMayRefuse eq (list_number hash c.contents) (lists_of c.contents) (Put k v)
   unfolding bucket_count lists_of
   room-still v h = absurd (let some = room.ready.0 in let none = h.1 in omega arith)

@@ -1,4 +1,4 @@
--- Copies of what was found equal it.
+-- A copy of a found value is equal to the found value.
 use Rattle.std.proofs.Common.{◌≡◌, Bool, true, Option, None, Some}
 use Rattle.std.specs.Option.{option_map}
 use Rattle.scc_common.specs.Copies.{IsCopied}
@@ -20,7 +20,7 @@ module _ {X Z : Type 0} {clone : Z → Z → Type 0} {same : Z → Z → Bool} (
   copied_whole None (Some y) h = absurd h
   copied_whole (Some x) None h = absurd h
 
--- a clone of a part of what is there
+-- a clone of a part of a value is a copy of that part
 pub copied-part : {X Y Z : Type 0} (copy : Y → Z → Type 0) (get : X → Y) (o : Option X) (w : Option Z) → IsCopied (λ x z. copy (get x) z) o w → IsCopied copy (option_map get o) w
 copied-part copy get None None h = h
 copied-part copy get (Some x) (Some z) h = h

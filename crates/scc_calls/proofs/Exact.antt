@@ -1,4 +1,4 @@
--- Histories by one meaning are histories by another that each step has too.
+-- Histories by one meaning are histories by another meaning, if each step by the one is a step by the other.
 use Rattle.std.proofs.Common.{ℕ, List, [], ◌∷◌}
 use Rattle.scc_calls.specs.Histories.{Goes, Replay, Replays, Run}
 use Rattle.scc_calls.specs.declared.steps.Step.{Step}

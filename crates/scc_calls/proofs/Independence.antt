@@ -1,9 +1,9 @@
--- Two runs of the same calls, where what is alike in two states settles what a call answers.
+-- Two runs of the same calls from states that are alike. A call has equal replies in states that are alike.
 use Rattle.std.proofs.Common.{◌≡◌, ◌∙◌, ℕ, List, [], ◌∷◌, ◌++◌, length, ◌⊎◌, inl, inr, refl, sym, ap, arith, length-append, append-nil, ◌≤◌}
 use Rattle.scc_calls.specs.Run.{IsRun, done, resize, answer}
 
 module _ {R : Type 0} where
-  -- one list goes on where the other stops
+  -- `made` begins with `others` and has more replies
   abbrev pub GoesOn : List R → List R → Type 0
   GoesOn made others = (x : R) × (rest : List R) × (made ≡ others ++ x ∷ rest)
 
@@ -11,7 +11,7 @@ module _ {R : Type 0} where
   longer made others g l = omega (arith, l, ap length g.2, length-append others (g.0 ∷ g.1))
 
 module _ {S R : Type 0} (Like : S → S → Type 0) where
-  -- the same replies, and ends that are alike; or the replies of one go on where the other stops
+  -- the replies are equal and the ends are alike; or one run's replies begin with the other's and go on
   abbrev pub Agrees : List R → List R → S → S → Type 0
   Agrees made others u v = ((made ≡ others) × Like u v) ⊎ (GoesOn made others ⊎ GoesOn others made)
 
@@ -24,7 +24,7 @@ module _ {S R : Type 0} (Like : S → S → Type 0) where
     ]
   ]
 
-  -- as many replies are the same replies
+  -- if two runs have equally many replies, the replies are equal and the ends are alike
   pub equally-many : (made others : List R) (u v : S) → Agrees made others u v → length made ≡ length others → (made ≡ others) × Like u v
   equally-many made others u v a l = elim a as (λ _. (made ≡ others) × Like u v) [
     | inl same ↦ same
@@ -34,7 +34,7 @@ module _ {S R : Type 0} (Like : S → S → Type 0) where
     ]
   ]
 
-  -- replies that are no more than those are the first of them
+  -- if `others` has no more replies than `made`, `made` begins with `others`
   pub first-replies : (made others : List R) (u v : S) → Agrees made others u v → length others ≤ length made → (rest : List R) × (made ≡ others ++ rest)
   first-replies made others u v a l = elim a as (λ _. (rest : List R) × (made ≡ others ++ rest)) [
     | inl same ↦ ([], same.0 ∙ sym (append-nil others))
@@ -60,7 +60,7 @@ module _ {S C R : Type 0} (Like : S → S → Type 0) {moves : S → C → R →
       let a = alike s t mid there call reply other l m n in
       more Like reply other made replies u v a.0 (next there v replies a.1 r)
 
-  -- two runs of the same calls from states that are alike
+  -- two runs of the same calls from states that are alike agree
   pub runs-agree : {s t u v : S} {calls : List C} {made others : List R} → Like s t → IsRun moves resizes s calls made u → IsRun moves others-resizes t calls others v → Agrees Like made others u v
   runs-agree l done r = none-made l r
   runs-agree {t} l (resize {s} {t = mid} {buckets} h r) q = runs-agree (left s t mid buckets l h) r q

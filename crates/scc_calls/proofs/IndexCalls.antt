@@ -28,7 +28,7 @@ some-of : {X : Type 0} (o : Option X) → IsSome o → (x : X) × (o ≡ Some x)
 some-of None h = absurd (let z : false ≡ true = h in cc)
 some-of (Some x) h = (x, refl)
 
--- tests that answer alike find the same key
+-- tests with equal results write the key of the same pair
 set_key-alike : {K V : Type 0} (t u : K → Bool) → ((x : K) → t x ≡ u x) → (es : List (K × V)) (q : K) → set_key t es q ≡ set_key u es q
 set_key-alike t u h [] q = refl
 set_key-alike t u h (x ∷ es) q = λ i. cond (h x.0 i) ((q, x.1) ∷ es) (x ∷ set_key-alike t u h es q i)
@@ -39,7 +39,7 @@ module _ {K V H : Type 0} (eq : K → K → Bool) (clone : K → K → Type 0) (
       → MovesResized (λ s. s.1) (IndexMoves eq clone) (ResizesTo (setting_of c)) (state_of c) (Insert k v) Inserted (state_of d)
   inserted k v u h = holds-changes (IndexMoves eq clone) (Insert k v) Inserted c d ((k, v) ∷ entries c) h.1 (λ number l p. (h.0, (p, refl)))
 
-  -- a clearing
+  -- a call that clears the index
   pub cleared : Holds c [] d → MovesResized (λ s. s.1) (IndexMoves eq clone) (ResizesTo (setting_of c)) (state_of c) Clear Cleared (state_of d)
   cleared h = holds-changes (IndexMoves eq clone) Clear Cleared c d [] h (λ number l p. (none-left l p, refl))
 

@@ -1,4 +1,4 @@
--- What a new table's settings say of a part.
+-- Facts about a part, from the settings of a new table.
 use Rattle.std.proofs.Common.{◌≡◌, ℕ, ◌+◌, ◌*◌, ◌<◌, Ok, Err, refl, sym, ap, subst, arith}
 use Rattle.std.specs.Prelude.{Result, IfOk}
 use Rattle.scc_common.specs.Contents.{Contents, bucket_count, settings_of}

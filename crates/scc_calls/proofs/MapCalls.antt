@@ -33,7 +33,7 @@ module _ {K V H : Type 0} (eq : K → K → Bool) (hash : H → K → ℕ) (c d 
   upserted k v (Some w) h = exactly-changes (MapMoves eq) (Upsert k v) (Old (Some w)) c d (set_value (eq k) (entries c) v) h.2 (λ e b. (h.0, h.1, (e, b)))
 
 module _ {K V H : Type 0} (eq : K → K → Bool) (c d : Contents (K × V) H) where
-  -- a clearing
+  -- a call that clears the map
   pub cleared : Holds c [] d → MovesResized (λ s. s.1) (MapMoves eq) (ResizesTo (setting_of c)) (state_of c) Clear Cleared (state_of d)
   cleared h = holds-changes (MapMoves eq) Clear Cleared c d [] h (λ number l p. (none-left l p, refl))
 
@@ -47,12 +47,12 @@ module _ {K V H : Type 0} (eq : K → K → Bool) (c d : Contents (K × V) H) wh
   removed-setting k None h = ap setting_by h.1.settings
   removed-setting k (Some p) h = ap setting_by h.1.settings
 
--- by what was found
+-- two cases: a value was found, or none was found
 pub by-find : {X : Type 0} {P : Type 0} (o : Option X) → ((x : X) → o ≡ Some x → P) → (o ≡ None → P) → P
 by-find (Some x) f n = f x refl
 by-find None f n = n refl
 
--- where room was made and memory may be refused still, it might have been before
+-- if memory may be refused after room was made, it may be refused before too
 pub refuses-still : {K V H : Type 0} (eq : K → K → Bool) (hash : H → K → ℕ) (c d : Contents (K × V) H) (k : K) → find eq (entries c) k ≡ None → Prepares (hash (settings_of c).hasher) (λ p. p.0) c (hash (settings_of c).hasher k) d
     → MapRefuses eq hash (setting_of c) (state_of d) k → MapRefuses eq hash (setting_of c) (state_of c) k
 refuses-still {K} {V} {H} eq hash c d k none room h = (

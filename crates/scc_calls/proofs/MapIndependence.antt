@@ -1,4 +1,4 @@
--- What a call of a map answers and leaves is settled by its pairs, whatever their order: hashes and the number of buckets don't matter.
+-- The pairs of a map determine a call's reply and the pairs after it. Order, hashes and number of buckets don't matter.
 use Rattle.std.proofs.Common.{◌≡◌, ◌∙◌, Bool, true, false, cond, List, [], ◌∷◌, ◌++◌, length, Option, None, Some, refl, sym, ap, subst, arith}
 use Rattle.std.specs.Cmp.{IsEquivalence}
 use Rattle.std.specs.List.{IsDistinct}
@@ -23,7 +23,7 @@ use Rattle.scc_calls.specs.declared.replies.Reply.TheVariants.{Inserted, Exists,
 use Rattle.scc_calls.proofs.Independence.{Agrees, runs-agree, equally-many, first-replies, no-more}
 
 module _ {K V : Type 0} (t : K → Bool) where
-  -- the pairs about the one that is found
+  -- the pairs before and after the found pair
   split-found : (es : List (K × V)) (p : K × V) → lookup_entry t es ≡ Some p → (front : List (K × V)) × (back : List (K × V)) × (es ≡ front ++ p ∷ back) × NonePasses t front × (t p.0 ≡ true)
   split-found [] p e = absurd (let h : None ≡ Some p = e in cc)
   split-found (x ∷ es) p e = by_answer (t x.0)
@@ -31,14 +31,14 @@ module _ {K V : Type 0} (t : K → Bool) where
       (λ y. let r = split-found es p (sym (cond-false (Some x) (lookup_entry t es) y) ∙ e) in (x ∷ r.0, r.1, ap (λ l. x ∷ l) r.2, (y, r.3), r.4))
 
 module _ {K V : Type 0} (eq : K → K → Bool) where
-  -- the found pair and the others
+  -- the pairs are a permutation of the found pair and the others
   found-apart : (es : List (K × V)) (k : K) (p : K × V) → find eq es k ≡ Some p → IsPermutation es (p ∷ without eq es k)
   found-apart es k p f =
       let s = split-found (eq k) es p f in
       subst (λ (l : List (K × V)). IsPermutation l (p ∷ without eq l k)) (sym s.2)
       (subst (λ (l : List (K × V)). IsPermutation (s.0 ++ p ∷ s.1) (p ∷ l)) (sym (without-split (eq k) s.0 p s.1 s.3 s.4)) (IsPermutation-middle s.0 p s.1))
 
-  -- the same once a value was written into it
+  -- the pairs with a value written into the found pair are a permutation of the written pair and the others
   value-apart : (es : List (K × V)) (k : K) (p : K × V) (w : V) → find eq es k ≡ Some p → IsPermutation (set_value (eq k) es w) ((p.0, w) ∷ without eq es k)
   value-apart es k p w f =
       let s = split-found (eq k) es p f in
@@ -46,7 +46,7 @@ module _ {K V : Type 0} (eq : K → K → Bool) where
       (subst (λ (l : List (K × V)). IsPermutation l ((p.0, w) ∷ without eq (s.0 ++ p ∷ s.1) k)) (sym (set_value-split (eq k) s.0 p s.1 w s.3 s.4))
       (subst (λ (l : List (K × V)). IsPermutation (s.0 ++ (p.0, w) ∷ s.1) ((p.0, w) ∷ l)) (sym (without-split (eq k) s.0 p s.1 s.3 s.4)) (IsPermutation-middle s.0 (p.0, w) s.1)))
 
-  -- the same once a key was written into it
+  -- the pairs with a key written into the found pair are a permutation of the written pair and the others
   key-apart : (es : List (K × V)) (k : K) (p : K × V) (q : K) → find eq es k ≡ Some p → IsPermutation (set_key (eq k) es q) ((q, p.1) ∷ without eq es k)
   key-apart es k p q f =
       let s = split-found (eq k) es p f in
@@ -61,7 +61,7 @@ module _ {K V : Type 0} {eq : K → K → Bool} (laws : IsEquivalence eq) where
   others-distinct : (es : List (K × V)) (k : K) (p : K × V) → find eq es k ≡ Some p → IsDistinct eq (keys_of es) → IsDistinct eq (keys_of (without eq es k))
   others-distinct es k p f d = IsDistinct-tail eq p.0 (keys_of (without eq es k)) (found-distinct es k p f d)
 
-  -- another pair with an equal key in the place of the found one
+  -- keys stay distinct if another pair with an equal key replaces the found pair
   instead-distinct : (es : List (K × V)) (k : K) (p q : K × V) → find eq es k ≡ Some p → IsDistinct eq (keys_of es) → eq q.0 p.0 ≡ true → IsDistinct eq (keys_of (q ∷ without eq es k))
   instead-distinct es k p q f d y =
       let apart = found-distinct es k p f d in
@@ -69,7 +69,7 @@ module _ {K V : Type 0} {eq : K → K → Bool} (laws : IsEquivalence eq) where
       (along (λ z n. laws.congr q.0 p.0 z y ∙ n) (keys_of (without eq es k)) (IsDistinct-head eq p.0 (keys_of (without eq es k)) apart))
       (IsDistinct-tail eq p.0 (keys_of (without eq es k)) apart)
 
-  -- the others are the same in another order
+  -- if two lists are permutations, their pairs without the found pair are permutations
   others-alike : (es ds : List (K × V)) (k : K) (p : K × V) → find eq es k ≡ Some p → IsDistinct eq (keys_of es) → IsPermutation es ds → IsPermutation (without eq es k) (without eq ds k)
   others-alike es ds k p f d perm =
       let e = distinct-IsPermutation laws es ds perm d in
@@ -92,11 +92,11 @@ module _ {K V : Type 0} (eq : K → K → Bool) where
   find-if es None = None
   find-if es (Some k) = find eq es k
 
-  -- the pair of the call's key
+  -- the pair of the call's key, if there is one
   abbrev there : List (K × V) → MapCall K V → Option (K × V)
   there es call = find-if es (map_key call)
 
-  -- what the call answers where that pair is there
+  -- the reply of the call, if that pair is there or missing
   abbrev answered : Option (K × V) → List (K × V) → MapCall K V → Reply K V
   answered None es (Insert k v) = Inserted
   answered (Some p) es (Insert k v) = Exists k v
@@ -108,7 +108,7 @@ module _ {K V : Type 0} (eq : K → K → Bool) where
   answered o es Clear = Cleared
   answered o es Len = Count (length es)
 
-  -- the pairs that it leaves, in some order
+  -- the pairs after the call, in some order
   abbrev left : Option (K × V) → List (K × V) → MapCall K V → List (K × V)
   left None es (Insert k v) = (k, v) ∷ es
   left (Some p) es (Insert k v) = es
@@ -123,7 +123,7 @@ module _ {K V : Type 0} (eq : K → K → Bool) where
   left o es Clear = []
   left o es Len = es
 
-  -- a move answers and leaves just that
+  -- a move gives the reply `answered` and leaves the pairs `left`
   not_waiting : (s : State (K × V)) (call : MapCall K V) (reply : Reply K V) (t : State (K × V)) → MapMoves eq s call reply t
       → (o : Option (K × V)) × (there s.0 call ≡ o) × (reply ≡ answered o s.0 call) × IsPermutation (left o s.0 call) t.0
   not_waiting s (Insert k v) Inserted t m = (None, m.0, refl, m.1.0)
@@ -201,7 +201,7 @@ module _ {K V : Type 0} {eq : K → K → Bool} (laws : IsEquivalence eq) where
       )
 
 module _ {K V : Type 0} (eq : K → K → Bool) where
-  -- the same pairs in some order, no two of whose keys are equal
+  -- the pairs of two states are permutations, and no two keys are equal
   pub record IsRearranged (s t : State (K × V)) : Type 0 where
     pub distinct : IsDistinct eq (keys_of s.0)
     pub pairs : IsPermutation s.0 t.0
@@ -219,10 +219,10 @@ module _ {K V H I : Type 0} {eq : K → K → Bool} (laws : IsEquivalence eq) (g
 
   module _ {s t u v : State (K × V)} {calls : List (MapCall K V)} {made others : List (Reply K V)} (d : IsDistinct eq (keys_of s.0)) (perm : IsPermutation s.0 t.0)
       (a : IsRun (MapMoves eq) (ResizesTo g) s calls made u) (b : IsRun (MapMoves eq) (ResizesTo h) t calls others v) (all : length made ≡ length calls) where
-    -- two runs that answer every call
+    -- two runs that answer every call have equal replies
     pub map-runs-same : length others ≡ length calls → (made ≡ others) × IsPermutation u.0 v.0
     map-runs-same too = let e = equally-many (IsRearranged eq) made others u v (map-runs-agree d perm a b) (all ∙ sym too) in (e.0, e.1.pairs)
 
-    -- a run that answers every call, and one that may have stopped
+    -- the replies of a run that answers every call begin with those of a run that may have stopped
     pub map-runs-first : (rest : List (Reply K V)) × (made ≡ others ++ rest)
     map-runs-first = first-replies (IsRearranged eq) made others u v (map-runs-agree d perm a b) (omega (arith, all, no-more b))

@@ -1,4 +1,4 @@
--- What a caller of a run on a map cites.
+-- Lemmas that a caller of a run on a map cites.
 use Rattle.std.proofs.Common.{◌≡◌, ◌∙◌, ℕ, ◌+◌, Bool, List, [], ◌∷◌, ◌++◌, length, Ok, Err, refl, ap, arith}
 use Rattle.std.specs.Prelude.{Result, OnOk}
 use Rattle.std.proofs.lemmas.List.Sorted.{length_permutation}
@@ -15,7 +15,7 @@ module _ {K V H : Type 0} (eq : K → K → Bool) (g : Setting H) where
   none-left done = refl
   none-left (resize h r) = none-left r
 
-  -- what one call for the length answers
+  -- a run of one call for the length replies with the number of pairs
   pub count-by_run : {s t : State (K × V)} {made : List (Reply K V)} → IsRun (MapMoves eq) (ResizesTo g) s (Len ∷ []) made t → length made ≡ 1 → (n : ℕ) × (made ≡ Count n ∷ []) × (n ≡ length s.0)
   count-by_run done l = absurd (let h : 0 ≡ 1 = l in omega arith)
   count-by_run (resize h r) l = let i = count-by_run r l in (i.0, i.1, i.2 ∙ length_permutation _ _ h.same)

@@ -7,7 +7,7 @@ use Rattle.scc_calls.specs.declared.steps.Step.TheVariants.{Call, Resize}
 use Rattle.scc_calls.specs.Parts.{Routed, RoutedFrom, KeyRouted}
 use Rattle.scc_calls.specs.Histories.{Goes, Run, Merge, Replays, StepRouted, CallsRouted}
 
--- the state at a place, its step, and all that holds after the step
+-- the state of one part, its step, and the facts after the step
 record Turn {S A R K : Type 0} (moves : S → A → R → S → Type 0) (resizes : S → ℕ → S → Type 0) (keys : S → List K) (key_of : A → Option K) (route : K → ℕ)
     (k i : ℕ) (parts : List S) (histories : List (List (Step A R))) (ends : List S) (step : Step A R) (rest : List (Step A R)) : Type 0 where
   before : List S
@@ -70,7 +70,7 @@ module _ (S A R K W : Type 0) (moves : S → A → R → S → Type 0) (resizes 
           calls = (calls.0, u.calls);
         }
 
-    -- where nothing is left, the states are the ends
+    -- if no history has a step left, the states are the ends
     ended : (parts : List S) (histories : List (List (Step A R))) (ends : List S) → AllByRecursion (λ xs. xs ≡ []) histories → Replays moves resizes parts histories ends → ends ≡ parts
     ended [] [] [] none replays = refl
     ended [] [] (new ∷ news) none replays = absurd replays
@@ -100,7 +100,7 @@ module _ (S A R K W : Type 0) (moves : S → A → R → S → Type 0) (resizes 
           merge_is_run entries next (slice_set histories entry.0 merge.0) ends u.replays u.routed u.calls merge.2,
         )
 
--- the same from the laws of a kind, with its setting and the number of parts
+-- every merge is a run, by the laws of a kind with its setting and the number of parts
 module _ (G S A R K W : Type 0) (g : G) (n : ℕ) (moves : G → S → A → R → S → Type 0) (resizes : G → S → ℕ → S → Type 0) (empty : ℕ → S) (keys : S → List K) (key_of : A → Option K) (route : G → ℕ → K → ℕ)
     (whole : List S → W) (whole_moves : G → ℕ → ℕ → W → A → R → W → Type 0) (whole_resizes : G → ℕ → ℕ → W → ℕ → W → Type 0)
     (call_is_whole : (g : G) (n : ℕ) (before after : List S) (old new : S) (call : A) (reply : R) → RoutedFrom (route g n) keys 0 (before ++ old ∷ after) → KeyRouted (route g n) (length before) (key_of call)

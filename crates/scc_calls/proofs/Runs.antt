@@ -14,7 +14,7 @@ when_err (Ok x) p = tt
 when_err (Err e) p = p
 
 module _ {S C R : Type 0} (size : S → ℕ) {moves : S → C → R → S → Type 0} {resizes : S → ℕ → S → Type 0} where
-  -- a call with at most one resize, and then a run
+  -- a call with at most one resize, and then a run, are a run
   pub changes : {s t u : S} {call : C} {calls : List C} {reply : R} {replies : List R} → MovesResized size moves resizes s call reply t → IsRun moves resizes t calls replies u → IsRun moves resizes s (call ∷ calls) (reply ∷ replies) u
   changes {s} {t} {u} {call} {calls} {reply} {replies} h r =
       elim h as (λ _. IsRun moves resizes s (call ∷ calls) (reply ∷ replies) u) [
@@ -25,7 +25,7 @@ module _ {S C R : Type 0} (size : S → ℕ) {moves : S → C → R → S → Ty
         ]
       ]
 
-  -- no call and at most one resize, and then a run
+  -- at most one resize without a call, and then a run, are a run
   pub rests : {s t u : S} {calls : List C} {replies : List R} → Stays size resizes s t → IsRun moves resizes t calls replies u → IsRun moves resizes s calls replies u
   rests {s} {t} {u} {calls} {replies} h r =
       elim (either (size s == size t) h) as (λ _. IsRun moves resizes s calls replies u) [
@@ -33,20 +33,20 @@ module _ {S C R : Type 0} (size : S → ℕ) {moves : S → C → R → S → Ty
         | inr resized ↦ resize resized r
       ]
 
--- a run by one meaning is a run by another that each step has too
+-- a run by `moves` is a run by `others` if each step by `moves` is a step by `others`
 pub run-as : {S C R : Type 0} {moves others : S → C → R → S → Type 0} {resizes : S → ℕ → S → Type 0} → ((s : S) (call : C) (reply : R) (t : S) → moves s call reply t → others s call reply t)
     → {s u : S} {calls : List C} {replies : List R} → IsRun moves resizes s calls replies u → IsRun others resizes s calls replies u
 run-as as-other done = done
 run-as as-other (resize h r) = resize h (run-as as-other r)
 run-as as-other (answer {s} {t} {call} {reply} m r) = answer (as-other s call reply t m) (run-as as-other r)
 
--- what each step of a call is by another meaning, the call with its resize is too
+-- if each step of a call by `moves` is a step by `others`, the call with its resize is a call by `others` too
 pub changes-by : {S C D R Q : Type 0} (size : S → ℕ) (resizes : S → ℕ → S → Type 0) (moves : S → C → R → S → Type 0) (others : S → D → Q → S → Type 0) (call : C) (copy : D) (reply : R) (given : Q) (old new : S) → ((s t : S) → moves s call reply t → others s copy given t)
     → MovesResized size moves resizes old call reply new → MovesResized size others resizes old copy given new
 changes-by size resizes moves others call copy reply given old new f (inl c) = inl (c.0, f old new c.1)
 changes-by size resizes moves others call copy reply given old new f (inr (inl c)) = inr (inl (c.0, (c.1.0, c.1.1, f c.1.0 new c.1.2)))
 changes-by size resizes moves others call copy reply given old new f (inr (inr c)) = inr (inr (c.0, (c.1.0, f old c.1.0 c.1.1, c.1.2)))
 
--- what stays stays
+-- a state that doesn't change stays
 pub stays-same : {S : Type 0} (size : S → ℕ) (resizes : S → ℕ → S → Type 0) (s : S) → Stays size resizes s s
 stays-same size resizes s = let t : (size s == size s) ≡ true = grind (arith, nat_tests) in rw t refl

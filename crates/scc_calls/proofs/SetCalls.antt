@@ -28,7 +28,7 @@ module _ {K H : Type 0} (eq : K → K → Bool) (hash : H → K → ℕ) (c d : 
   replaced k (Some q) h = exactly-changes (SetMoves eq) (Replace k) (Key (Some q)) c d (with_key eq (entries c) k) h.1 (λ e b. (h.0, e, b))
 
 module _ {K H : Type 0} (eq : K → K → Bool) (c d : Contents K H) where
-  -- a clearing
+  -- a call that clears the set
   pub cleared : Holds c [] d → MovesResized (λ s. s.1) (SetMoves eq) (ResizesTo (setting_of c)) (state_of c) Clear Cleared (state_of d)
   cleared h = holds-changes (SetMoves eq) Clear Cleared c d [] h (λ number l p. (none-left l p, refl))
 

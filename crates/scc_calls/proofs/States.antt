@@ -1,4 +1,4 @@
--- What a table's words say of states.
+-- From the words of a table to states.
 use Rattle.std.proofs.Common.{◌≡◌, ℕ, List, inl, inr, refl, sym, subst, arith}
 use Rattle.std.specs.List.Sorted.{IsPermutation}
 use Rattle.std.proofs.lemmas.List.Sorted.{IsPermutation-refl}
@@ -17,7 +17,7 @@ module _ {E H : Type 0} where
   lawful-size c d h n = elim h.lawful as (λ _. IsBucketCount (bucket_count d)) [ inl e ↦ absurd (n e) | inr a ↦ a ]
 
   module _ {C R : Type 0} (moves : State E → C → R → State E → Type 0) (call : C) (reply : R) where
-    -- a call that may turn the entries into these with any number of buckets is one call with at most one resize
+    -- a call that may turn the entries into es with any number of buckets is one call with at most one resize
     pub holds-changes : (c d : Contents E H) (es : List E) → Holds c es d
         → ((number : ℕ) (l : List E) → IsPermutation es l → moves (entries c, number) call reply (l, number))
         → MovesResized (λ s. s.1) moves (ResizesTo (setting_of c)) (state_of c) call reply (state_of d)

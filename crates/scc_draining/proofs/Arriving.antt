@@ -1,4 +1,4 @@
--- A table one of whose buckets, which was empty, gets the entries that come from the old array.
+-- A table in which an empty bucket gets the entries that come from the old array.
 use Rattle.std.proofs.Common.{◌≡◌, ◌==◌, ℕ, ◌+◌, ◌^◌, ◌<◌, ◌≤◌, ◌⊎◌, inl, inr, Bool, true, List, [], length, map, set, get_or, refl, sym, ap, ◌∙◌, subst, arith, length-append, Result, Ok, Err, eqb-true}
 use Rattle.std.specs.Prelude.{OnOk, OnErr}
 use Rattle.std.specs.List.{flat_map, IsDistinct}
@@ -17,7 +17,7 @@ use Rattle.scc_draining.specs.Moves.{Drains}
 shelf_with : {E : Type 0} → List E → List ℕ → List E → ℕ → Shelf E
 shelf_with slots tags overflow room = record { slots = slots; tags = tags; overflow = overflow; room = room }
 
--- es came into the empty bucket, at most `left` of them past its slots; or none did
+-- es came into the empty bucket, at most `left` of them into its overflow list; or no entry came
 pub data Landed {E : Type 0} (hash : E → ℕ) (es : List E) (left : ℕ) (d : Shelf E) : Type 0 where
   all : Extends hash empty_shelf d es → length es ≤ 32 + left → Landed hash es left d
   nothing : d ≡ record empty_shelf { room = d.room } → Landed hash es left d
@@ -61,7 +61,7 @@ module _ {E : Type 0} (hash : E → ℕ) (t i : ℕ) (bs : List (Shelf E)) (b : 
         ]
     landed-spilled (nothing e) = let z : length d.overflow ≡ 0 = ap (λ x. length x.overflow) e in omega arith
 
-    -- the table with that bucket
+    -- the table with the changed bucket is a table
     pub landed-table : (count over : ℕ) → IsBuckets hash t bs count over → i < length bs → b ≡ get_or bs i b → shelf_entries b ≡ [] → over + left < 2 ^ 62 → Landed hash (bound_for hash t (length bs) i all_es) left d
         → IsBuckets hash t (set bs i d) (count + length (shelf_entries d)) (over + length d.overflow)
     landed-table count over table l at bare few landed =
@@ -96,7 +96,7 @@ module _ {E S : Type 0} (c : Contents E S) (bs : List (Shelf E)) (were : lists_o
   unfolding entries lists_of
   entries-were = ap (flat_map (λ l. l)) were ∙ flat_lists bs
 
--- keys stay distinct where nothing came in, and are so where the new lists' keys are
+-- keys stay distinct if no entry came in; otherwise they are distinct if the keys of the new lists are
 module _ {E K S : Type 0} (eq : K → K → Bool) (key : E → K) (c : Contents E S) (bs : List (Shelf E)) (were : lists_of c ≡ map shelf_entries bs) (i : ℕ) (d : Shelf E) where
   pub lists-set : map shelf_entries (set bs i d) ≡ set (lists_of c) i (shelf_entries d)
   lists-set = map-set shelf_entries bs i d ∙ ap (λ z. set z i (shelf_entries d)) (sym were)
@@ -104,7 +104,7 @@ module _ {E K S : Type 0} (eq : K → K → Bool) (key : E → K) (c : Contents 
   pub distinct-set : IsDistinct eq (map key (flat_map (λ l. l) (set (lists_of c) i (shelf_entries d)))) → IsDistinct eq (map key (flat_map shelf_entries (set bs i d)))
   distinct-set h = subst (λ z. IsDistinct eq (map key z)) (ap (flat_map (λ l. l)) (sym lists-set) ∙ flat_lists (set bs i d)) h
 
-  -- a bucket without entries stays one
+  -- if a bucket without entries stays without entries, the lists are unchanged
   pub same-lists : (b : Shelf E) → i < length bs → b ≡ get_or bs i b → shelf_entries b ≡ [] → shelf_entries d ≡ [] → set (lists_of c) i (shelf_entries d) ≡ lists_of c
   same-lists b l at bare none =
       let here : get_or (lists_of c) i [] ≡ shelf_entries d = ap (λ ls. get_or ls i []) were ∙ get_or-map shelf_entries bs i b [] l ∙ ap shelf_entries (sym at) ∙ bare ∙ sym none in
@@ -124,14 +124,14 @@ IsDistinct-nil eq = tt
 contents_with : {E S : Type 0} → List (List E) → Settings S → Bool × Bool → ℕ → List Bool → List (List ℕ) → Contents E S
 contents_with ls s r n ws hs = record { lists = ls; settings = s; refused = r; spilled = n; waiting = ws; owed = hs }
 
--- contents are the same where all their words are
+-- contents are equal if all their words are equal
 pub same-contents : {E S : Type 0} (c d : Contents E S) → lists_of d ≡ lists_of c → settings_of d ≡ settings_of c → refused_of d ≡ refused_of c → overflow_of d ≡ overflow_of c → waiting_of d ≡ waiting_of c → owed_of d ≡ owed_of c → d ≡ c
 unfolding lists_of settings_of refused_of overflow_of waiting_of owed_of contents_with
 same-contents c d ls s r n ws hs =
     ap (λ z. contents_with z d.settings d.refused d.spilled d.waiting d.owed) ls ∙ ap (λ z. contents_with c.lists z d.refused d.spilled d.waiting d.owed) s ∙ ap (λ z. contents_with c.lists c.settings z d.spilled d.waiting d.owed) r
     ∙ ap (λ z. contents_with c.lists c.settings c.refused z d.waiting d.owed) n ∙ ap (λ z. contents_with c.lists c.settings c.refused c.spilled z d.owed) ws ∙ ap (λ z. contents_with c.lists c.settings c.refused c.spilled c.waiting z) hs
 
--- what holds anyway holds of an acceptance
+-- a fact that always holds also holds if the result is `Ok`
 pub any-ok : {X Y P : Type 0} (r : Result X Y) → P → OnOk r P
 any-ok (Ok x) p = p
 any-ok (Err y) p = tt

@@ -1,4 +1,4 @@
--- One bucket of an array that changes, time after time, where the others stay.
+-- One bucket of an array changes several times, and the other buckets stay.
 use Rattle.std.proofs.Common.{◌≡◌, ℕ, ◌<◌, List, length, set, sym, ap, ◌∙◌, arith, length-set}
 use Rattle.std.proofs.lemmas.List.{set-set, set-get_or}
 use Rattle.scc_array.specs.Shelves.{shelf_of}

@@ -42,7 +42,7 @@ module _ {E : Type 0} (hash : E → ℕ) (t n i first last : ℕ) (olds : List (
       let xs = flat_map shelf_entries (take m olds) in
       ap (λ z. length (bound_for hash t n i z)) (flat-more m olds l) ∙ ap length (bound_append hash t n i xs (shelf_entries (shelf_of olds m))) ∙ length-append (bound_for hash t n i xs) (bound_for hash t n i (shelf_entries (shelf_of olds m)))
 
-  -- one old bucket holds them all
+  -- if there is one source, it holds all entries of the target
   pub one-source : first + 1 ≡ last → length (bound_for hash t n i (flat_map shelf_entries olds)) ≤ length (shelf_entries (shelf_of olds first))
   one-source h =
       let l : first < length olds = omega (arith, sources.within) in
@@ -51,7 +51,7 @@ module _ {E : Type 0} (hash : E → ℕ) (t n i first last : ℕ) (olds : List (
       let few = bound-le hash t n i (shelf_entries (shelf_of olds first)) in
       omega (arith, total-start, more, end, total-end, few)
 
--- no bucket holds more than all
+-- the first m buckets and bucket m have no more entries than all buckets
 pub part-le : {E : Type 0} (olds : List (Shelf E)) (m : ℕ) → m < length olds → length (flat_map shelf_entries (take m olds)) + length (shelf_entries (shelf_of olds m)) ≤ length (flat_map shelf_entries olds)
 part-le olds m l =
     let xs = flat_map shelf_entries (take m olds) in
@@ -60,7 +60,7 @@ part-le olds m l =
     ap length (flat-parts (m + 1) olds) ∙ length-append (flat_map shelf_entries (take (m + 1) olds)) (flat_map shelf_entries (drop (m + 1) olds)) in
     omega arith
 
--- a number that is m where it is more than 32 is no more than 32 where m isn't
+-- if n is equal to m whenever n is more than 32, and m is at most 32, then n is at most 32
 pub short-counted : (n m : ℕ) → (32 < n → n ≡ m) → m ≤ 32 → n ≤ 32
 short-counted n m exact few = elim (dec_lt 32 n) [
   | yes l ↦ absurd (let same = exact l in omega arith)

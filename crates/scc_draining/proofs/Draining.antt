@@ -1,4 +1,4 @@
--- The old buckets, of which the entries of a target are taken out one bucket after the other.
+-- The old buckets: the entries of a target are taken out of one bucket after the other.
 use Rattle.std.proofs.Common.{◌≡◌, ◌==◌, ℕ, suc, ◌+◌, ◌<◌, ◌≤◌, ◌≢◌, inl, inr, List, [], ◌∷◌, ◌++◌, length, take, drop, refl, sym, ap, ◌∙◌, subst, arith, length-append, length-set, length-take, append_assoc, get_or-set_other, get_or-take, get_or-drop}
 use Rattle.std.specs.List.{flat_map}
 use Rattle.std.proofs.lemmas.List.{append-nil, drop_more, take_more, take-append-drop, get_or_past}
@@ -13,7 +13,7 @@ use Rattle.scc_buckets.proofs.PairSplits.{by_answer}
 use Rattle.scc_buckets.proofs.Pours.{bound_append}
 use Rattle.scc_draining.specs.Moves.{AreOwn, Drains, IsWithinSources, Pulls, others_for}
 
--- where none belong to the bucket, all are others
+-- if no entry belongs to the bucket, all entries are others
 pub others-all : {E : Type 0} (hash : E → ℕ) (t n i : ℕ) (es : List E) → bound_for hash t n i es ≡ [] → others_for hash t n i es ≡ es
 others-all hash t n i [] h = refl
 others-all hash t n i (e ∷ es) h =
@@ -60,7 +60,7 @@ module _ {E : Type 0} (hash : E → ℕ) (t n i first last : ℕ) (olds : List (
   after-none : bound_for hash t n i (flat_map shelf_entries (drop last olds)) ≡ []
   after-none = bound-flat_none hash t n i (drop last olds) (λ j. ap (λ z. bound_for hash t n i (shelf_entries z)) (get_or-drop last olds j empty_shelf) ∙ sources.none (last + j) (inr (omega arith)))
 
-  -- and so those of the buckets before `last` are all
+  -- the target's entries in the buckets before `last` are all of the target's entries
   pub take-all_bound : bound_for hash t n i (flat_map shelf_entries (take last olds)) ≡ bound_for hash t n i (flat_map shelf_entries olds)
   take-all_bound =
       sym (ap (bound_for hash t n i) (flat-parts last olds) ∙ bound_append hash t n i (flat_map shelf_entries (take last olds)) (flat_map shelf_entries (drop last olds))

@@ -1,4 +1,4 @@
--- What is known of the old buckets from which a bucket takes its entries.
+-- Facts about the old buckets from which a bucket takes its entries.
 use Rattle.std.proofs.Common.{◌≡◌, ◌==◌, ℕ, ◌+◌, ◌^◌, ◌<◌, ◌≤◌, ◌⊎◌, inl, inr, List, length, get_or, refl, sym, ap, ◌∙◌, subst, arith, eqb-true}
 use Rattle.std.specs.List.{flat_map, sum_by}
 use Rattle.std.proofs.lemmas.List.{get_or_past, get_or_default}
@@ -38,7 +38,7 @@ within-sources hash t n i first last olds own order within only = record {
   ];
 }
 
--- no old bucket has many entries past its places
+-- each old bucket has fewer than 2 ^ 62 entries in its overflow list
 pub few-each : {E : Type 0} (olds : List (Shelf E)) (aside : ℕ) → overflow_in olds ≤ aside → aside < 2 ^ 62 → (j : ℕ) → length (shelf_of olds j).overflow < 2 ^ 62
 few-each {E} olds aside le few j = elim (dec_lt j (length olds)) [
   | yes l ↦ let f : Shelf E → ℕ = λ x. length x.overflow in let m : f (get_or olds j empty_shelf) ≤ sum_by f olds = get_or-le-sum_by f olds j empty_shelf l in omega arith
@@ -47,7 +47,7 @@ few-each {E} olds aside le few j = elim (dec_lt j (length olds)) [
       omega arith
 ]
 
--- the old array holds fewer entries than a word counts
+-- the number of entries in the old array fits in 64 bits
 pub most-entry_count : {E : Type 0} (hash : E → ℕ) (t : ℕ) (olds : List (Shelf E)) → IsBucketCount (length olds) → AreOwn hash t olds → overflow_in olds < 2 ^ 62 → length (flat_map shelf_entries olds) < 2 ^ 63 + 2 ^ 62
 most-entry_count {E} hash t olds sized own few =
     let f : Shelf E → ℕ = λ b. length (shelf_entries b) in

@@ -1,4 +1,4 @@
--- Old buckets all of whose entries belong to one bucket of the new array.
+-- Old buckets whose entries all belong to one bucket of the new array.
 use Rattle.std.proofs.Common.{◌≡◌, ◌==◌, ℕ, zero, suc, ◌+◌, ◌-◌, ◌*◌, ◌/◌, ◌%◌, ◌<◌, ◌≤◌, ◌⊎◌, inl, inr, Bool, true, false, IsTrue, Some, List, [], ◌∷◌, ◌++◌, length, take, drop, get_or, refl, sym, ap, ◌∙◌, subst, arith, length-append, eq-eqb}
 use Rattle.std.specs.List.{All, filter, flat_map, slice_get}
 use Rattle.std.proofs.lemmas.List.Elements.{filter_passes, All-get_or}
@@ -17,7 +17,7 @@ use Rattle.scc_draining.proofs.Draining.{flat-left, flat-more, flat-parts}
 use Rattle.scc_draining.proofs.Numbers.{number-div}
 use Rattle.scc_draining.proofs.Sublists.{filter-each}
 
--- a number of the doubled array is that of one of two siblings
+-- a bucket of the doubled array whose number, halved, is j is one of two siblings
 one-of : (j i k b : ℕ) → (i ≡ 2 * j) ⊎ (i ≡ 2 * j + 1) → AreSiblings i k → b / 2 ≡ j → (b ≡ i) ⊎ (b ≡ k)
 one-of j i k b from two half =
     let low : b ≡ 2 * (b / 2) + b % 2 = omega arith in
@@ -33,11 +33,11 @@ one-of j i k b from two half =
           elim (same_or_not (b % 2) 0) [ inl z ↦ inr (omega arith) | inr z ↦ inl (omega arith) ]
     ]
 
--- both or none of two siblings are numbers of the doubled array
+-- if one of two siblings is a bucket of the doubled array, the other sibling is a bucket too
 pub sibling-within : (m i k : ℕ) → i < 2 * m → AreSiblings i k → k < 2 * m
 sibling-within m i k l two = elim two.1 [ inl s ↦ let i0 = s.0 in let k0 = s.1 in omega arith | inr s ↦ let i0 = s.0 in let k0 = s.1 in omega arith ]
 
--- an element that passes is left
+-- if an element passes, the filtered list isn't empty
 filter-some : {X : Type 0} (p : X → Bool) (xs : List X) (j : ℕ) (d : X) → j < length xs → p (get_or xs j d) ≡ true → filter p xs ≡ [] → ⊥
 filter-some p [] j d l h e = omega arith
 filter-some p (x ∷ xs) zero d l h e = let z : x ∷ filter p xs ≡ [] = rw h at e in cc
@@ -47,7 +47,7 @@ no-parts : {X : Type 0} (xs ys : List X) → xs ++ ys ≡ [] → (xs ≡ []) × 
 no-parts [] ys e = (refl, e)
 no-parts (x ∷ xs) ys e = absurd (let z : x ∷ (xs ++ ys) ≡ [] = e in cc)
 
--- where no entry of an array belongs to a bucket, none in an old bucket does
+-- if no entry of an array belongs to a bucket, no entry of one old bucket belongs to it
 none-there : {E : Type 0} (hash : E → ℕ) (t n i j : ℕ) (olds : List (Shelf E)) → j < length olds → bound_for hash t n i (flat_map shelf_entries olds) ≡ [] → bound_for hash t n i (shelf_entries (shelf_of olds j)) ≡ []
 none-there hash t n i j olds l none =
     let xs = flat_map shelf_entries (take j olds) in
@@ -70,7 +70,7 @@ module _ {E : Type 0} (hash : E → ℕ) (t n i : ℕ) where
         eq-eqb _ _ (joined t (hash (get_or es k d)) (omega (arith, at)) (omega (arith, at))));
   }
 
-  -- where the array doubled and none of the sibling's entries are left, those of the one old bucket are all the target's
+  -- if the array doubled and no entry of the sibling is left, the one old bucket has only entries of the target
   alone-joined : (first last k : ℕ) (olds : List (Shelf E)) → AreOwn hash t olds → last ≤ length olds → n ≡ 2 * length olds → last ≡ first + 1 → (i ≡ 2 * first) ⊎ (i ≡ 2 * first + 1) → AreSiblings i k
       → bound_for hash t n k (flat_map shelf_entries olds) ≡ [] → AreJoined hash t n i first last olds
   alone-joined first last k olds own within twice next from two none = record {
@@ -88,7 +88,7 @@ module _ {E : Type 0} (hash : E → ℕ) (t n i : ℕ) where
         ]);
   }
 
-  -- either way
+  -- if the array shrank or doubled, the old buckets from `first` to `last` have only entries of the target
   pub whole-joined : (first last : ℕ) (olds : List (Shelf E)) (flags : List Bool) (whole : Bool) → AreOwn hash t olds → last ≤ length olds
       → (n < length olds → (s h : ℕ) → first ≤ bucket_number s (length olds) h → bucket_number s (length olds) h < last → bucket_number s n h ≡ i)
       → (n ≡ 2 * length olds → (last ≡ first + 1) × ((i ≡ 2 * first) ⊎ (i ≡ 2 * first + 1)))
@@ -102,7 +102,7 @@ module _ {E : Type 0} (hash : E → ℕ) (t n i : ℕ) where
         alone-joined first last z.1 olds own within z.0 d.0 d.1 z.2 (not_waiting z.1 z.3 z.4)
   ]
 
-  -- each of them belongs there
+  -- each entry of such an old bucket belongs to the target
   pub joined-flag : (s : Shelf E) (k : ℕ) (e : E) → bound_for hash t n i (shelf_entries s) ≡ shelf_entries s → slice_get s.slots k ≡ Some e → true ≡ (bucket_number t n (hash e) == i)
   joined-flag s k e all got =
       let es = shelf_entries s in
@@ -110,7 +110,7 @@ module _ {E : Type 0} (hash : E → ℕ) (t n i : ℕ) where
       let p = All-get_or (λ y. (bucket_number t n (hash y) == i) ≡ true) es k e (slice_get_within es k e there) (subst (All (λ y. (bucket_number t n (hash y) == i) ≡ true)) all (filter_passes (λ y. bucket_number t n (hash y) == i) es)) in
       sym p ∙ ap (λ y. bucket_number t n (hash y) == i) (sym (get-is es k e e there))
 
-  -- so that those of a row are counted by the buckets' lengths
+  -- the entries of the target in these old buckets are counted by the lengths of the buckets
   pub total-joined : (first last : ℕ) (olds : List (Shelf E)) → AreJoined hash t n i first last olds → last ≤ length olds → length (bound_for hash t n i (flat_map shelf_entries (take first olds))) ≡ 0
       → (k : ℕ) → first + k ≤ last → length (flat_map shelf_entries (take first olds)) + length (bound_for hash t n i (flat_map shelf_entries (take (first + k) olds))) ≡ length (flat_map shelf_entries (take (first + k) olds))
   total-joined first last olds joined within none zero l = let z : first + 0 ≡ first = omega arith in rw z (omega (arith, none))

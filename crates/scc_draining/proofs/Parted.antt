@@ -1,4 +1,4 @@
--- One old bucket whose entries are parted by flags that say which belong to a target.
+-- One old bucket whose entries are parted by flags. The flags say which entries belong to a target.
 use Rattle.std.proofs.Common.{◌≡◌, ◌==◌, ℕ, zero, suc, ◌+◌, ◌<◌, ◌≤◌, Bool, true, false, not, cond, Some, None, List, [], ◌∷◌, ◌++◌, length, map, set, get_or, refl, sym, ap, ◌∙◌, inl, inr, arith, length-append}
 use Rattle.std.specs.List.{slice_get, filter}
 use Rattle.std.proofs.lemmas.List.{append-nil, map-append}
@@ -13,7 +13,7 @@ use Rattle.scc_draining.specs.Moves.{others_for, Pulls}
 
 module _ {X : Type 0} where
   module _ (q : X → Bool) where
-    -- the flags say which elements pass
+    -- if the flags say which elements pass, the picked elements are the filtered ones
     pub picked-filter : (fs : List Bool) (xs : List X) → ((j : ℕ) (x : X) → slice_get xs j ≡ Some x → slice_get fs j ≡ Some (q x)) → picked fs xs ≡ filter q xs
     picked-filter [] [] h = refl
     picked-filter (f ∷ fs) [] h = refl
@@ -46,7 +46,7 @@ module _ {X : Type 0} where
   kept-map f (b ∷ fs) [] = refl
   kept-map f (b ∷ fs) (x ∷ xs) = ap (λ l. cond b l (f x ∷ l)) (kept-map f fs xs) ∙ (elim b as (λ c. cond c (map f (unflagged fs xs)) (f x ∷ map f (unflagged fs xs)) ≡ map f (cond c (unflagged fs xs) (x ∷ unflagged fs xs))) [ true ↦ refl | false ↦ refl ])
 
-  -- each that stays was there
+  -- each element that stays was in the list before
   pub kept-from : (fs : List Bool) (xs : List X) (j : ℕ) (d : X) → j < length (unflagged fs xs) → (k : ℕ) × (k < length xs) × (get_or (unflagged fs xs) j d ≡ get_or xs k d)
   kept-from [] xs j d l = absurd (omega arith)
   kept-from (f ∷ fs) [] j d l = absurd (omega arith)
@@ -99,7 +99,7 @@ module _ {E : Type 0} (hash : E → ℕ) (t n i j : ℕ) (olds : List (Shelf E))
     within = let f = kept-fewer fs xs in let w = own.within in omega arith;
   }
 
-  -- past the places of a lies nothing, or it takes nothing
+  -- the bucket `a` has no entries in its overflow list, or it takes no entries
   with-entries : shelf_entries (shelf_with a fs s) ≡ shelf_entries a ++ picked fs xs
   with-entries = elim packed.last [
     | inl full ↦

@@ -1,4 +1,4 @@
--- One old bucket, of which the entries of a target are taken out one after the other.
+-- One old bucket: the entries of a target are taken out one after the other.
 use Rattle.std.proofs.Common.{◌≡◌, ◌==◌, ℕ, ◌+◌, ◌-◌, ◌<◌, ◌≤◌, ◌≢◌, Bool, true, false, not, Some, List, [], ◌∷◌, ◌++◌, length, set, take, drop, get_or, refl, sym, ap, ◌∙◌, subst, arith, rules, length-append, length-drop, length-take, length-set, append_assoc, get_or-set_same}
 use Rattle.std.specs.List.{slice_get, remove}
 use Rattle.std.proofs.lemmas.List.{append-nil, drop_more, take_more, take-append-drop, set-set, set-get_or, take_all, drop_all}
@@ -31,7 +31,7 @@ others_here hash t n i e es h = let s : (bucket_number t n (hash e) == i) ≡ tr
 pub others_other : {E : Type 0} (hash : E → ℕ) (t n i : ℕ) (e : E) (es : List E) → i ≢ bucket_number t n (hash e) → others_for hash t n i (e ∷ es) ≡ e ∷ others_for hash t n i es
 others_other hash t n i e es h = let s : (bucket_number t n (hash e) == i) ≡ false = not_equal _ _ (λ z. h (sym z)) in rw s
 
--- the first k entries of old bucket j were looked at, of which `place` stayed
+-- the first k entries of old bucket j were looked at, and `place` of them stayed
 pub record PullsUntil {E : Type 0} (hash : E → ℕ) (t n i j : ℕ) (olds : List (Shelf E)) (a : Shelf E) (news : List (Shelf E)) (b : Shelf E) (k place : ℕ) : Type 0 where
   pub same : news ≡ set olds j (shelf_of news j)
   pub kept : shelf_entries (shelf_of news j) ≡ others_for hash t n i (take k (shelf_entries (shelf_of olds j))) ++ drop k (shelf_entries (shelf_of olds j))
@@ -64,7 +64,7 @@ module _ {E : Type 0} (hash : E → ℕ) (t n i j : ℕ) (olds : List (Shelf E))
           moved = subst (λ z. Extends hash a b (bound_for hash t n i z)) all p.moved;
         }
 
-    -- as many were looked at as stayed, at least
+    -- at most as many entries stayed as were looked at
     pub pull-below : place ≤ k
     pull-below =
         let q : E → Bool = λ e. not (bucket_number t n (hash e) == i) in
@@ -119,7 +119,7 @@ module _ {E : Type 0} (hash : E → ℕ) (t n i j : ℕ) (olds : List (Shelf E))
               let es = shelf_entries (shelf_of olds j) in
               ap (bound_for hash t n i) seen-more ∙ bound_append hash t n i (take k es) (e ∷ []) ∙ ap (λ z. bound_for hash t n i (take k es) ++ z) (bound_here hash t n i e [] h)
 
-          -- the bucket has room for it
+          -- the bucket has room for the entry
           pub pull-room : length (shelf_entries a) + length (bound_for hash t n i (shelf_entries (shelf_of olds j))) ≤ 32 + a.room → ShelfHasRoom b
           pull-room room =
               let es = shelf_entries (shelf_of olds j) in
@@ -133,7 +133,7 @@ module _ {E : Type 0} (hash : E → ℕ) (t n i j : ℕ) (olds : List (Shelf E))
               let big : length b.slots + length b.overflow < 32 + b.room = omega (arith, p.moved.room) in
               room_by b p.moved.packed.within big
 
-          -- it moves there
+          -- the entry moves to the bucket
           pub pull-move : j < length olds → (later : List (Shelf E)) (c : Shelf E) → later ≡ set news j (without_slot (shelf_of news j) place)
               → c ≡ record (with_entry b e (tag_of (hash e))) { room = c.room } → b.room ≤ c.room → PullsUntil hash t n i j olds a later c (k + 1) place
           pull-move lj later c new put more =

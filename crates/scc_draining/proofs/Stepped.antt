@@ -1,4 +1,4 @@
--- The entries of the old array before one of its places, and one more.
+-- The entries of the old array before one of its places, and before the next place.
 use Rattle.std.proofs.Common.{◌≡◌, ◌≢◌, ℕ, ◌+◌, ◌<◌, ◌≤◌, Some, List, [], ◌∷◌, ◌++◌, length, take, refl, sym, ap, ◌∙◌, add-one, append_assoc}
 use Rattle.std.specs.List.{flat_map, slice_get}
 use Rattle.std.proofs.lemmas.List.{append-nil, take_all}
@@ -22,7 +22,7 @@ module _ {E : Type 0} (olds : List (Shelf E)) (j : ℕ) where
       let fs = flat_map shelf_entries (take j olds) in
       ap (λ n. fs ++ take n xs) (add-one s) ∙ ap (λ z. fs ++ z) (take-got xs s e got) ∙ sym (append_assoc fs (take s xs) (e ∷ []))
 
-  -- all entries of that bucket stand before its end
+  -- all entries of bucket j stand before its end
   pub before-end : (s : ℕ) → j < length olds → length (shelf_entries (shelf_of olds j)) ≤ s → entries_before olds j s ≡ flat_map shelf_entries (take (j + 1) olds)
   before-end s l far = ap (λ z. flat_map shelf_entries (take j olds) ++ z) (take_all s (shelf_entries (shelf_of olds j)) far) ∙ sym (flat-more j olds l)
 
@@ -30,13 +30,13 @@ module _ {E : Type 0} (olds : List (Shelf E)) (j : ℕ) where
   before-start = ap (λ z. flat_map shelf_entries (take j olds) ++ z) (take-none (shelf_entries (shelf_of olds j))) ∙ append-nil (flat_map shelf_entries (take j olds))
 
   module _ (hash : E → ℕ) (t n i s : ℕ) (e : E) (got : slice_get (shelf_entries (shelf_of olds j)) s ≡ Some e) where
-    -- one of another bucket is passed
+    -- an entry of another bucket is skipped
     pub bound-skip : i ≢ bucket_number t n (hash e) → bound_for hash t n i (entries_before olds j (s + 1)) ≡ bound_for hash t n i (entries_before olds j s)
     bound-skip ne =
         let bs = bound_for hash t n i (entries_before olds j s) in
         ap (bound_for hash t n i) (before-more s e got) ∙ bound_append hash t n i (entries_before olds j s) (e ∷ []) ∙ ap (λ z. bs ++ z) (bound_other hash t n i e [] ne) ∙ append-nil bs
 
-    -- one of this bucket is counted
+    -- an entry of this bucket is counted
     pub bound-count : i ≡ bucket_number t n (hash e) → bound_for hash t n i (entries_before olds j (s + 1)) ≡ bound_for hash t n i (entries_before olds j s) ++ e ∷ []
     bound-count h =
         let bs = bound_for hash t n i (entries_before olds j s) in

@@ -1,4 +1,4 @@
--- Lists of which some are left out.
+-- Lists with some elements left out.
 use Rattle.std.proofs.Common.{◌≡◌, ℕ, suc, ◌<◌, ◌⊎◌, inl, inr, Bool, true, false, List, [], ◌∷◌, ◌++◌, length, map, get_or, refl, sym, ap, subst, arith}
 use Rattle.std.specs.List.{filter, flat_map, IsDistinct, AllByRecursion}
 use Rattle.std.proofs.lemmas.Map.Keys.{IsDistinct-head, IsDistinct-tail, IsDistinct-cons}
@@ -32,19 +32,19 @@ all-sub key P none h = h
 all-sub key P (keep s) h = (h.0, all-sub key P s h.1)
 all-sub key P (skip s) h = all-sub key P s h.1
 
--- keys stay distinct
+-- keys stay distinct if some elements are left out
 pub distinct-sub : {X K : Type 0} (eq : K → K → Bool) (key : X → K) {xs ys : List X} → Sub xs ys → IsDistinct eq (map key ys) → IsDistinct eq (map key xs)
 distinct-sub eq key none h = h
 distinct-sub eq key (keep {x} {xs} {ys} s) h =
     IsDistinct-cons eq (key x) (map key xs) (all-sub key (λ y. eq (key x) y ≡ false) s (IsDistinct-head eq (key x) (map key ys) h)) (distinct-sub eq key s (IsDistinct-tail eq (key x) (map key ys) h))
 distinct-sub eq key (skip {y} {xs} {ys} s) h = distinct-sub eq key s (IsDistinct-tail eq (key y) (map key ys) h)
 
--- nothing passes
+-- if no element passes, the filtered list is empty
 pub filter-none : {X : Type 0} (p : X → Bool) (xs : List X) → ((j : ℕ) (d : X) → j < length xs → p (get_or xs j d) ≡ false) → filter p xs ≡ []
 filter-none p [] h = refl
 filter-none p (x ∷ xs) h = let z : p x ≡ false = h 0 x (omega arith) in rw z (filter-none p xs (λ j d l. h (suc j) d (omega arith)))
 
--- all pass
+-- if all elements pass, the filtered list is equal to the list
 pub filter-each : {X : Type 0} (p : X → Bool) (xs : List X) → ((j : ℕ) (d : X) → j < length xs → p (get_or xs j d) ≡ true) → filter p xs ≡ xs
 filter-each p [] h = refl
 filter-each p (x ∷ xs) h = let z : p x ≡ true = h 0 x (omega arith) in rw z (ap (λ l. x ∷ l) (filter-each p xs (λ j d l. h (suc j) d (omega arith))))

@@ -1,4 +1,4 @@
--- What holds along a merge and along the stamp order.
+-- Facts along a merge and along the stamp order.
 use Rattle.std.proofs.Common.{◌≡◌, ℕ, zero, suc, ◌+◌, ◌<◌, ◌≤◌, List, [], ◌∷◌, length, map, Option, None, Some, ◌⊎◌, inl, inr, refl, ap, ◌∙◌, arith}
 use Rattle.std.specs.Prelude.{slice_get, slice_set, slice_index}
 use Rattle.std.specs.List.{AllPairs}
@@ -21,7 +21,7 @@ module _ {X : Type 0} (hs : List (List X)) where
       let n : length (map length hs) ≡ length hs = simp length-map in
       ((omega (arith, index_bound (map length hs) place.0 place.1 m.1, n), m.1), stands_from (slice_set done place.0 (place.1 + 1)) places m.2)
 
-  -- at each place of a merge a step stands
+  -- each place of a merge has a step
   pub stands : (places : List (ℕ × ℕ)) → IsMergeOrder hs places → AllStand hs places
   stands places m = stands_from (map (λ _. 0) hs) places m
 

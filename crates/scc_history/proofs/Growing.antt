@@ -1,4 +1,4 @@
--- What one call adds keeps the replay, the rising stamps and the number of records.
+-- The steps that one call adds keep the replay, the rising stamps and the number of records.
 use Rattle.std.proofs.Common.{◌≡◌, ℕ, ◌+◌, ◌<◌, ◌≤◌, List, [], ◌∷◌, ◌++◌, Bool, true, false, refl, sym, ap, ◌∙◌, subst, arith, inl, inr}
 use Rattle.std.specs.Prelude.{nat_lt, ◌==◌, if◌then◌else◌, MatchBool}
 use Rattle.std.proofs.lemmas.Bool.Decides.{nat_tests}
@@ -61,7 +61,7 @@ module _ (A R : Type 0) where
   RisesTo-push low clock stripe stamp call reply [] r h = (omega (arith, r), omega arith)
   RisesTo-push low clock stripe stamp call reply (x ∷ xs) r h = (r.0, RisesTo-push x.stamp clock stripe stamp call reply xs r.1 h)
 
--- the replay of a stripe whose history became longer
+-- a stripe whose history became longer has a replay
 pub grown : (G S A R : Type 0) (moves : G → S → A → R → S → Type 0) (resizes : G → S → ℕ → S → Type 0) (empty : ℕ → S) (opened : ℕ) (g h : G) (old new : S) (xs ys zs : List (Step A R))
     → h ≡ g → ys ≡ xs ++ zs → ∥ Replay (moves g) (resizes g) (empty opened) xs old ∥₁ → Replay (moves g) (resizes g) old zs new
     → ∥ Replay (moves h) (resizes h) (empty opened) ys new ∥₁

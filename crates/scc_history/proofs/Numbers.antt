@@ -1,4 +1,4 @@
--- A call stands in the stamp order by the stamp that it was given.
+-- A call's stamp determines where the call stands in the stamp order.
 use Rattle.std.proofs.Common.{◌≡◌, ℕ, zero, suc, ◌≤◌, List, [], ◌∷◌, drop, Some, arith}
 use Rattle.std.specs.Prelude.{slice_get}
 use Rattle.scc_calls.specs.declared.steps.Step.{Step}

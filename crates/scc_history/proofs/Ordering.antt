@@ -59,7 +59,7 @@ module _ (A R : Type 0) where
   least_end (x ∷ h) zero e = absurd (omega arith)
   least_end (x ∷ h) (suc j) e = least_end h j (omega arith)
 
--- places that are a beginning of the stamp order, beside how many steps of each history they take
+-- `order` is a beginning of the stamp order, and takes `done` steps of each history
 pub record Ordered {A R : Type 0} (hs : List (List (Step A R))) (done : List ℕ) (order : List (ℕ × ℕ)) : Type 0 where
   pub same : length done ≡ length hs
   pub within : (k : ℕ) → k < length hs → slice_index done k ≤ slice_index (map length hs) k

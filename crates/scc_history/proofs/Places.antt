@@ -1,4 +1,4 @@
--- From a merge of places to one of steps.
+-- From a merge of places to a merge of steps.
 use Rattle.std.proofs.Common.{◌≡◌, ℕ, zero, suc, ◌+◌, ◌<◌, List, [], ◌∷◌, length, map, drop, Some, refl, ap, ◌∙◌, arith, add-one}
 use Rattle.std.specs.Prelude.{slice_get, slice_set, slice_index}
 use Rattle.std.specs.List.{AllByRecursion}

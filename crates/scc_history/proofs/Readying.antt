@@ -1,4 +1,4 @@
--- Room that was made, and then the call.
+-- Room is made, and then the call.
 use Rattle.std.proofs.Common.{◌≡◌, ◌≢◌, ℕ, ◌≤◌, Bool, true, false, List, ◌++◌, append-nil, Result, Ok, Err, refl, sym, ◌∙◌, subst, arith, inl, inr, ◌⊎◌}
 use Rattle.std.specs.Prelude.{◌==◌, MatchBool}
 use Rattle.std.specs.Result.{OnErr, is_err}
@@ -19,7 +19,7 @@ module _ {S : Type 0} (size : S → ℕ) (resizes : S → ℕ → S → Type 0) 
   joined : (old new : S) → size new ≢ size old → resizes old (size new) new → Stays size resizes old new
   joined old new ne r = let f : (size old == size new) ≡ false = grind (arith, nat_tests, ne) in rw f r
 
-  -- where room was made, a call that makes no growth, and no shrink where the room was a growth, is one call with at most one resize
+  -- room and then a call are one call with at most one resize, if the call doesn't grow, nor shrink after a growth for room
   pub ready-changes : {C R : Type 0} (moves : S → C → R → S → Type 0) (call : C) (reply : R) (old mid new : S) → Stays size resizes old mid → size old ≤ size mid → (size mid ≢ size old → size mid ≤ size new) → size new ≤ size mid
       → MovesResized size moves resizes mid call reply new → MovesResized size moves resizes old call reply new
   ready-changes moves call reply old mid new stays grows kept made h =
@@ -45,15 +45,15 @@ module _ {S : Type 0} (size : S → ℕ) (resizes : S → ℕ → S → Type 0) 
         ]
       ]
 
-  -- where nothing was done, the state stays
+  -- if nothing was done, the state stays
   pub stays-same : (s : S) → Stays size resizes s s
   stays-same s = let t : (size s == size s) ≡ true = grind (arith, nat_tests) in rw t refl
 
--- and nothing is recorded
+-- if nothing was done, nothing is recorded
 pub no-resize : {A R : Type 0} (steps : List (Step A R)) (n stamp : ℕ) → steps ≡ steps ++ resized n n stamp
 no-resize steps n stamp = let t : (n == n) ≡ true = grind (arith, nat_tests) in rw t (sym (append-nil steps))
 
--- what holds of an error, where there is one
+-- a fact about the error of a result holds if the result is an error
 pub err-holds : {T E P : Type 0} (r : Result T E) → is_err r ≡ true → OnErr r P → P
 err-holds (Ok x) e p = let z : false ≡ true = e in absurd (cc)
 err-holds (Err x) e p = p

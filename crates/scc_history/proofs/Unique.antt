@@ -24,7 +24,7 @@ some_is e = cc
 pair_is : (p : ℕ × ℕ) (i j : ℕ) → p.0 ≡ i → p.1 ≡ j → p ≡ (i, j)
 pair_is p i j e f = rw (sym e, sym f) refl
 
--- where the next step of list k isn't done, it stands in the rest of the merge
+-- if list k has a next step, the rest of the merge has that step
 stands : (lengths done : List ℕ) (places : List (ℕ × ℕ)) (k j : ℕ) (d : ℕ × ℕ) → MergeFrom lengths done places → slice_get done k ≡ Some j → j < slice_index lengths k → (n : ℕ) × (n < length places) × (get_or places n d ≡ (k, j))
 stands lengths done [] k j d m e h = absurd (omega (arith, get_index done k j e, h, ap (λ l. slice_index l k) m))
 stands lengths done (place ∷ places) k j d m e h =
@@ -44,7 +44,7 @@ module _ (A R : Type 0) (hs : List (List (Step A R))) where
   rest_pairs : (p : ℕ × ℕ) (ps : List (ℕ × ℕ)) → AllPairs (Comes hs) (p ∷ ps) → AllPairs (Comes hs) ps
   rest_pairs p ps a i j d h k = a (suc i) (suc j) d (omega (arith, h)) (omega (arith, k))
 
-  -- the first of the one comes no later than the first of the other, unless both are of one list
+  -- the first place of one order comes no later than the first of the other, unless both are of one list
   first_comes : (lengths done : List ℕ) (p q : ℕ × ℕ) (ps : List (ℕ × ℕ)) → MergeFrom lengths done (p ∷ ps) → AllPairs (Comes hs) (p ∷ ps) → slice_get done q.0 ≡ Some q.1 → q.1 < slice_index lengths q.0 → (p.0 ≡ q.0 → ⊥) → Comes hs p q
   first_comes lengths done p q ps m a e h n = at_place (stands lengths done (p ∷ ps) q.0 q.1 p m e h)
     where
@@ -69,6 +69,6 @@ module _ (A R : Type 0) (hs : List (List (Step A R))) where
       by_list (inl s) rest = let e : p ≡ q = pair_is p q.0 q.1 s (second s) in rw (e, rest s) refl
       by_list (inr s) rest = absurd (s (both_ways p q (first_comes lengths done p q ps m a n.0 n.1 s) (first_comes lengths done q p qs n b m.0 m.1 (λ e. s (sym e)))))
 
-  -- two stamp orders of the same histories are the same
+  -- two stamp orders of the same histories are equal
   pub only_order : (ps qs : List (ℕ × ℕ)) → IsStampOrder hs ps → IsStampOrder hs qs → ps ≡ qs
   only_order ps qs a b = one_from (map length hs) (map (λ _. 0) hs) ps qs a.0 b.0 a.1 b.1

@@ -1,4 +1,4 @@
--- The next step of each history, of which the first one is taken.
+-- The next step of each history waits in a queue. The first of these steps is taken.
 use Rattle.std.proofs.Common.{◌≡◌, ℕ, zero, suc, ◌+◌, ◌<◌, ◌≤◌, List, [], ◌∷◌, length, map, drop, Some, Bool, true, false, ◌⊎◌, inl, inr, refl, sym, ap, ◌∙◌, subst, arith}
 use Rattle.std.specs.Prelude.{slice_get, slice_set, slice_index, slice_index_or, nat_lt, if◌then◌else◌, ◌==◌, All, MatchBool}
 use Rattle.std.specs.List.{sum_by, AllByRecursion}
@@ -51,13 +51,13 @@ module _ {X A R : Type 0} (key : X → ℕ × ℕ) (hs : List (List (Step A R)))
   abbrev due : ℕ → List ℕ → ℕ → ℕ
   due = words.due key hs
 
-  -- the same of all lists but list i, which has nothing here
+  -- each list but list i has its next step in the queue, and list i has none there
   pub record Taken (i n : ℕ) (done : List ℕ) (items : List X) : Type 0 where
     pub each : All (IsNextStep done) items
     pub none : sum_by (one i) items ≡ 0
     pub once : (k : ℕ) → (k ≡ i → ⊥) → sum_by (one k) items ≡ due n done k
 
-  -- what stands for a step that is the next of its list
+  -- an item with the number and the list of a next step stands for that step
   pub next_is : (done : List ℕ) (i number : ℕ) (h : List (Step A R)) (x : X) → i < length hs → slice_get hs i ≡ Some h → slice_index done i < length h → number ≡ least (drop (slice_index done i) h) → key x ≡ (number, i) → IsNextStep done x
   next_is done i number h x within at less e is =
       let a : (key x).1 ≡ i = ap (λ p. p.1) is in
@@ -90,7 +90,7 @@ module _ {X A R : Type 0} (key : X → ℕ × ℕ) (hs : List (List (Step A R)))
       let here : ((key x).1 ≡ i → ⊥) × P x = ((λ s. let o = is_one i x s in absurd (omega arith)), All-head P x xs a) in
       All-cons (λ x. ((key x).1 ≡ i → ⊥) × P x) x xs here (apart i P xs (omega arith) (All-tail P x xs a))
 
-  -- the first one is taken
+  -- the first item is taken out of the queue
   module _ (n : ℕ) (done : List ℕ) (items rest : List X) (x : X) (w : Queued key hs n done items) (perm : IsPermutation items (x ∷ rest)) where
     pub here : IsNextStep done x
     here = All-head (IsNextStep done) x rest (All-permutation (IsNextStep done) _ _ perm w.each)
@@ -124,7 +124,7 @@ module _ {X A R : Type 0} (key : X → ℕ × ℕ) (hs : List (List (Step A R)))
           once = λ k ne. let e = get_or-set_other done i k v 0 ne in rw e (omega (arith, count k, isn't_one k x (λ q. ne (sym q))));
         }
 
-  -- one more list, before its first step comes
+  -- one more list is counted, before its first step joins the queue
   pub opened : (i : ℕ) (done : List ℕ) (items : List X) → Queued key hs i done items → Taken i (i + 1) done items
   opened i done items w =
       let s : nat_lt i i ≡ false = grind (arith, nat_tests) in
@@ -146,7 +146,7 @@ module _ {X A R : Type 0} (key : X → ℕ × ℕ) (hs : List (List (Step A R)))
         skipped_by true t = rw t w.none
         skipped_by false t = w.none
 
-    -- the next step of list i comes
+    -- the next step of list i joins the queue
     pub added : (x : X) (new : List X) → (key x).1 ≡ i → i < n → IsNextStep done x → IsPermutation (x ∷ items) new → Queued key hs n done new
     added x new e h next perm =
         let s : nat_lt i n ≡ true = grind (arith, nat_tests) in
@@ -161,7 +161,7 @@ module _ {X A R : Type 0} (key : X → ℕ × ℕ) (hs : List (List (Step A R)))
           ];
         }
 
-  -- list i goes on, or is done
+  -- the next step of list i joins the queue, or list i is done
   pub advanced : (i n j : ℕ) (done : List ℕ) (items new : List X) (h : List (Step A R)) → Taken i n done items → i < n → i < length hs → slice_get hs i ≡ Some h → slice_index done i ≡ j → JoinsQueue key h j i items new → Queued key hs n done new
   advanced i n j done items new h w within long at is joins = by (nat_lt j (length h)) refl joins
     where
@@ -176,7 +176,7 @@ module _ {X A R : Type 0} (key : X → ℕ × ℕ) (hs : List (List (Step A R)))
   pub waiting_none : (done : List ℕ) → Queued key hs 0 done []
   waiting_none done = record { each = All-nil _; once = λ k. let s : nat_lt k 0 ≡ false = grind (arith, nat_tests) in rw s refl }
 
-  -- where nothing waits, each list is done
+  -- if the queue is empty, each list is done
   pub all_done : (n : ℕ) (done : List ℕ) → Queued key hs n done [] → (k : ℕ) → k < n → slice_index (map length hs) k ≤ slice_index done k
   all_done n done w k h = elim (cases_lt (slice_index done k) (slice_index (map length hs) k)) as (λ _. slice_index (map length hs) k ≤ slice_index done k) [
     | inl less ↦

@@ -1,4 +1,4 @@
--- One receipt more for each stripe.
+-- One more receipt for each stripe.
 use Rattle.std.proofs.Common.{◌≡◌, ℕ, ◌+◌, ◌<◌, List, [], ◌∷◌, ◌++◌, ◌⊎◌, inl, inr, refl, sym, ap, ◌∙◌, arith, append_assoc}
 use Rattle.std.proofs.Math.Logic.{∥∥₁_map}
 use Rattle.std.specs.Prelude.{Result, Ok, Err, IfOk}
@@ -10,17 +10,17 @@ use Rattle.scc_history.specs.declared.log.Receipt.{Receipt}
 use Rattle.scc_recorded.specs.Adds.{Adds, MayAnswer, Told}
 
 module _ {G S A R : Type 0} (moves : G → S → A → R → S → Type 0) (call : A) where
-  -- what a part answered it may answer
+  -- a part may give a reply that it gave
   pub may-answer : (g : G) (size : S → ℕ) (resizes : S → ℕ → S → Type 0) (old new : S) (reply : R) → MovesResized size (moves g) resizes old call reply new → MayAnswer moves call reply
   may-answer g size resizes old new reply (inl c) = ∣ (g, old, new, c.1) ∣₁
   may-answer g size resizes old new reply (inr (inl c)) = ∣ (g, c.1.0, new, c.1.2) ∣₁
   may-answer g size resizes old new reply (inr (inr c)) = ∣ (g, old, c.1.0, c.1.1) ∣₁
 
-  -- and a reply that is recorded for it
+  -- a part may give a reply that is recorded for a reply that it may give
   pub may-answer-alike : (means : G → S → A → R → S → Type 0) (reply given : R) → ((g : G) (s t : S) → moves g s call reply t → means g s call given t) → MayAnswer moves call reply → MayAnswer means call given
   may-answer-alike means reply given like may = ∥∥₁_map may (λ m. (m.0, m.1, m.2, like m.0 m.1 m.2 m.3))
 
--- what a part may refuse, some part may refuse in some state
+-- if a part may refuse a call, some part may refuse the call in some state
 pub may-refuse : {G S A R K : Type 0} (refuses : G → S → A → Type 0) (size : S → ℕ) (resizes : G → S → ℕ → S → Type 0) (answer : G → S → A → R) (is_infallible : R → Type 0) (g : G) (s : S) (call : A)
     → refuses g s call ⊎ (K × MayNotReply size (resizes g) (answer g) is_infallible s call) → ∥ ((h : G) × (t : S) × (refuses h t call ⊎ (K × MayNotClone is_infallible (answer h t call)))) ∥₁
 may-refuse refuses size resizes answer is_infallible g s call (inl m) = ∣ (g, s, inl m) ∣₁
@@ -41,6 +41,6 @@ pub when_ok : {X E : Type 0} (P Q : X → Type 0) (r : Result X E) → IfOk r P 
 when_ok P Q (Ok x) p f = f x p
 when_ok P Q (Err e) p f = tt
 
--- an error of one result is that of another
+-- an error of one result is also an error of a result with another type of value
 pub same-error : {X Y E : Type 0} {c : E} (e : E) → ◌≡◌ {A = Result X E} (Err e) (Err c) → ◌≡◌ {A = Result Y E} (Err e) (Err c)
 same-error {c} e same = let s : e ≡ c = cc in ap Err s

@@ -8,7 +8,7 @@ use Rattle.scc_history.specs.declared.log.Receipt.{Receipt}
 use Rattle.scc_history.specs.Receipts.{DiffersFirst, Matches}
 use Rattle.scc_recorded.specs.Closing.{AllMatch, FirstDisagrees, lesser_of}
 
--- what a place of a list that has it holds
+-- an index with an element is below the length of the list
 at_place : {T : Type 0} (ts : List T) (k : ℕ) (t : T) → slice_get ts k ≡ Some t → k < length ts
 at_place [] k t e = cc
 at_place (s ∷ ts) zero t e = omega arith
@@ -18,7 +18,7 @@ module _ {T A R : Type 0} (calls : A → A → Bool) (replies : R → R → Bool
   abbrev Fits : T → Type 0
   Fits p = Matches calls replies (receipts p) (records (number p))
 
-  -- of the first n passes the least that disagrees, if one does
+  -- `first` is the disagreeing pass with the least number among the first n passes, or none of them disagrees
   abbrev pub Least : ℕ → Option (ℕ × ℕ) → Type 0
   Least n first =
       MatchOption first ((k : ℕ) (p : T) → k < n → slice_get passes k ≡ Some p → Fits p)
@@ -60,7 +60,7 @@ module _ {T A R : Type 0} (calls : A → A → Bool) (replies : R → R → Bool
   least_first n (Some b) l h = (h.0, λ k p e less. h.1 k p (omega (arith, l, at_place passes k p e)) e less)
 
 module _ {A R : Type 0} (calls : A → A → Bool) (replies : R → R → Bool) (us vs xs ys : List (Receipt A R)) (e : us ≡ xs) (f : vs ≡ ys) where
-  -- what a comparison found, of equal lists
+  -- the result of a comparison also holds of equal lists
   pub found_is : (found : Option ℕ) → IfNone found (Matches calls replies us vs) → IfSome found (λ j. DiffersFirst calls replies us vs j) → MatchOption found (Matches calls replies xs ys) (λ j. DiffersFirst calls replies xs ys j)
   found_is None none some = rw (e, f) at none
   found_is (Some j) none some = rw (e, f) at some
@@ -75,7 +75,7 @@ all_get f count [] k t a e = cc
 all_get f count (s ∷ ts) zero t a e = let g : s ≡ t = cc in rw g at a.0
 all_get f count (s ∷ ts) (suc k) t a e = all_get f count ts k t a.1 e
 
--- the same of the records that were listed, where each list is that of its number
+-- a comparison with the listed records is one with `records`, if list n has the records of pass n
 module _ {T A R V : Type 0} (calls : A → A → Bool) (replies : R → R → Bool) (number : T → ℕ) (receipts : T → List (Receipt A R)) (passes : List T) (f : V → List (Receipt A R)) (vs : List V) (records : ℕ → List (Receipt A R)) (count : ℕ)
     (below : AllByRecursion (λ n. n < count) (map number passes)) (long : length vs ≡ count) (each : (n : ℕ) (d : V) → n < count → f (get_or vs n d) ≡ records n)
   where

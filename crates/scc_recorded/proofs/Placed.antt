@@ -1,4 +1,4 @@
--- Calls in their own parts, one history more.
+-- Calls in their own parts, with one more history.
 use Rattle.std.proofs.Common.{◌≡◌, ℕ, zero, suc, ◌+◌, List, [], ◌∷◌, take, Option, Some, subst, arith, add-one, add-zero}
 use Rattle.std.specs.Prelude.{slice_get}
 use Rattle.std.specs.List.{AllByRecursion}

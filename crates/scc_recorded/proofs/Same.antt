@@ -1,4 +1,4 @@
--- Values that differ in no field but their facts are the same.
+-- Values whose fields are equal, except for fields that are facts, are equal.
 use Rattle.std.proofs.Common.{◌≡◌, ◌<◌, ◌≤◌, ◌∙◌, ℕ, List, [], ◌∷◌, Some, Result, Ok, Err, length, map, refl, sym, ap, vec_len}
 use Rattle.std.specs.List.{sum, sum_by}
 use Rattle.std.specs.Vec.{with_items}
@@ -72,11 +72,11 @@ maps : {X Y Z : Type 0} (f : Y → Z) (made : X → Y) (xs : List X) → map f (
 maps f made [] = refl
 maps f made (x ∷ xs) = ap (λ l. f (made x) ∷ l) (maps f made xs)
 
--- a sum over what is made of a list's items
+-- a sum over a mapped list is a sum over the list
 pub sum-of-map : {X Y : Type 0} (f : Y → ℕ) (made : X → Y) (xs : List X) → sum_by f (map made xs) ≡ sum_by (λ x. f (made x)) xs
 sum-of-map f made xs = sym (sum-map f (map made xs)) ∙ ap sum (maps f made xs) ∙ sum-map (λ x. f (made x)) xs
 
--- a list with its own items written over it
+-- a list whose items are replaced by equal items is unchanged
 pub same-items : {X Z : Type 0} (v : Vec X Z) (ws : List X) → ws ≡ v.items → with_items v ws ≡ v
 same-items v ws e =
     let l : length ws ≡ v.len = ap length e ∙ sym v.ok.0 in
@@ -91,12 +91,12 @@ same-items v ws e =
       small = v.small;
     }
 
--- what follows of a refusal
+-- a consequence of a fact about an error holds of the error too
 pub if-err : {X E : Type 0} {P Q : E → Type 0} (r : Result X E) → IfErr r P → ((e : E) → P e → Q e) → IfErr r Q
 if-err (Ok x) p f = tt
 if-err (Err e) p f = f e p
 
--- what follows of an answer
+-- a consequence of a fact about a returned value holds of the value too
 pub if-ok : {X E : Type 0} {P Q : X → Type 0} (r : Result X E) → IfOk r P → ((x : X) → P x → Q x) → IfOk r Q
 if-ok (Ok x) p f = f x p
 if-ok (Err e) p f = tt

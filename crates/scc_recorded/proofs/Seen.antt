@@ -1,4 +1,4 @@
--- Numbers below a count of which none comes twice, and which of them came.
+-- Distinct numbers below a count, and flags of the numbers that came.
 use Rattle.std.proofs.Common.{◌≡◌, ℕ, zero, suc, ◌<◌, List, [], ◌∷◌, ◌++◌, length, length-set, map, get_or, Bool, true, false, inl, inr, refl, sym, ◌∙◌, arith}
 use Rattle.std.specs.Prelude.{slice_index_or, slice_set}
 use Rattle.std.specs.List.{AllByRecursion, AllPairs}
@@ -15,7 +15,7 @@ pub record Seen (count : ℕ) (numbers : List ℕ) (seen : List Bool) : Type 0 w
   pub not_yet : (n : ℕ) → n < count → slice_index_or seen n false ≡ false → (i d : ℕ) → i < length numbers → get_or numbers i d ≡ n → ⊥
 
 module _ (count : ℕ) (numbers : List ℕ) (seen : List Bool) (s : Seen count numbers seen) (n : ℕ) (h : n < count) where
-  -- a number that didn't come yet
+  -- a number that didn't come yet is added
   pub seen_more : slice_index_or seen n false ≡ false → Seen count (numbers ++ n ∷ []) (slice_set seen n true)
   seen_more new =
       let within : n < length seen = omega (arith, s.long) in
@@ -40,7 +40,7 @@ module _ (count : ℕ) (numbers : List ℕ) (seen : List Bool) (s : Seen count n
         ];
       }
 
-  -- a number that came before comes twice in any longer list
+  -- if a number came before, it comes twice in any longer list in which it is next
   pub twice : slice_index_or seen n false ≡ true → (all : List ℕ) → length numbers < length all → ((i d : ℕ) → i < length numbers → get_or all i d ≡ get_or numbers i d) → ((d : ℕ) → get_or all (length numbers) d ≡ n) → AllPairs (λ m n. m ≡ n → ⊥) all → ⊥
   twice old all longer begins next apart =
       let c = s.came n h old in

@@ -1,4 +1,4 @@
--- A row may cross threads where its entries may, and the right to its block where the allocator may.
+-- A row may cross threads if its entries may. The right to its block may cross threads if the allocator may.
 use Rattle.std.specs.Prelude.{ℕ, ◌+◌, List, [], ◌∷◌, Option, Some, None}
 use Rattle.std.specs.Mem.{type_size}
 use base.Fraction.{full_share}

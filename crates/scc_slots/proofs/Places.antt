@@ -1,4 +1,4 @@
--- One cell is taken out of a row and put back, whatever lies in it then; and the room of a block is a row of free cells. Assumes `Logic`.
+-- One cell is taken out of a row and put back with any content. The room of a block is a row of free cells. Assumes `Logic`.
 use Rattle.std.proofs.Common.{◌≡◌, ℕ, zero, suc, ◌+◌, ◌*◌, ◌<◌, List, [], ◌∷◌, length, replicate, get_or, set, Option, Some, None, refl, subst, arith}
 use native.Mathlib.Nat.{zero-mul, suc-mul}
 use seplogic.Ra.Ura.{Ura}
@@ -45,13 +45,13 @@ module _ (E : El) where
   abbrev pub size : ℕ
   size = type_size (R E)
 
--- the cell that a list holds an entry for is one of it
+-- the index of a cell that holds an entry is below the number of cells
 pub filled-within : {X : Type 0} (cs : List (Option X)) (i : ℕ) (x : X) → get_or cs i None ≡ Some x → i < length cs
 filled-within [] i x e = cc
 filled-within (c ∷ cs) zero x e = omega arith
 filled-within (c ∷ cs) (suc i) x e = let h = filled-within cs i x e in omega arith
 
--- the i-th cell lies i sizes after the first
+-- the i-th cell lies i sizes of an entry after the first cell
 first-at : (s o at : ℕ) → at ≡ 0 * s + o → o ≡ at
 first-at s o at e = omega (arith, zero-mul s)
 
@@ -106,7 +106,7 @@ module _ (E : El) {M : Type 1} {𝓤 : Ura M} (𝓛 : Logic 𝓤) (b : ℕ) wher
     cell-shown o at (c ∷ cs) (suc i) h e =
         via 𝓤 (sem 𝓛 (Shown (o + size E) cs)) (snd∗ 𝓤 (sem 𝓛 (cell_shows (R E) b o c κ)) (sem 𝓛 (Shown (o + size E) cs))) (cell-shown (o + size E) at cs i (omega arith) (later-at (size E) i o at e))
 
-  -- the room for n entries, cell by cell
+  -- the room for n entries is n free cells
   pub room-cells : (n o : ℕ) → ent 𝓤 (H.room (ty_array (elτ E) n) b o) (sem 𝓛 (All o (replicate n None)))
   room-cells zero o = qed 𝓛 (‵ (froom (ty_array (elτ E) 0) b o) ∷ []) ∵ keep ! [] $ done !
   room-cells (suc n) o = qed 𝓛 (‵ (froom (ty_array (elτ E) (suc n)) b o) ∷ []) ∵
@@ -114,14 +114,14 @@ module _ (E : El) {M : Type 1} {𝓤 : Ura M} (𝓛 : Logic 𝓤) (b : ℕ) wher
       use1 𝓛 (‵ (Here o None)) (𝓛.laws.room-raw (elτ E) b o) $ move ! (1 ∷ []) $
       use1 𝓛 (‵ (All (o + size E) (replicate n None))) (room-cells n (o + size E)) $ move ! (1 ∷ 0 ∷ []) $ fjoin ! $ done !
 
-  -- and free cells are room again
+  -- n free cells are the room for n entries
   pub cells-room : (n o : ℕ) → ent 𝓤 (sem 𝓛 (All o (replicate n None))) (H.room (ty_array (elτ E) n) b o)
   cells-room zero o = 𝓛.laws.room_nil (elτ E) b o
   cells-room (suc n) o = qed 𝓛 (‵ (All o (replicate (suc n) None)) ∷ []) ∵ fsplit ! $
       use1 𝓛 (‵ (froom (elτ E) b o)) (𝓛.laws.raw-room (elτ E) b o) $ move ! (1 ∷ []) $
       use1 𝓛 (‵ (froom (ty_array (elτ E) n) b (o + size E))) (cells-room n (o + size E)) $ move ! (1 ∷ 0 ∷ []) $ by ! (𝓛.laws.room_cons (elτ E) n b o)
 
--- no cell lies nowhere
+-- a row without a block has no cells
 pub nowhere-owned : {M : Type 1} {𝓤 : Ura M} (𝓛 : Logic 𝓤) (R : RattleType) (cs : List (Option R.Denot)) (i : ℕ) → i < length cs → ent 𝓤 (sem 𝓛 (row_owns R null_ptr cs)) (never 𝓤)
 nowhere-owned 𝓛 R [] i h = absurd (omega arith)
 nowhere-owned {𝓤 = 𝓤} 𝓛 R (c ∷ cs) i h = id⊢ 𝓤 (never 𝓤)
@@ -130,7 +130,7 @@ pub nowhere-shown : {M : Type 1} {𝓤 : Ura M} (𝓛 : Logic 𝓤) (R : RattleT
 nowhere-shown 𝓛 R [] κ i h = absurd (omega arith)
 nowhere-shown {𝓤 = 𝓤} 𝓛 R (c ∷ cs) κ i h = id⊢ 𝓤 (never 𝓤)
 
--- what lies in a cell is a cell with one value, and what the value owns
+-- a cell with an entry is a cell with one value, and all that the value owns
 pub cell_out : {M : Type 1} {𝓤 : Ura M} {𝓛 : Logic 𝓤} {K : Type 0} {Γ : List (Item 𝓤)} {G : Goal 𝓤 𝓛.H} → K → {X : RattleType} (L : Laws X) (x : X.Denot) (b o : ℕ)
     → ((v : Val) → Good (layout X) v → Seq K 𝓛 (‵ (fat full_share (layout X) b o v) ∷ ‵ (X.own_val x (v ∷ [])) ∷ Γ) G)
     → Seq K 𝓛 (‵ (part_at (param 0 X) full_share x b o) ∷ Γ) G
@@ -138,7 +138,7 @@ cell_out {𝓛 = 𝓛} t {X} L x b o k =
     use1 𝓛 (some (λ (v : Val). ‵ (fat full_share (layout X) b o v) ⊛ ‵ (X.own_val x (v ∷ [])))) (part_out 𝓛 (param 0 X) refl full_share x b o) $ pick t (λ v. split t $ move t (1 ∷ []) $
     peeks t (param 0 X) (Is (param 0 X)) (shows 𝓛 (param 0 X)) x (v ∷ []) (λ is. move t (1 ∷ 0 ∷ []) $ k v (((param_laws 0 X L).lawful 𝓛).typed x (v ∷ []) is).0))
 
--- the field of a row has no bytes, and is had for nothing
+-- the field of a row has no bytes, and needs no resource
 pub field_made : {M : Type 1} {𝓤 : Ura M} {𝓛 : Logic 𝓤} {K : Type 0} {Γ : List (Item 𝓤)} {G : Goal 𝓤 𝓛.H} → K → (E : El) → Step K 𝓛 (‵ ((Field E).own_val (tt, tt) (mark ∷ [])) ∷ Γ) G Γ G
 field_made {𝓛 = 𝓛} t E =
     owned t (Field E) (Is (Field E)) (Struct-Makes 𝓛 (shape (Row.the_type (R E))) (phantom.the_field_plain RawPtr, tt)) (tt, tt) (mark ∷ []) ((vstruct vnil ∷ [], tt), (refl, ((tt, (refl, tt)), tt)))

@@ -1,4 +1,4 @@
--- A `&` to a row shows what a `&` to each of its entries does. Assumes `Logic`.
+-- A `&` to a row shows all that a `&` to each of its entries shows. Assumes `Logic`.
 use Prim.Native.Nat.{ℕ, ◌+◌}
 use Rattle.std.specs.Prelude.{List, [], ◌∷◌, Option, Some, None}
 use Rattle.std.specs.Mem.{type_size}

@@ -1,4 +1,4 @@
--- Lists that were turned round.
+-- Reversed lists.
 use Rattle.std.proofs.Common.{◌≡◌, ◌∙◌, List, [], ◌∷◌, ◌++◌, reverse, map, ap, sym, refl}
 use mathlib.Core.List.{reverse-cons}
 use Rattle.std.proofs.lemmas.List.{map-append, reverse-reverse}
@@ -7,6 +7,6 @@ map-reverse : {X Y : Type 0} (f : X → Y) (xs : List X) → map f (reverse xs) 
 map-reverse f [] = refl
 map-reverse f (x ∷ xs) = ap (map f) (reverse-cons x xs) ∙ map-append f (reverse xs) (x ∷ []) ∙ ap (λ l. l ++ f x ∷ []) (map-reverse f xs) ∙ sym (reverse-cons (f x) (map f xs))
 
--- a list that was turned round, read item by item, and turned back
+-- a list that is reversed, mapped and reversed again is equal to the mapped list
 pub turned-back : {X Y : Type 0} (f : X → Y) (xs : List X) → reverse (map f (reverse xs)) ≡ map f xs
 turned-back f xs = ap reverse (map-reverse f xs) ∙ reverse-reverse (map f xs)

@@ -12,7 +12,7 @@ above_zero : (r t : ℕ) → bit_at r t ≡ 1 → 0 < r
 above_zero zero t h = absurd (let z = bit_at-zero t in omega arith)
 above_zero (suc r) t h = omega arith
 
--- a number above a bit that is set keeps its other bits where one is taken off
+-- one less keeps the bits above a bit that is set
 pred_keeps : (b t k : ℕ) → bit_at b t ≡ 1 → t < k → 0 < 2 ^ k → bit_at (b - 1) k ≡ bit_at b k
 pred_keeps b t k h l pos =
     let q : ℕ = b / 2 ^ k in
@@ -37,7 +37,7 @@ pub returns-clause-others : goal.returns-clause-others
 returns-clause-others c =
     λ k h n. cleared c.args.bits k c.requires c.ranges.bits.fits h n
 
--- the digits below the lowest one that is set write 0
+-- if all bits below t are 0, the remainder by 2 ^ t is 0
 low_zero : (b t : ℕ) → ((i : ℕ) → i < t → bit_at b i ≡ 0) → 0 < 2 ^ t → b % 2 ^ t ≡ 0
 low_zero b t f pos =
     same_from_bits (b % 2 ^ t) 0 (λ i. elim (dec_lt i t) [
@@ -52,7 +52,7 @@ pred_of_times (suc q) x p h =
     let more : suc q * x ≡ x + q * x = grind arith in
     rw one (omega arith)
 
--- one less clears the lowest digit that is set
+-- one less clears the lowest bit that is set
 pred_clears : (b t : ℕ) → bit_at b t ≡ 1 → ((i : ℕ) → i < t → bit_at b i ≡ 0) → 0 < 2 ^ t → bit_at (b - 1) t ≡ 0
 pred_clears b t h f pos =
     let q : ℕ = b / 2 ^ t in

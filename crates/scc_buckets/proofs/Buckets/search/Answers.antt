@@ -14,7 +14,7 @@ returns-then-count-eq0-clause-place g c =
 pub returns-then-count-eq0-clause-unique : goal.returns-then-count-eq0-clause-unique
 returns-then-count-eq0-clause-unique g c = rw (entries-view c.self.inside.buckets _ c.args.self.now c.self.view_is) c.self.invariant.unique
 
--- an entry with that key has that hash
+-- an entry with the searched key has the searched hash
 pub search-requires-clause-tagged : goal.search-requires-clause-tagged
 search-requires-clause-tagged g c =
     let hashed = rw (settings-view c.self.inside.buckets _ c.args.self.now c.self.view_is) at c.requires in

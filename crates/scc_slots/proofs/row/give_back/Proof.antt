@@ -1,4 +1,4 @@
--- `give_back` joins free cells to the room of one block, which the right lets go back. Assumes `Logic`.
+-- `give_back` joins free cells to the room of one block. The right lets the block go back. Assumes `Logic`.
 use Rattle.std.proofs.Common.{◌≡◌, ℕ, ◌*◌, ◌^◌, ◌<◌, List, [], ◌∷◌, ◌++◌, replicate, None, refl, sym, ap, subst, ◌∙◌, arith}
 use Rattle.std.proofs.lemmas.List.{length-replicate}
 use base.Fml.{ftrue, flft, froom, Incl-trans}

@@ -1,4 +1,4 @@
--- A row of no cells owns nothing, so it is had for nothing. Assumes `Logic`.
+-- A row of no cells owns nothing, so it needs no resource. Assumes `Logic`.
 use Rattle.std.proofs.Common.{◌≡◌, [], ◌∷◌, refl}
 use base.Fml.{ftrue, flft}
 use base.Logic.{SProp, emp}
@@ -49,5 +49,5 @@ no_cells_spec 𝓤 𝓛 𝓜 𝓡 wired X L =
     returns ! (look_at ! 0 refl) $ free_all ! refl $ keep ! (0 ∷ 1 ∷ 2 ∷ []) $
     use0 𝓛 (raw (fact 𝓤 ((row.start ≡ null_ptr) × (row.cells ≡ [])))) (fact_i 𝓤 _ (emp 𝓤) (refl, refl)) $ move ! (2 ∷ 3 ∷ []) $ join ! $
     nothing ! $
-    -- [what is left of the parameters; the tokens; what the clause says; the row]
+    -- [the rest of the parameters; the tokens; the fact of the clause; the row]
     move ! (1 ∷ 0 ∷ 3 ∷ 2 ∷ []) $ by ! (leaves 𝓛 T hs c y mark row tt tt)))

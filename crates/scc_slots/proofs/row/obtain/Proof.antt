@@ -108,7 +108,7 @@ obtain_spec 𝓤 𝓛 𝓜 𝓡 wired X Y L LY g d dd met md =
     let made-good : Good (layout Made) made = (tt, ((tt, tt), (((tt, tt), ((tt, tt), tt)), tt))) in
     let ok = first_Good (layout Made) made made-good in
     lands_as ! e refl (Answer-typed true b o) $ first ! $ switches_on ! (get_tag ! (vrt ! refl (fld ! refl (stop !))) (whole !)) $ exec ! C Λ En (arm_body 1 arms) Then $
-    -- [the room; what lets it go back; the token; the other tokens]
+    -- [the room; the right to give it back; the token; the other tokens]
     sets ! (of_opd ! (get_in ! (vrt ! refl (fld ! refl (stop !))) (in_variant ! 0 0 refl refl (whole !)))) refl (tt, tt) $ sets ! (of_opd ! (get ! refl)) refl (tt, tt) $
     sets ! (agg ! (and_then ! (get ! refl) (no_more !))) refl (word-Good [] p) $
     sets ! (agg ! (no_more !)) refl (tt, tt) $ sets ! (agg ! (and_then ! (get ! refl) (no_more !))) refl (tt, (tt, tt)) $
@@ -126,7 +126,7 @@ obtain_spec 𝓤 𝓛 𝓜 𝓡 wired X Y L LY g d dd met md =
     returns ! (look_at ! 0 refl) $ free_all ! refl $ keep ! (0 ∷ 1 ∷ 2 ∷ []) $
     use0 𝓛 (raw (fact 𝓤 (Says (Ok (start, (row, right)))))) (fact_i 𝓤 _ (emp 𝓤) (refl, refl, refl, refl, refl)) $ move ! (2 ∷ 3 ∷ []) $ join ! $
     nothing ! $ nothing ! $ fjoin ! $ nothing ! $ fjoin ! $
-    -- [what is left of the parameters; the tokens; what the clause says; the result]
+    -- [the rest of the parameters; the tokens; the fact of the clause; the result]
     move ! (1 ∷ 0 ∷ 3 ∷ 2 ∷ []) $ by ! (leaves 𝓛 T hs c y (live 0 (vcons made vnil)) (Ok (start, (row, right))) (tt, (tt, tt)) (tt, (tt, tt))))
     (λ e.
     let Refusal : RattleType = Struct (Declared.shape AE.the_type) in
@@ -140,5 +140,5 @@ obtain_spec 𝓤 𝓛 𝓜 𝓡 wired X Y L LY g d dd met md =
     returns ! (look_at ! 0 refl) $ free_all ! refl $ keep ! (0 ∷ 1 ∷ 2 ∷ []) $
     use0 𝓛 (raw (fact 𝓤 (Says (Err (record {}))))) (fact_i 𝓤 _ (emp 𝓤) tt) $ move ! (2 ∷ 3 ∷ []) $ join ! $
     nothing ! $ nothing ! $ fjoin ! $ nothing ! $ fjoin ! $
-    -- [what is left of the parameters; the tokens; what the clause says; the result]
+    -- [the rest of the parameters; the tokens; the fact of the clause; the result]
     move ! (1 ∷ 0 ∷ 3 ∷ 2 ∷ []) $ by ! (leaves 𝓛 T hs c y none (Err (record {})) (tt, (tt, tt)) (tt, (tt, tt)))))))))))

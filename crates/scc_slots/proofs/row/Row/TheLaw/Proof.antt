@@ -1,4 +1,4 @@
--- A `&` to a row shows what a `&` to each of its entries does. Assumes `Logic`.
+-- A `&` to a row shows all that a `&` to each of its entries shows. Assumes `Logic`.
 use mathlib.Core.List.{[], ◌++◌}
 use base.Fml.{Incl-trans}
 use contract.BorrowLft.{meet_⊑_left}

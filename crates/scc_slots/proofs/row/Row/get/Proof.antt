@@ -1,4 +1,4 @@
--- `get` hands on what a `&` to the row shows of one entry. Assumes `Logic`.
+-- `get` returns a `&` to one entry of a row that is behind a `&`. Assumes `Logic`.
 use Rattle.std.proofs.Common.{◌≡◌, ◌+◌, ◌*◌, ◌^◌, ◌<◌, List, [], ◌∷◌, ◌++◌, length, get_or, Some, None, refl, ◌∙◌, arith}
 use base.Fml.{fat}
 use base.Fraction.{full_share}
@@ -65,7 +65,7 @@ get_spec 𝓤 𝓛 𝓜 𝓡 wired X L =
     move ! (1 ∷ []) $ split ! $ heard ! _ (λ short. heard ! _ (λ asks.
     let x = asks.1.0 in let within = filled-within d.cells cell x asks.1.1 in
     split ! $ move ! (1 ∷ []) $ fsplit ! $ fsplit ! $ feq_l ! (λ e0. move ! (0 ∷ 2 ∷ []) $
-    -- [what the `&` shows; the tokens]
+    -- [the shown row; the tokens]
     regoal ! (λ (ws : List Val). prop (WpFn 𝓤 𝓛.H C Λ fn ws Post)) (λ i. e0 i ++ (e1 i ++ (are.1.1.0.0 i ++ []))) refl $
     enter ! C Λ fn (vptr rb ro ∷ word start.first ∷ vint w64 cell ∷ []) Post $
     alloc_all ! (λ l. pass_all ! refl ((tt, tt), (word-Good [] start.first, ((tt, record { fits = fits }), tt))) $
@@ -75,7 +75,7 @@ get_spec 𝓤 𝓛 𝓜 𝓡 wired X L =
     let s = size E in let at = cell * s + o in
     let whole_size : s < 2 ^ 64 = omega (arith, one_below (length d.cells) s (2 ^ 63) (omega arith) small) in
     let far : cell * s < 2 ^ 64 = omega (arith, times_below cell (length d.cells) s (2 ^ 63) (omega arith) small) in
-    -- [what is shown of the cells; the tokens]
+    -- [the shown cells; the tokens]
     take_at ! 2 $ rewrite ! 0 (λ (p : Ptr). ‵ (fat full_share (layout S) (l 2) 0 (word p))) (asks.0 ∙ e) refl $ give_at ! 2 $
     first ! $ blocks ! $
     sets ! (bin ! (get ! refl) (size_lit ! (record { fits = whole_size })) (record { fits = far })) refl (tt, record { fits = far }) $
@@ -89,5 +89,5 @@ get_spec 𝓤 𝓛 𝓜 𝓡 wired X L =
     returns ! (look_at ! 0 refl) $ free_all ! refl $ keep ! (0 ∷ 1 ∷ []) $
     use0 𝓛 (raw (fact 𝓤 (get_or d.cells cell None ≡ Some x))) (fact_i 𝓤 _ (emp 𝓤) asks.1.1) $
     nothing ! $ nothing ! $ fjoin ! $ nothing ! $ fjoin ! $ nothing ! $ fjoin ! $
-    -- [what is left of the parameters; what the clause says; the `&`; the tokens]
+    -- [the rest of the parameters; the fact of the clause; the `&`; the tokens]
     move ! (3 ∷ 0 ∷ 2 ∷ 1 ∷ []) $ by ! (leaves 𝓛 T hs c y (vptr b at) (record { ref_ptr = (b, at); now = x }) (tt, (tt, (tt, tt))) (tt, (tt, (tt, tt)))))))))))

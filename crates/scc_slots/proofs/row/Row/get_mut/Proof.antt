@@ -1,4 +1,4 @@
--- `get_mut` lends one entry out of the row, which ends with what was written there last. Assumes `Logic`.
+-- `get_mut` lends one entry of the row. At the end, the row holds the entry's last value. Assumes `Logic`.
 use Rattle.std.proofs.Common.{◌≡◌, ℕ, ◌+◌, ◌*◌, ◌^◌, ◌<◌, List, [], ◌∷◌, ◌++◌, length, set, get_or, Some, None, refl, sym, subst, ◌∙◌, arith}
 use lib.ListN.{length-set}
 use base.Fml.{Fml, GName, fsep, ftrue, flft, fat}
@@ -54,11 +54,11 @@ module _ (E : El) {M : Type 1} {𝓤 : Ura M} (𝓛 : Logic 𝓤) (d : (Row.the_
   abbrev at : ℕ
   at = cell * size E + o
 
-  -- the row, where the entry at the cell is w
+  -- the row, if the entry in the cell is w
   abbrev new : E.row.Denot → W.Denot
   new w = with_cells d (set d.cells cell (Some w))
 
-  -- all that the row owns but the entry
+  -- all that the row owns, except the entry
   abbrev rest : Fml
   rest = fsep (others E 𝓛 b o d.cells cell) (fsep ((Field E).own_val (tt, tt) us) (cell_at full_share W.mir us rb ro))
 
@@ -95,7 +95,7 @@ get_mut_spec 𝓤 𝓛 𝓜 𝓡 wired X L =
     move ! (1 ∷ []) $ split ! $ heard ! _ (λ short. heard ! _ (λ asks.
     let x = asks.1.0 in let within = filled-within d.cells cell x asks.1.1 in
     split ! $ split ! $ move ! (2 ∷ []) $ fsplit ! $ fsplit3 ! $ feq_l ! (λ e0. move ! (0 ∷ 1 ∷ 3 ∷ 4 ∷ []) $
-    -- [what is known of the row; its borrow; the token; the other tokens]
+    -- [the facts about the row; its borrow; the token; the other tokens]
     regoal ! (λ (ws : List Val). prop (WpFn 𝓤 𝓛.H C Λ fn ws Post)) (λ i. e0 i ++ (e1 i ++ (are.1.1.0.0 i ++ []))) refl $
     enter ! C Λ fn (vptr rb ro ∷ word start.first ∷ vint w64 cell ∷ []) Post $
     alloc_all ! (λ l. pass_all ! refl ((tt, tt), (word-Good [] start.first, ((tt, record { fits = fits }), tt))) $
@@ -120,10 +120,10 @@ get_mut_spec 𝓤 𝓛 𝓜 𝓡 wired X L =
     use1 𝓛 (later (some (λ (δ : GName). raw (Part 𝓛 W (R E) with_entry (named 0) κ q rb ro b at a.0.ghost_name (sem 𝓛 others_own) back x δ))))
     (lends_Part 𝓛 W (R E) with_entry (named 0) κ q rb ro b at a.0.ghost_name (sem 𝓛 others_own) back (W.coded.code d) (W.coded.code d) x) $ await ! tt $ pick ! (λ δ.
     let r : MutBor E.row.Denot = record { ref_ptr = (b, at); ghost_name = δ; now = x } in
-    -- [what is lent; the other tokens]
+    -- [the lent entry; the other tokens]
     returns ! (look_at ! 0 refl) $ free_all ! refl $ keep ! (0 ∷ 1 ∷ []) $
     use1 𝓛 (‵ ((MutRef (named 0) κ (R E)).own_val r (vptr b at ∷ [])) ⊛ ‵ (flft κ q) ⊛ ‵ (follows W (R E) a.0.ghost_name δ with_entry)) (id⊢ 𝓤 _) $ split ! $ move ! (1 ∷ []) $ split ! $
     use0 𝓛 (raw (fact 𝓤 (get_or d.cells cell None ≡ Some x))) (fact_i 𝓤 _ (emp 𝓤) asks.1.1) $ move ! (2 ∷ 0 ∷ []) $ join ! $ move ! (1 ∷ 3 ∷ []) $ join ! $
     nothing ! $ nothing ! $ fjoin ! $ nothing ! $ fjoin ! $ nothing ! $ fjoin ! $
-    -- [what is left of the parameters; the tokens; what the clauses say; the `&mut`]
+    -- [the rest of the parameters; the tokens; the facts of the clauses; the `&mut`]
     move ! (1 ∷ 0 ∷ 3 ∷ 2 ∷ []) $ by ! (leaves 𝓛 T hs c y (vptr b at) r (tt, (tt, (tt, tt))) (tt, (tt, (tt, tt)))))))))))))

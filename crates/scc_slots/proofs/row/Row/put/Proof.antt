@@ -70,7 +70,7 @@ put_spec 𝓤 𝓛 𝓜 𝓡 wired X L =
     split ! $ split ! $ move ! (2 ∷ []) $ fsplit ! $ fsplit3 ! $ feq_l ! (λ e0.
     move ! (2 ∷ []) $ fsplit ! $ skip ! $ fsplit ! $ skip ! $ fsplit ! $ rewrite ! 0 (λ (us : List Val). ‵ ((R E).own_val entry us)) got.1 refl $
     move ! (2 ∷ 3 ∷ 4 ∷ 0 ∷ 5 ∷ []) $
-    -- [what is known of the row; its borrow; the token; the entry; the other tokens]
+    -- [the facts about the row; its borrow; the token; the entry; the other tokens]
     regoal ! (λ (ws : List Val). prop (WpFn 𝓤 𝓛.H C Λ fn ws Post)) (λ i. e0 i ++ (e1 i ++ (are.1.1.0.0 i ++ (got.1 i ++ [])))) refl $
     enter ! C Λ fn (vptr rb ro ∷ word start.first ∷ vint w64 cell ∷ v ∷ []) Post $
     alloc_all ! (λ l. pass_all ! refl ((tt, tt), (word-Good [] start.first, ((tt, record { fits = fits }), (good, tt)))) $
@@ -94,7 +94,7 @@ put_spec 𝓤 𝓛 𝓜 𝓡 wired X L =
     use2 𝓛 (‵ (cells_own (R E) b o new.cells)) (cell-in E 𝓛 b o at d.cells cell (Some entry) within refl) $
     flt_i ! (length new.cells * s) (2 ^ 63) (subst (λ k. k * s < 2 ^ 63) (sym (length-set d.cells cell (Some entry))) small) $ move ! (1 ∷ 0 ∷ []) $ fjoin ! $
     rewrite ! 0 (λ (p : Ptr). ‵ (row_owns (R E) p new.cells)) (sym e) refl $ move ! (1 ∷ 0 ∷ []) $ fjoin ! $ move ! (1 ∷ 0 ∷ []) $ closes ! tt W new us rb ro $
-    -- [what is known of the row; its borrow; the token; the other tokens]
+    -- [the facts about the row; its borrow; the token; the other tokens]
     returns ! (look_at ! 0 refl) $ free_all ! refl $ keep ! (0 ∷ 1 ∷ 2 ∷ 3 ∷ []) $
     suffices ! _ (ends_at 𝓛 T hs c y vunit tt (new, (tt, (tt, (tt, tt)))) (tt, (tt, (tt, (tt, tt))))) $ says ! (refl, refl) $
     move ! (2 ∷ 3 ∷ []) $ join ! $ frame ! $ feq_i ! (List Val) vss.0 (vptr rb ro ∷ []) e0 $ fjoin3 ! $

@@ -1,4 +1,4 @@
--- `take` reads the entry of a cell out, and its room is free. Assumes `Logic`.
+-- `take` reads the entry out of a cell and leaves the cell free. Assumes `Logic`.
 use Rattle.std.proofs.Common.{◌≡◌, ◌+◌, ◌*◌, ◌^◌, ◌<◌, List, [], ◌∷◌, ◌++◌, length, set, get_or, Some, None, refl, sym, subst, ◌∙◌, arith}
 use lib.ListN.{length-set}
 use base.Fml.{froom, ftrue, flft, fat}
@@ -66,7 +66,7 @@ take_spec 𝓤 𝓛 𝓜 𝓡 wired X L =
     move ! (1 ∷ []) $ split ! $ heard ! _ (λ short. heard ! _ (λ asks.
     let x = asks.1.0 in let within = filled-within d.cells cell x asks.1.1 in
     split ! $ split ! $ move ! (2 ∷ []) $ fsplit ! $ fsplit3 ! $ feq_l ! (λ e0. move ! (0 ∷ 1 ∷ 3 ∷ 4 ∷ []) $
-    -- [what is known of the row; its borrow; the token; the other tokens]
+    -- [the facts about the row; its borrow; the token; the other tokens]
     regoal ! (λ (ws : List Val). prop (WpFn 𝓤 𝓛.H C Λ fn ws Post)) (λ i. e0 i ++ (e1 i ++ (are.1.1.0.0 i ++ []))) refl $
     enter ! C Λ fn (vptr rb ro ∷ word start.first ∷ vint w64 cell ∷ []) Post $
     alloc_all ! (λ l. pass_all ! refl ((tt, tt), (word-Good [] start.first, ((tt, record { fits = fits }), tt))) $
@@ -91,11 +91,11 @@ take_spec 𝓤 𝓛 𝓜 𝓡 wired X L =
     use2 𝓛 (‵ (cells_own (R E) b o new.cells)) (cell-in E 𝓛 b o at d.cells cell None within refl) $
     flt_i ! (length new.cells * s) (2 ^ 63) (subst (λ k. k * s < 2 ^ 63) (sym (length-set d.cells cell None)) small) $ move ! (1 ∷ 0 ∷ []) $ fjoin ! $
     rewrite ! 0 (λ (p : Ptr). ‵ (row_owns (R E) p new.cells)) (sym e) refl $ move ! (2 ∷ 0 ∷ []) $ fjoin ! $ move ! (2 ∷ 0 ∷ 3 ∷ 4 ∷ 5 ∷ []) $ closes ! tt W new us rb ro $
-    -- [what is known of the row; its borrow; the token; the entry; the other tokens]
+    -- [the facts about the row; its borrow; the token; the entry; the other tokens]
     returns ! (look_at ! 0 refl) $ free_all ! refl $ keep ! (0 ∷ 1 ∷ 2 ∷ 3 ∷ 4 ∷ []) $
     use0 𝓛 (raw (fact 𝓤 ((new.start ≡ d.start) × (new.cells ≡ set d.cells cell None)))) (fact_i 𝓤 _ (emp 𝓤) (refl, refl)) $
     use0 𝓛 (raw (fact 𝓤 (get_or d.cells cell None ≡ Some x))) (fact_i 𝓤 _ (emp 𝓤) asks.1.1) $ join ! $
     move ! (3 ∷ 5 ∷ []) $ join ! $ move ! (2 ∷ 3 ∷ []) $ feq_i ! (List Val) vss.0 (vptr rb ro ∷ []) e0 $ fjoin3 ! $
     nothing ! $ nothing ! $ fjoin ! $ nothing ! $ fjoin ! $ move ! (1 ∷ 0 ∷ []) $ fjoin ! $
-    -- [what is left of the parameters; the tokens; what the clauses say; the entry]
+    -- [the rest of the parameters; the tokens; the facts of the clauses; the entry]
     move ! (1 ∷ 0 ∷ 3 ∷ 2 ∷ []) $ by ! (leaves 𝓛 T hs c y v x (new, (tt, (tt, tt))) (tt, (tt, (tt, tt)))))))))))))
