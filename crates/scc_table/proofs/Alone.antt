@@ -1,4 +1,4 @@
--- Two arrays where no bucket waits.
+-- Two arrays, if no bucket waits.
 use Rattle.std.proofs.Common.{◌≡◌, ◌==◌, ℕ, ◌+◌, ◌^◌, ◌<◌, ◌≤◌, inl, Bool, true, false, List, [], ◌∷◌, length, map, refl, sym, ap, subst, arith, rules}
 use Rattle.std.specs.List.{flat_map, IsDistinct}
 use Rattle.std.proofs.lemmas.List.Sums.{sum_by-cons}
@@ -13,7 +13,7 @@ use Rattle.scc_table.specs.TwoArrays.{owed_in, target_by, together, TwoArrays, I
 equal : (a b : ℕ) → a ≡ b → (a == b) ≡ true
 equal a b h = search rules
 
--- where no bucket has an entry, there is none
+-- if no bucket has an entry of the list es, es is empty
 bound-nowhere : {E : Type 0} (hash : E → ℕ) (t n : ℕ) (es : List E) → ((i : ℕ) → bound_for hash t n i es ≡ []) → es ≡ []
 bound-nowhere hash t n [] h = refl
 bound-nowhere hash t n (e ∷ es) h =
@@ -22,7 +22,7 @@ bound-nowhere hash t n (e ∷ es) h =
     absurd (let z = rw here at (h i) in cc)
 
 module _ {E S : Type 0} (hash : E → ℕ) (c : Contents E S) (ws : List Bool) (olds : List (Shelf E)) (none : ws ≡ []) where
-  -- nothing lies in the old array
+  -- the old array holds no entries
   pub nothing-owed : TwoArrays hash c ws olds → flat_map shelf_entries olds ≡ []
   nothing-owed arrays =
       let there : TwoArrays hash c [] olds = subst (λ w. TwoArrays hash c w olds) none arrays in
@@ -51,7 +51,7 @@ spilled-together hash c ws olds = refl
 pub spilled-alone : {E S : Type 0} (hash : E → ℕ) (c : Contents E S) (ws : List Bool) → overflow_of (together hash c ws []) ≡ overflow_of c
 spilled-alone hash c ws = let z = spilled-together hash c ws [] in omega arith
 
--- no more lie in an overflow list than there are
+-- if the old array holds no entries, its overflow lists are empty
 pub spilled-bare : {E : Type 0} (olds : List (Shelf E)) → flat_map shelf_entries olds ≡ [] → overflow_in olds ≡ 0
 spilled-bare [] h = refl
 spilled-bare {E} (b ∷ olds) h =
@@ -61,12 +61,12 @@ spilled-bare {E} (b ∷ olds) h =
     let s = sum_by-cons (λ (x : Shelf E). length x.overflow) b olds in
     omega arith
 
--- an old array in which nothing lies shows nothing
+-- if the old array holds no entries, the contents of both arrays are those without an old array
 pub bare-together : {E S : Type 0} (hash : E → ℕ) (c : Contents E S) (olds : List (Shelf E)) → flat_map shelf_entries olds ≡ [] → together hash c [] olds ≡ together hash c [] []
 bare-together {E} {S} hash c olds bare =
     ap (λ n. let d : Contents E S = record { lists = lists_of c; settings = settings_of c; refused = refused_of c; spilled = overflow_of c + n; waiting = []; owed = [] } in d) (spilled-bare olds bare)
 
--- of all fields where there is no old array
+-- the invariant `IsTable` holds of contents c without an old array
 pub fields-alone : {E K S : Type 0} (eq : K → K → Bool) (key : E → K) (hash : K → ℕ) (c : Contents E S) (skipped next : ℕ) → skipped ≡ (settings_of c).skipped → skipped ≤ 4 → overflow_of c < 2 ^ 62 → IsDistinct eq (map key (entries c))
     → IsTable eq key hash c (record { array = []; waiting = []; pending = 0; next = next; left = 0; left_overflow = 0 }) skipped
 fields-alone eq key hash c skipped next skips few_bits few unique = record {

@@ -1,4 +1,4 @@
--- Entries at places of two arrays: what holds at the spot of such a place.
+-- What holds of an entry at a place of two arrays, by the spot of the place.
 use Rattle.std.proofs.Common.{◌≡◌, ◌++◌, suc, [], Bool, true, Some, length, sym, ap, subst, ◌∙◌}
 use Rattle.std.specs.Cmp.{IsEquivalence}
 use Rattle.std.specs.List.{IsDistinct, remove, slice_get}
@@ -25,7 +25,7 @@ module _ {E S : Type 0} where
   pub entry_of-is : (c : Contents E S) (p : Place) (h : IsPlace c p) (e : E) → slice_get (entries c) (index_of c p) ≡ Some e → entry_of c p h ≡ e
   entry_of-is c p h e got = placing.entry_of-is c (spot_of c p) h e got
 
-  -- a write changes no number of entries before a place
+  -- after a write at p, the number of entries before p is counted by the spot that p had before the write
   pub index-written : {X : Type 0} (put : E → X → E) (c : Contents E S) (p : Place) (w : X) → index_of (with_write_at put c p w) p ≡ places.index_of_spot (with_write_at put c p w) (spot_of c p)
   index-written put c p w = ap (places.index_of_spot (with_write_at put c p w)) (spot-with_write_at put c (spot_of c p) w p)
 

@@ -1,4 +1,4 @@
--- A new array in the place of the old one, before and after one of its buckets took its entries over.
+-- The current array is exchanged for a new one: the fields before and after one of its buckets is relocated.
 use Rattle.std.proofs.Common.{◌≡◌, ◌≢◌, ℕ, ◌+◌, ◌-◌, ◌^◌, ◌<◌, ◌≤◌, inl, inr, Bool, true, false, List, [], length, map, set, replicate, sym, ap, ◌∙◌, subst, arith}
 use Rattle.std.specs.Cmp.{IsEquivalence}
 use Rattle.std.specs.List.{flat_map, IsDistinct}
@@ -23,34 +23,34 @@ use Rattle.scc_table.proofs.Same.{entries-same, regrouped-same}
 use Rattle.scc_table.proofs.InstallingLemmas.{bare-lists, flags-up, permuted-all, started-fields, started-lists}
 use Rattle.scc_table.proofs.Viewed.{count-seen, not_waiting-flags, settings-seen}
 
--- the present array, of the contents c and with no bucket that waits, was exchanged for one of n empty buckets, of the contents d
+-- the current array, with the contents c and no waiting bucket, is exchanged for n empty buckets, with the contents d
 pub record IsExchanged {E K S : Type 0} (eq : K → K → Bool) (key : E → K) (hash : K → ℕ) (c d : Contents E S) (rest : Draining E) (skipped : ℕ) (a : Contents E S) (n : ℕ) (olds : List (Shelf E)) (left over : ℕ) : Type 0 where
-  -- equality of keys
+  -- equality of keys is an equivalence
   pub laws : IsEquivalence eq
-  -- the fields before
+  -- the invariant holds before the exchange
   pub inv : IsTable eq key hash c rest skipped
-  -- what was seen of them
+  -- a is the contents of both arrays before the exchange
   pub view : together (λ e. hash (key e)) c rest.waiting rest.array ≡ a
-  -- no bucket waited
+  -- no bucket waits before the exchange
   pub not_waiting : pending_of a ≡ 0
-  -- n is the size of an array
+  -- an array may have n buckets
   pub will : IsBucketCount n
-  -- there was an array
+  -- there is an array before the exchange
   pub some : 0 < bucket_count a
-  -- of another size
+  -- the number of buckets changes
   pub other : n ≢ bucket_count a
-  -- the buckets are empty
+  -- the buckets of the new array are empty
   pub lists : lists_of d ≡ map shelf_entries (replicate n empty_shelf)
   -- the settings stay
   pub settings : settings_of d ≡ settings_of c
-  -- no overflow list is in use
+  -- the overflow lists of the new array are empty
   pub nothing : overflow_of d ≡ 0
-  -- the lists before are those of the array that drains
+  -- the lists of c are those of the old array olds
   pub were : lists_of c ≡ map shelf_entries olds
-  -- and that one holds `left` entries, `over` of them in overflow lists
+  -- the old array holds `left` entries, `over` of them in overflow lists
   pub table : IsBuckets (λ e. hash (key e)) (settings_of c).skipped olds left over
 
--- the same by the hash of the settings afterwards
+-- if the facts hold by the hash of the settings before, `IsExchanged` holds by the hash of the settings afterwards
 pub exchanged : {E K S : Type 0} {eq : K → K → Bool} (laws : IsEquivalence eq) {key : E → K} (hash_for : Settings S → K → ℕ) {c d : Contents E S} {rest : Draining E} {skipped : ℕ} {a : Contents E S} {n : ℕ} {fresh olds : List (Shelf E)} {left over : ℕ} → IsTable eq key (hash_for (settings_of c)) c rest skipped
     → together (λ e. hash_for (settings_of c) (key e)) c rest.waiting rest.array ≡ a → pending_of a ≡ 0 → fresh ≡ replicate n empty_shelf → IsBucketCount n → 0 < bucket_count a → n ≢ bucket_count a → lists_of d ≡ map shelf_entries fresh → settings_of d ≡ settings_of c → overflow_of d ≡ 0 → lists_of c ≡ map shelf_entries olds
     → IsBuckets (λ e. hash_for (settings_of c) (key e)) (settings_of c).skipped olds left over → IsExchanged eq key (hash_for (settings_of d)) c d rest skipped a n olds left over
@@ -100,18 +100,18 @@ module _ {E K S : Type 0} {eq : K → K → Bool} {key : E → K} {hash : K → 
   pub begun-unique : IsDistinct eq (map key (flat_map shelf_entries olds))
   begun-unique = subst (λ es. IsDistinct eq (map key es)) all x.inv.unique
 
-  -- of all fields then
+  -- the invariant `IsTable` holds after the exchange, and all n buckets wait
   pub begun : IsTable eq key hash d (record { array = olds; waiting = replicate n true; pending = n; next = 0; left = left; left_overflow = over }) skipped
   begun = started-fields eq x.laws key hash d n olds begun-count x.lists skipped left over table-now was x.will differ (x.inv.skips ∙ ap (λ s. s.skipped) (sym x.settings)) x.inv.few_bits x.nothing begun-unique
 
-  -- each list has the entries of its bucket
+  -- each list has the entries of a that belong to its bucket
   pub begun-lists : IsRegrouped inner n a (together inner d (replicate n true) olds)
   begun-lists = started-lists inner d n olds begun-count x.lists left over table-now was x.will differ a all-seen (x.settings ∙ sym (settings-seen inner c rest.waiting rest.array a x.view))
 
   pub begun-same : IsPermutation (entries a) (entries (together inner d (replicate n true) olds))
   begun-same = subst (λ es. IsPermutation es (entries (together inner d (replicate n true) olds))) (sym all-seen) (permuted-all inner d n olds begun-count x.lists (omega (arith, x.will.least)))
 
-  -- the new array has no entry
+  -- the new array has no entries
   pub begun-bare : (bs : List (Shelf E)) → lists_of d ≡ map shelf_entries bs → (i : ℕ) → i < length bs → shelf_entries (shelf_of bs i) ≡ []
   begun-bare bs same i l = sym (list-were d bs same i (shelf_of bs i) l (shelf-at bs i l)) ∙ bare-lists inner d n olds begun-count x.lists i
 
@@ -119,7 +119,7 @@ module _ {E K S : Type 0} {eq : K → K → Bool} {key : E → K} {hash : K → 
     pub begun-up : waits_at (replicate n true) k ≡ true
     begun-up = flags-up inner d n olds begun-count x.lists k l
 
-    -- bucket k took its entries over
+    -- bucket k is relocated
     module _ {moved : ℕ} {e : Contents E S} {vs : List Bool} {news : List (Shelf E)} (takes : TakesOver inner k moved d olds e news) (down : vs ≡ set (replicate n true) k false) where
       settles : Settles (replicate n true) k vs
       settles = others down (omega (arith, but-one n k x.will.least l, x.will.least))

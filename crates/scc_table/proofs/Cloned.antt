@@ -43,7 +43,7 @@ zip-both R [] (c ∷ cs) ys ds h k = absurd h
 zip-both R (x ∷ xs) [] ys ds h k = absurd h
 zip-both R (x ∷ xs) (c ∷ cs) ys ds h k = (h.0, zip-both R xs cs ys ds h.1 k)
 
--- clones of what the table holds and of what the old array holds are clones of all
+-- clones of the entries of the current array and of those of the old array are together clones of all entries
 pub clones-together : {E S : Type 0} (C : E → E → Type 0) (B : S → S → Type 0) (all c d e f : Contents E S) (olds : List (Shelf E)) → IsPermutation (flat_map shelf_entries olds ++ entries c) (entries all) → bucket_count all ≡ bucket_count c → settings_of all ≡ settings_of c
     → HasClones C B c d → AddsClones C (flat_map shelf_entries olds) d e → entries f ≡ entries e → bucket_count f ≡ bucket_count e → settings_of f ≡ settings_of e → HasClones C B all f
 clones-together C B all c d e f olds gathered count settings h a same count-f settings-f =
@@ -67,7 +67,7 @@ clones-together C B all c d e f olds gathered count settings h a same count-f se
       reserved = ap (λ s. s.reserved) now ∙ h.reserved;
     }
 
--- no old bucket holds more than a word counts
+-- the number of entries of each old bucket fits into a word
 pub old-short : {E : Type 0} (hash : E → ℕ) (t : ℕ) (olds : List (Shelf E)) (aside : ℕ) → AreOwn hash t olds → overflow_in olds ≤ aside → aside < 2 ^ 62 → (j : ℕ) → length (shelf_entries (shelf_of olds j)) < 2 ^ 63
 old-short hash t olds aside own over few j = elim (dec_lt j (length olds)) [
   | yes l ↦

@@ -1,4 +1,4 @@
--- What a walk over all pairs found out, and when two lists of pairs are equal.
+-- What a walk that tests all pairs returns, and when two lists of pairs are equal.
 use Rattle.std.proofs.Common.{◌≡◌, suc, ◌≤◌, Bool, true, false, cond, ◌&&◌, List, [], ◌∷◌, length, Option, None, Some, refl, sym, ap, subst, ◌∙◌, arith}
 use Rattle.std.specs.Cmp.{IsEquivalence, first_so, second_so}
 use Rattle.std.specs.HashMap.{entries_eq}
@@ -11,7 +11,7 @@ use Rattle.scc_common.specs.Walks.{Walks, ended, stopped, went_on}
 use Rattle.scc_buckets.proofs.Lookups.{by_option, place-of_find, find-without, distinct-remove_entry}
 use Rattle.scc_buckets.proofs.PairSplits.{by_answer, cond-true, cond-false, found-place, none-find, apart-keys}
 
--- where each answer is that of a test, the walk's is that of the test at every pair
+-- if the closure returns what the test t returns, the walk returns whether all pairs pass t
 pub walk-list_all : {F K V : Type 0} {T : F → K × V → Bool → F → Type 0} (I : F → Type 0) (t : K × V → Bool)
     → ((f : F) (p : K × V) (r : Bool) (f' : F) → I f → T f p r f' → (r ≡ t p) × I f')
     → {f last : F} {es : List (K × V)} {b : Bool} → I f → Walks T f es b last → b ≡ list_all t es
@@ -63,7 +63,7 @@ module _ {K V : Type 0} {eq : K → K → Bool} (laws : IsEquivalence eq) where
   lookup-alike [] q k y = refl
   lookup-alike (x ∷ es) q k y = λ i. cond (laws.congr q k x.0 y i) (Some x) (lookup-alike es q k y i)
 
-  -- each key of the second list has a pair in the first
+  -- each key of es has a pair in fs
   abbrev Covers : List (K × V) → List (K × V) → Type 0
   Covers fs es = AllByRecursion (λ k. lookup_entry (eq k) fs ≡ None → ⊥) (keys_of es)
 
@@ -74,7 +74,7 @@ module _ {K V : Type 0} {eq : K → K → Bool} (laws : IsEquivalence eq) where
     covers-others fs x es d apart.1 covers.1,
   )
 
-  -- distinct keys that are all there are no more than the pairs there
+  -- if each key of es has a pair in fs, and keys are distinct, es isn't longer than fs
   covered-length : (fs es : List (K × V)) → IsDistinct eq (keys_of fs) → IsDistinct eq (keys_of es) → Covers fs es → length es ≤ length fs
   covered-length fs [] df de covers = omega arith
   covered-length fs (x ∷ es) df de covers = by_option (lookup_entry (eq x.0) fs)
@@ -87,11 +87,11 @@ module _ {K V : Type 0} {eq : K → K → Bool} (laws : IsEquivalence eq) where
       omega (arith, less, length-without (eq x.0) fs p s))
 
   module _ (E : K × V → K × V → Bool) (es fs : List (K × V)) where
-    -- the pair's key has an equal pair in the second list
+    -- the list fs has an equal pair under the key of p
     abbrev IsThere : K × V → Bool
     IsThere p = option_eq E (Some p) (lookup_entry (eq p.0) fs)
 
-    -- the look-ups of a key agree
+    -- the look-ups of the key k in es and in fs find equal pairs, or both find none
     abbrev agree : K → Bool
     agree k = option_eq E (lookup_entry (eq k) es) (lookup_entry (eq k) fs)
 
@@ -111,7 +111,7 @@ module _ {K V : Type 0} {eq : K → K → Bool} (laws : IsEquivalence eq) where
     )
 
     module _ (de : IsDistinct eq (keys_of es)) (df : IsDistinct eq (keys_of fs)) where
-      -- where all pairs of the first list are in the second, which has no more, each key of the second agrees
+      -- if fs has all pairs of es and isn't longer than es, the look-ups of each key of fs agree
       agree-back : list_all IsThere es ≡ true → length fs ≤ length es → (part : List (K × V)) → AllByRecursion (IsOwn fs) part → list_all agree (keys_of part) ≡ true
       agree-back h few [] own = refl
       agree-back h few (p ∷ part) own =
@@ -134,7 +134,7 @@ module _ {K V : Type 0} {eq : K → K → Bool} (laws : IsEquivalence eq) where
       unfolding entries_eq
       unequal-there h = ap (λ b. b && list_all agree (keys_of fs)) (sym (pairs-keys es (own-pairs es de)) ∙ h)
 
-      -- equal lists have one length
+      -- lists of different lengths are not equal
       pub unequal-length : (length es ≡ length fs → ⊥) → entries_eq eq E es fs ≡ false
       unfolding entries_eq
       unequal-length differ = by_answer (entries_eq eq E es fs)

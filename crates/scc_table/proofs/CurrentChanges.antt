@@ -1,4 +1,4 @@
--- What both arrays show, once one list of the new array changed whose bucket doesn't wait.
+-- The contents of both arrays after the list of a bucket that doesn't wait changes in the current array.
 use Rattle.std.proofs.Common.{◌≡◌, ◌==◌, ℕ, ◌+◌, ◌^◌, ◌<◌, ◌≢◌, inl, inr, Bool, true, false, List, [], length, map, set, get_or, refl, sym, ap, ◌∙◌, subst, arith, length-set, get_or-set_other}
 use Rattle.std.specs.List.{filter, flat_map, IsDistinct}
 use native.Mathlib.Decide.{dec_lt}
@@ -20,7 +20,7 @@ pub spilled-together : {E S : Type 0} (hash : E → ℕ) (c : Contents E S) (ws 
 unfolding overflow_of
 spilled-together hash c ws olds = refl
 
--- the list of a bucket that doesn't wait is that of the new array
+-- the list of a bucket that doesn't wait is its list in the current array
 pub own-list : {E S : Type 0} (hash : E → ℕ) (c : Contents E S) (ws : List Bool) (olds : List (Shelf E)) (i : ℕ) → waits_at ws i ≡ false → list_of (together hash c ws olds) i ≡ list_of c i
 own-list hash c ws olds i down =
     list-is (together hash c ws olds) i ∙ ap (λ ls. get_or ls i []) (lists-together hash c ws olds) ∙ joined-here (target_by hash c) (flat_map shelf_entries olds) 0 i ws (lists_of c) down ∙ sym (list-is c i)
@@ -35,7 +35,7 @@ module _ {E S : Type 0} (c d : Contents E S) (i : ℕ) (x : List E) (lists : lis
         ap (λ s. let g : E → ℕ = λ e. bucket_number s.skipped (bucket_count d) (hash e) in g) settings ∙ ap (λ m. let g : E → ℕ = λ e. bucket_number (settings_of c).skipped m (hash e) in g) count-same
 
     module _ (ws : List Bool) (olds : List (Shelf E)) (down : waits_at ws i ≡ false) where
-      -- it is seen there, and nothing else
+      -- in the contents of both arrays, the list of bucket i becomes x, and no other list changes
       pub own-lists : lists_of (together hash d ws olds) ≡ set (lists_of (together hash c ws olds)) i x
       own-lists =
           let es = flat_map shelf_entries olds in
@@ -72,7 +72,7 @@ module _ {E S : Type 0} (c d : Contents E S) (i : ℕ) (x : List E) (lists : lis
             ];
       }
 
--- of all fields
+-- the invariant `IsTable` holds after the list of bucket i becomes x
 pub own-fields : {E K S : Type 0} (eq : K → K → Bool) (key : E → K) (hash : K → ℕ) (c d : Contents E S) (i : ℕ) (x : List E) → lists_of d ≡ set (lists_of c) i x → settings_of d ≡ settings_of c → (drain : Draining E) → waits_at drain.waiting i ≡ false
     → (skipped : ℕ) → IsTable eq key hash c drain skipped → overflow_of d + drain.left_overflow < 2 ^ 62 → IsDistinct eq (map key (entries (together (λ e. hash (key e)) d drain.waiting drain.array)))
     → IsTable eq key hash d drain skipped
@@ -116,7 +116,7 @@ module _ {E S X : Type 0} (put : E → X → E) (c : Contents E S) (p : Place) (
   owed-write = refl
 
 module _ {E S X : Type 0} (put : E → X → E) (c : Contents E S) (p : Place) (w : X) where
-  -- a write in a bucket that doesn't wait is one in the contents
+  -- if the bucket of p doesn't wait, a write at p in the current array is a write at p in both arrays
   pub own-write : (hash : E → ℕ) (ws : List Bool) (olds : List (Shelf E)) → waits_at ws p.bucket ≡ false → together hash (with_write_at_spot put c p w) ws olds ≡ with_write_at_spot put (together hash c ws olds) p w
   own-write hash ws olds down =
       let d = with_write_at_spot put c p w in

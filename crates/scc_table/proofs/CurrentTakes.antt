@@ -1,4 +1,4 @@
--- Two arrays, none of whose buckets waits, where an entry was taken out of the present one.
+-- An entry is taken out of the current array of two arrays, and no bucket waits.
 use Rattle.std.proofs.Common.{◌≡◌, ℕ, Bool, [], Option, Some, None, sym, ap, subst, ◌∙◌}
 use Rattle.std.specs.Cmp.{IsEquivalence}
 use Rattle.std.specs.List.{position}
@@ -22,7 +22,7 @@ module _ {E K S : Type 0} (key : E → K) (p : E → Bool) {eq : K → K → Boo
   abbrev both : Contents E S → Contents E S
   both z = together (λ e. hash_for (settings_of z) (key e)) z drain.waiting drain.array
 
-  -- what was done to the present array was done to both
+  -- a removal from the current array is a removal from both arrays
   pub not_waiting-taken : (r : Option E) → TakesFirstSpot p c d r → SwapTakesFirst eq key p (both c) (both d) r
   not_waiting-taken None (missed, stays) = (ap (position p) (entries-not_waiting (λ e. hk (key e)) c drain.array drain.waiting none) ∙ missed, ap both stays)
   not_waiting-taken (Some x) (q, found, got, out) =
@@ -49,7 +49,7 @@ module _ {E K S : Type 0} (key : E → K) (p : E → Bool) {eq : K → K → Boo
         },
       )
 
-  -- they are two arrays still
+  -- the invariant `IsTable` holds after the removal
   pub not_waiting-left : (r : Option E) → TakesFirstSpot p c d r → IsTable eq key (hash_for (settings_of d)) d drain skipped
   not_waiting-left None (missed, stays) = subst (λ (z : Contents E S). IsTable eq key (hash_for (settings_of z)) z drain skipped) (sym stays) inv
   not_waiting-left (Some x) (q, found, got, out) =

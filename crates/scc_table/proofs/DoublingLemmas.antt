@@ -1,4 +1,4 @@
--- The entries of one bucket among twice as many buckets.
+-- The entries of one bucket after the number of buckets doubles.
 use Rattle.std.proofs.Common.{◌≡◌, ◌==◌, ℕ, ◌*◌, ◌/◌, Bool, true, List, [], ◌∷◌, length, refl, sym, ap, ◌∙◌, arith, eqb-true, eq-eqb}
 use Rattle.std.specs.List.{filter}
 use Rattle.scc_common.specs.Contents.{Contents, entries, bucket_count, list_of, settings_of, IsRouted}
@@ -8,7 +8,7 @@ use Rattle.scc_buckets.proofs.PairSplits.{by_answer}
 use Rattle.scc_table.proofs.Listed.{listed-is}
 use Rattle.scc_draining.proofs.Numbers.{number-div}
 
--- those that pass both are those that pass the narrower
+-- if each entry that passes p passes q, a filter by q before a filter by p changes nothing
 pub filter-both : {E : Type 0} (p q : E → Bool) → ((e : E) → p e ≡ true → q e ≡ true) → (es : List E) → filter p (filter q es) ≡ filter p es
 filter-both p q h [] = refl
 filter-both p q h (e ∷ es) =
@@ -17,7 +17,7 @@ filter-both p q h (e ∷ es) =
     (λ a. let b = h e a in rw b (rw a (ap (λ z. e ∷ z) rest)))
     (λ a. by_answer (q e) (λ b. rw b (rw a rest)) (λ b. rw b (rw a rest)))
 
--- a bucket among twice as many has its entries from one
+-- after the number of buckets doubles, the bucket of the hash h has only entries of its former bucket i
 pub bound-listed : {E S : Type 0} (hash : E → ℕ) (c : Contents E S) (h i : ℕ) → IsRouted hash c → i ≡ bucket_number (settings_of c).skipped (bucket_count c) h
     → bound_for hash (settings_of c).skipped (2 * bucket_count c) (bucket_number (settings_of c).skipped (2 * bucket_count c) h) (list_of c i) ≡ bound_for hash (settings_of c).skipped (2 * bucket_count c) (bucket_number (settings_of c).skipped (2 * bucket_count c) h) (entries c)
 bound-listed {E} hash c h i routed at =

@@ -14,7 +14,7 @@ use Rattle.scc_table.proofs.OldSpots.{own-list}
 use Rattle.scc_table.proofs.Preparing.{long-flags, waiting-list}
 use Rattle.scc_table.proofs.SearchingLemmas.{routed-together}
 
--- each entry that passes p has the hash h, and bucket i of the new array is that of the hash
+-- each entry that passes p has the hash h, and bucket i of the current array is the bucket of h
 module _ {E S : Type 0} (hash : E → ℕ) (c : Contents E S) (ws : List Bool) (olds : List (Shelf E)) (arrays : TwoArrays hash c ws olds) (routed : IsRouted hash c) (p : E → Bool) (h i : ℕ) (a : HashOf p hash h) (at : i ≡ bucket_number (settings_of c).skipped (bucket_count c) h) (l : i < bucket_count c) where
   find-listed : find p (entries (together hash c ws olds)) ≡ find p (list_of (together hash c ws olds) i)
   find-listed =
@@ -23,11 +23,11 @@ module _ {E S : Type 0} (hash : E → ℕ) (c : Contents E S) (ws : List Bool) (
       at ∙ ap (λ s. bucket_number s.skipped (bucket_count c) h) (sym (settings-together hash c ws olds)) ∙ ap (λ m. bucket_number (settings_of d).skipped m h) (sym (count-together hash c ws olds arrays.flags)) in
       table.find-routed p hash h a d (routed-together hash c ws olds arrays routed) i there (omega (arith, l, count-together hash c ws olds arrays.flags))
 
-  -- where that bucket doesn't wait, it is the first of the new array
+  -- if bucket i doesn't wait, the first entry that passes p is the first one of the current array that passes p
   pub find-current : waits_at ws i ≡ false → find p (entries (together hash c ws olds)) ≡ find p (entries c)
   find-current down = find-listed ∙ ap (find p) (own-list hash c ws olds arrays i l down) ∙ sym (table.find-routed p hash h a c routed i at l)
 
-  -- where it waits, it is the first of the old bucket of the hash
+  -- if bucket i waits, the first entry that passes p is the first one of the old bucket of h that passes p
   pub find-draining : waits_at ws i ≡ true → (j : ℕ) → j < length olds → j ≡ bucket_number (settings_of c).skipped (length olds) h → find p (entries (together hash c ws olds)) ≡ find p (shelf_entries (shelf_of olds j))
   find-draining up j lj source =
       let t = (settings_of c).skipped in

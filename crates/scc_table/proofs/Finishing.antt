@@ -1,4 +1,4 @@
--- Buckets that take their entries over one after the other.
+-- Buckets that are relocated one after the other.
 use Rattle.std.proofs.Common.{◌≡◌, ◌==◌, ℕ, zero, suc, ◌+◌, Bool, true, false, List, [], ◌∷◌, set, refl, sym, ap, ◌∙◌, arith, rules}
 use Rattle.std.specs.List.{count_by}
 use Rattle.scc_buckets.specs.Bounded.{IsBounded}
@@ -35,7 +35,7 @@ module _ {E S : Type 0} where
   unfolding pending_of waiting_of
   pending-is c = refl
 
-  -- some buckets took their entries over; no list changed, and no flag stays where none is up
+  -- n buckets are relocated, no list changes, and if no bucket waits afterwards, there are no flags
   pub record Finishes (c d : Contents E S) (n : ℕ) : Type 0 where
     pub lists : lists_of d ≡ lists_of c
     pub settings : settings_of d ≡ settings_of c

@@ -1,4 +1,4 @@
--- The first array.
+-- The first array is made.
 use Rattle.std.proofs.Common.{◌≡◌, ◌==◌, ℕ, ◌*◌, ◌⊎◌, inl, inr, Bool, true, false, List, [], length, map, sym, ap, ◌∙◌, subst, arith}
 use Rattle.std.specs.List.{filter, flat_map, IsDistinct}
 use Rattle.std.specs.List.Sorted.{IsPermutation}
@@ -35,7 +35,7 @@ module _ {E S : Type 0} (a d : Contents E S) where
 pub same-rests : {E S : Type 0} (a d : Contents E S) → d ≡ a → IsUnchanged a d × Grows a d
 same-rests a d same = (record { exact = ap entries same; buckets = ap bucket_count same; settings = ap settings_of same }, record { first = λ z ne. absurd (ne (ap bucket_count same)); half = λ z ne. absurd (ne (ap bucket_count same)); below = λ z ne. absurd (ne (ap bucket_count same)); doubled = λ z ne. absurd (ne (ap bucket_count same)); not_waiting = λ z ne. absurd (ne (ap bucket_count same)) })
 
--- of all fields then
+-- if no bucket waits and d has no entries, the invariant `IsTable` holds of d
 pub fields-first : {E K S : Type 0} (eq : K → K → Bool) (key : E → K) (hash : K → ℕ) (c d : Contents E S) (drain : Draining E) (skipped : ℕ) → IsTable eq key hash c drain skipped → drain.waiting ≡ [] → settings_of d ≡ settings_of c → entries d ≡ [] → overflow_of d ≡ 0
     → IsTable eq key hash d drain skipped
 fields-first {E} eq key hash c d drain skipped inv none settings still bounded =

@@ -1,4 +1,4 @@
--- An entry that a search found, in its list.
+-- The entry that a search finds, in the list of its bucket.
 use Rattle.std.proofs.Common.{◌≡◌, ℕ, zero, suc, ◌+◌, ◌<◌, ◌≤◌, Bool, Option, Some, None, List, [], ◌∷◌, length, take, get_or, refl, sym, ap, ◌∙◌, arith, length-append}
 use Rattle.std.specs.List.{flat_map, position}
 use native.Mathlib.Decide.{dec_lt}
@@ -14,7 +14,7 @@ use Rattle.scc_table.proofs.Relocated.{count-is, list-is}
 use Rattle.scc_table.proofs.SearchingLemmas.{found-listed, missed-listed}
 use Rattle.scc_table.proofs.TakenFrom.{index-is}
 
--- a list ends where later ones begin, or before
+-- list i ends before each later list j begins
 before-past : {E : Type 0} (ls : List (List E)) (i j : ℕ) → i < j → i < length ls → before ls i + length (get_or ls i []) ≤ before ls j
 before-past [] i j l h = absurd (omega arith)
 before-past (x ∷ ls) i zero l h = absurd (omega arith)
@@ -33,7 +33,7 @@ module _ {E S : Type 0} (c : Contents E S) where
       let i = index-is c p in
       omega arith
 
-  -- as many entries stand before one place alone
+  -- if equally many entries stand before two spots, the spots are equal
   pub place-one : (p q : Place) → IsSpot c p → IsSpot c q → index_of_spot c p ≡ index_of_spot c q → p ≡ q
   place-one p q h k e =
       let i = index-is c p in
@@ -51,7 +51,7 @@ module _ {E S : Type 0} (c : Contents E S) where
       ]
 
   module _ (hash : E → ℕ) (routed : IsRouted hash c) (p : E → Bool) (h i : ℕ) (a : HashOf p hash h) (at : i ≡ bucket_number (settings_of c).skipped (bucket_count c) h) where
-    -- the first of all entries that passes is the first of that list
+    -- the first of all entries that passes p is the first entry of list i that passes p
     pub listed-found : (q : Place) → IsFoundAtSpot p c q → i < bucket_count c → IsListedAtSpot p c i q
     listed-found q f l = by_found (position p (list_of c i)) refl where
       by_found : (o : Option ℕ) → position p (list_of c i) ≡ o → IsListedAtSpot p c i q

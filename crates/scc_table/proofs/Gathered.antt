@@ -18,7 +18,7 @@ use Rattle.scc_table.proofs.OldSpots.{split-list}
 use Rattle.scc_table.proofs.RelocatingLemmas.{not_equal}
 
 module _ {E : Type 0} (f : E → ℕ) where
-  -- an entry of a bucket before these changes none of their lists
+  -- an entry of a bucket before number a changes no list from number a on
   joined-below : (a : ℕ) (ws : List Bool) (ls : List (List E)) (e : E) (es : List E) → f e < a → joined f a ws ls (e ∷ es) ≡ joined f a ws ls es
   joined-below a [] ls e es l = refl
   joined-below a (w ∷ ws) [] e es l = refl
@@ -27,7 +27,7 @@ module _ {E : Type 0} (f : E → ℕ) where
       let here : filter (λ y. f y == a) (e ∷ es) ≡ filter (λ y. f y == a) es = rw ne refl in
       ap (λ z. cond w z x ∷ joined f (suc a) ws ls (e ∷ es)) here ∙ ap (λ z. cond w (filter (λ y. f y == a) es) x ∷ z) (joined-below (suc a) ws ls e es (omega arith))
 
-  -- one entry more
+  -- one more entry of a waiting bucket is one more entry in the joined lists
   joined-cons : (a k : ℕ) (ws : List Bool) (ls : List (List E)) (e : E) (es : List E) → length ws ≡ length ls → f e ≡ a + k → waits_at ws k ≡ true
       → IsPermutation (e ∷ flat_map (λ l. l) (joined f a ws ls es)) (flat_map (λ l. l) (joined f a ws ls (e ∷ es)))
   joined-cons a k [] ls e es l at up = absurd (let z : false ≡ true = up in cc)
@@ -51,7 +51,7 @@ module _ {E : Type 0} (f : E → ℕ) where
       subst (IsPermutation (e ∷ (hs ++ rs))) (sym same)
       (IsPermutation-trans (e ∷ (hs ++ rs)) (hs ++ e ∷ rs) (hs ++ ts) (IsPermutation-sym (hs ++ e ∷ rs) (e ∷ (hs ++ rs)) (IsPermutation-middle hs e rs)) (IsPermutation-append hs hs (e ∷ rs) ts (IsPermutation-refl hs) rest))
 
-  -- no entry waits
+  -- if there are no old entries, and the lists of the waiting buckets are empty, the joined lists are ls
   joined-nil : (a : ℕ) (ws : List Bool) (ls : List (List E)) → length ws ≡ length ls → ((k : ℕ) → waits_at ws k ≡ true → get_or ls k [] ≡ []) → joined f a ws ls [] ≡ ls
   joined-nil a [] ls l h = refl
   joined-nil a (w ∷ ws) [] l h = absurd (omega arith)
@@ -72,7 +72,7 @@ no-first [] h = refl
 no-first (x ∷ xs) h = h x refl
 
 module _ {E S : Type 0} (hash : E → ℕ) (c : Contents E S) (ws : List Bool) (olds : List (Shelf E)) (arrays : TwoArrays hash c ws olds) where
-  -- each entry of the old array waits
+  -- the bucket of each entry of the old array waits
   pub all-wait : (k : ℕ) (e : E) → slice_get (flat_map shelf_entries olds) k ≡ Some e → waits_at ws (target_by hash c e) ≡ true
   all-wait k e got = by_answer (waits_at ws (target_by hash c e)) (λ q. q)
       (λ q.
@@ -88,7 +88,7 @@ module _ {E S : Type 0} (hash : E → ℕ) (c : Contents E S) (ws : List Bool) (
       let l = length-append bs (e ∷ cs) in
       absurd (omega arith))
 
-  -- the entries of the old array and those of the new one are all
+  -- the entries of the old array and those of the current array are together all entries
   pub gathered : IsPermutation (flat_map shelf_entries olds ++ entries c) (entries (together hash c ws olds))
   unfolding entries lists_of bucket_count list_of
   gathered = elim arrays.flags [
@@ -100,13 +100,13 @@ module _ {E S : Type 0} (hash : E → ℕ) (c : Contents E S) (ws : List Bool) (
     | inr z ↦ gather (target_by hash c) ws c.lists (flat_map shelf_entries olds) z arrays.bare all-wait
   ]
 
-  -- nothing lies in the old array where no bucket waits
+  -- if no bucket waits, the old array holds no entries
   pub none-owed : ws ≡ [] → sum_by (λ b. length (shelf_entries b)) olds ≡ 0
   none-owed z =
       let none : flat_map shelf_entries olds ≡ [] = no-first (flat_map shelf_entries olds) (λ e got. let up = all-wait 0 e got in let q : false ≡ true = ap (λ w. waits_at w (target_by hash c e)) (sym z) ∙ up in absurd (let y : false ≡ true = q in cc)) in
       sym (length-flat_map shelf_entries olds) ∙ ap length none
 
-  -- how many they are
+  -- the number of all entries is the sum of the numbers of entries of both arrays
   pub length-together : length (entries (together hash c ws olds)) ≡ length (entries c) + sum_by (λ b. length (shelf_entries b)) olds
   length-together =
       let es = flat_map shelf_entries olds in
@@ -115,7 +115,7 @@ module _ {E S : Type 0} (hash : E → ℕ) (c : Contents E S) (ws : List Bool) (
       let l = length-flat_map shelf_entries olds in
       omega arith
 
--- no more than 32 entries for each bucket, and those in overflow lists
+-- the number of entries is at most 32 for each bucket, plus the number of entries in overflow lists
 pub owed-most : {E : Type 0} (bs : List (Shelf E)) → ((j : ℕ) → j < length bs → length (shelf_of bs j).slots ≤ 32) → sum_by (λ b. length (shelf_entries b)) bs ≤ 32 * length bs + overflow_in bs
 owed-most [] h = omega arith
 owed-most {E} (b ∷ bs) h =
@@ -130,7 +130,7 @@ owed-most {E} (b ∷ bs) h =
     let goal-is : sum_by f (b ∷ bs) ≤ 32 * length (b ∷ bs) + sum_by o (b ∷ bs) = omega arith in
     goal-is
 
--- the arrays differ by a factor of two at least
+-- the numbers of buckets of both arrays differ by a factor of two at least
 pub twice : (m n : ℕ) → AreMultiples m n → (2 * m ≤ n) ⊎ (2 * n ≤ m)
 twice m n (grown zero pos e) = absurd (omega arith)
 twice m n (grown (suc zero) pos e) = absurd (omega arith)

@@ -1,4 +1,4 @@
--- What waits after the array grew, and where an entry stands then.
+-- Which buckets wait after a growth, and where an entry stands then.
 use Rattle.std.proofs.Common.{◌≡◌, ◌==◌, ◌≢◌, ℕ, ◌+◌, ◌-◌, ◌*◌, ◌<◌, ◌≤◌, Bool, true, false, not, cond, List, ◌∷◌, ◌++◌, length, set, drop, take, replicate, Some, Result, Ok, Err, refl, sym, ap, ◌∙◌, subst, arith, get_or-set_same, length-set}
 use Rattle.std.specs.Prelude.{OnOk}
 use Rattle.std.specs.List.{filter, count_by, range_with_len, slice_get}
@@ -31,7 +31,7 @@ use Rattle.scc_table.proofs.InstallingLemmas.{count-up}
 use Rattle.scc_table.proofs.Targets.{targets-all, targets-but, targets-length}
 use Rattle.std.proofs.lemmas.List.{get_or-replicate}
 
--- an entry that belongs to a bucket stands there after those before it that do
+-- among the entries of bucket i, an entry stands after those entries of bucket i that come before it in xs
 pub bound-get : {E : Type 0} (hash : E → ℕ) (t n i s : ℕ) (xs : List E) (e : E) → slice_get xs s ≡ Some e → i ≡ bucket_number t n (hash e) → slice_get (bound_for hash t n i xs) (length (bound_for hash t n i (take s xs))) ≡ Some e
 bound-get hash t n i s xs e got at =
     let r = split-list xs s e got in
@@ -41,14 +41,14 @@ bound-get hash t n i s xs e got at =
     let z : length bs + 0 ≡ length bs = omega arith in
     ap (λ l. slice_get l (length bs)) whole ∙ ap (slice_get (bs ++ e ∷ rest)) (sym z) ∙ get-right bs (e ∷ rest) 0
 
--- as many belong to another bucket where an entry came in
+-- an inserted entry of another bucket doesn't change the number of entries that belong to bucket i
 pub bound-more : {E : Type 0} (hash : E → ℕ) (t n i : ℕ) (e : E) (xs ys : List E) → IsPermutation (e ∷ xs) ys → i ≢ bucket_number t n (hash e) → length (bound_for hash t n i ys) ≡ length (bound_for hash t n i xs)
 bound-more {E} hash t n i e xs ys perm ne =
     let p : E → Bool = λ x. bucket_number t n (hash x) == i in
     let same : count_by p ys ≡ count_by p (e ∷ xs) = sum_by-IsPermutation (λ x. cond {A = ℕ} (p x) 1 0) (e ∷ xs) ys perm in
     length-filter p ys ∙ same ∙ sym (length-filter p (e ∷ xs)) ∙ ap length (bound_other hash t n i e xs ne)
 
--- the flags of an array whose bucket k alone doesn't wait
+-- the flags of n buckets, if all wait but bucket k
 module _ (n k : ℕ) (some : 2 ≤ n) (l : k < n) where
   pub but-one : count_by (λ w. w) (set (replicate n true) k false) + 1 ≡ n
   but-one =
@@ -77,7 +77,7 @@ module _ (n k : ℕ) (some : 2 ≤ n) (l : k < n) where
         let m = up-within (set (replicate n true) k false) i here in
         (omega (arith, length-set (replicate n true) k false, length-replicate n true), λ z. absurd (let q : true ≡ false = sym up ∙ ap (waits_at (waiting_of c)) z ∙ but-down in cc))
 
-    -- once the first of the others took its entries over
+    -- after the first other bucket is relocated, the waiting buckets are those of `left_after`
     pub but-left : (ts : List ℕ) → ts ≡ drop 1 (pending_targets c) → ts ≡ left_after k (range_with_len 0 n)
     but-left ts h =
         let rest = filter (λ t. not (t == k)) (range_with_len 0 n) in
@@ -88,7 +88,7 @@ module _ (n k : ℕ) (some : 2 ≤ n) (l : k < n) where
         let one : length rest + 2 - length (range_with_len 0 n) ≡ 1 = omega (arith, but-pending) in
         h ∙ ap (drop 1) same ∙ ap (λ m. drop m rest) (sym one)
 
-    -- or where one of them at most did
+    -- if at most one other bucket is relocated, `AreMovedBeside` holds
     pub but-moved : (d : Contents E S) → AreMovedFrom (pending_targets c) 1 d → AreMovedBeside k (range_with_len 0 n) d
     but-moved d h =
         let rest = filter (λ t. not (t == k)) (range_with_len 0 n) in
@@ -99,13 +99,13 @@ module _ (n k : ℕ) (some : 2 ≤ n) (l : k < n) where
         let one : length rest + 2 - length (range_with_len 0 n) ≡ 1 = omega (arith, but-pending) in
         subst (λ m. AreMovedFrom rest m d) (sym one) (subst (λ ts. AreMovedFrom ts 1 d) same h)
 
-    -- none that waits is long where none but bucket k is
+    -- if no bucket but bucket k would hold more than 32 entries, no waiting bucket holds more than 32 entries
     pub but-short : (hash : E → ℕ) (a : Contents E S) → IsRegrouped hash n a c → AreShortBut hash n k a → AreShort c
     but-short hash a reg short = record {
       short = λ i up. let w = but-up i up in subst (λ z. length z ≤ 32) (sym (reg.each i w.0)) (short.short i w.0 w.1);
     }
 
--- all wait, and none is long
+-- if all buckets wait and none would hold more than 32 entries, no waiting bucket holds more than 32 entries
 pub all-short : {E S : Type 0} (hash : E → ℕ) (n : ℕ) (a c : Contents E S) → IsRegrouped hash n a c → waiting_of c ≡ replicate n true → AreShortAmong hash n a → AreShort c
 all-short hash n a c reg waiting short = record {
   short = λ i up.
@@ -115,7 +115,7 @@ all-short hash n a c reg waiting short = record {
       subst (λ z. length z ≤ 32) (sym (reg.each i l)) (short.short i l);
 }
 
--- where the entry of that hash at a place stands among twice as many buckets
+-- the entry e at slot s of list i has the hash h: where e stands after the number of buckets doubles
 module _ {E S : Type 0} (hash : E → ℕ) (a d : Contents E S) (routed : IsRouted hash a) (i s h : ℕ) (e : E) (got : slice_get (list_of a i) s ≡ Some e) (hashed : h ≡ hash e) where
   pub stands-routed : i ≡ bucket_number (settings_of a).skipped (bucket_count a) h
   stands-routed = sym (routed.routed i s e got) ∙ ap (bucket_number (settings_of a).skipped (bucket_count a)) (sym hashed)
@@ -129,7 +129,7 @@ module _ {E S : Type 0} (hash : E → ℕ) (a d : Contents E S) (routed : IsRout
       let near : list_of d k ≡ bound_for hash t n k (list_of a i) = list ∙ sym (subst (λ m. bound_for hash t n m (list_of a i) ≡ bound_for hash t n m (entries a)) (sym at) (bound-listed hash a h i routed stands-routed)) in
       ap (λ l. slice_get l r) near ∙ bound-get hash t n k s (list_of a i) e got (at ∙ ap (bucket_number t n) hashed) ∙ sym got
 
--- an entry was put in, and then the array grew around it, or didn't
+-- the entry e is inserted into the list of bucket i, and then the array grows, or nothing changes
 module _ {E S : Type 0} (a : Contents E S) (i : ℕ) (e : E) (m : Contents E S) (p : Place) (put : IsPutIn a i e m p) (l : i < bucket_count a) where
   pub around-inserted : (d : Contents E S) (q : Place) → Rests m d → q.bucket < bucket_count d → slice_get (list_of d q.bucket) q.slot ≡ slice_get (list_of m p.bucket) p.slot → waits_at (waiting_of d) q.bucket ≡ false → IsInsertedAt a e d q
   around-inserted d q rests within here down =
@@ -142,7 +142,7 @@ module _ {E S : Type 0} (a : Contents E S) (i : ℕ) (e : E) (m : Contents E S) 
       } in
       subst (spots.IsInsertedAtSpot a e d) (sym (spot-own (waiting_of d) (owed_of d) (bucket_count d) q within down)) there
 
-  -- the other buckets get no more entries by it
+  -- the insertion adds no entry to a bucket other than bucket k, the bucket of e
   pub around-short : (hash : E → ℕ) (n k : ℕ) → k ≡ bucket_number (settings_of a).skipped n (hash e) → AreShortAmong hash n a → AreShortBut hash n k m
   around-short hash n k at short = record {
     short = λ j lj ne.
@@ -153,20 +153,20 @@ module _ {E S : Type 0} (a : Contents E S) (i : ℕ) (e : E) (m : Contents E S) 
         omega arith;
   }
 
--- after an insertion into an array all of whose buckets waited
+-- after an insertion into an array whose buckets all waited, all wait but the bucket of the hash and the first other one
 pub grown-spread : {E S : Type 0} (hash : E → ℕ) (n : ℕ) (a b f : Contents E S) (h i : ℕ) → IsRegrouped hash n a b → waiting_of b ≡ replicate n true → i ≡ bucket_number (settings_of b).skipped (bucket_count b) h → (AreShort b → pending_targets f ≡ left_after i (pending_targets b))
     → AreShortAmong hash n a → pending_targets f ≡ left_after (bucket_number (settings_of a).skipped n h) (range_with_len 0 n)
 grown-spread hash n a b f h i reg all at exact short =
     exact (all-short hash n a b reg all short) ∙ ap (left_after i) (targets-all n b all)
     ∙ ap (λ k. left_after k (range_with_len 0 n)) (at ∙ ap (λ s. bucket_number s.skipped (bucket_count b) h) reg.settings ∙ ap (λ m. bucket_number (settings_of a).skipped m h) reg.count)
 
--- and where memory may have been refused
+-- an insertion into an array whose buckets all wait relocates at most the bucket of the hash and the first other one
 pub grown-drained : {E S : Type 0} (hash : E → ℕ) (n : ℕ) (a b f : Contents E S) (h i : ℕ) → IsRegrouped hash n a b → waiting_of b ≡ replicate n true → i ≡ bucket_number (settings_of b).skipped (bucket_count b) h → AreMovedBeside i (pending_targets b) f → AreMovedBeside (bucket_number (settings_of a).skipped n h) (range_with_len 0 n) f
 grown-drained hash n a b f h i reg all at moved =
     let own = at ∙ ap (λ s. bucket_number s.skipped (bucket_count b) h) reg.settings ∙ ap (λ m. bucket_number (settings_of a).skipped m h) reg.count in
     subst (λ k. AreMovedBeside k (range_with_len 0 n) f) own (subst (λ ts. AreMovedBeside i ts f) (targets-all n b all) moved)
 
--- what follows from two things that hold of an acceptance
+-- if P and Q hold in case of `Ok` and together give R, R holds in case of `Ok`
 pub on-both : {X Y P Q R : Type 0} (r : Result X Y) → (P → Q → R) → OnOk r P → OnOk r Q → OnOk r R
 on-both (Ok x) f p q = f p q
 on-both (Err y) f p q = p

@@ -1,4 +1,4 @@
--- An entry put into one list, and lists of which some are a part.
+-- An entry that is inserted into one list, and sublists.
 use Rattle.std.proofs.Common.{◌≡◌, ℕ, zero, suc, ◌+◌, ◌<◌, ◌≤◌, inl, Bool, true, cond, List, [], ◌∷◌, ◌++◌, length, set, get_or, Some, None, refl, sym, ap, ◌∙◌, subst, arith, append_assoc, length-set, get_or-set_same}
 use Rattle.std.specs.List.{flat_map, count_by, insert, position, slice_get}
 use Rattle.std.specs.List.Sorted.{IsPermutation}
@@ -18,7 +18,7 @@ use Rattle.scc_buckets.proofs.PairSplits.{by_answer}
 use Rattle.scc_buckets.proofs.Spots.{place-get}
 use Rattle.scc_draining.proofs.Sublists.{Sub, none, keep, skip, keep_all, skip_all}
 
--- what none of a list passes, none of a part does
+-- if no element of a list passes p, no element of a sublist passes p
 pub absent-sub : {X : Type 0} (p : X → Bool) {xs ys : List X} → Sub xs ys → position p ys ≡ None → position p xs ≡ None
 absent-sub p none h = h
 absent-sub p (keep {x} {xs} {ys} s) h = by_answer (p x)
@@ -28,7 +28,7 @@ absent-sub p (skip {y} {xs} {ys} s) h = by_answer (p y)
     (λ q. absurd (let z : Some 0 ≡ None = sym (position_hit p y ys q) ∙ h in cc))
     (λ q. absent-sub p s (none_left (position p ys) (sym (position_cons p y ys q) ∙ h)))
 
--- a part has no more that pass
+-- a sublist has no more elements that pass p than the list
 pub count-sub : {X : Type 0} (p : X → Bool) {xs ys : List X} → Sub xs ys → count_by p xs ≤ count_by p ys
 count-sub p none = omega arith
 count-sub {X} p (keep {x} {xs} {ys} s) =
@@ -52,7 +52,7 @@ count-whole {X} p (x ∷ xs) h =
     let r : count_by p xs ≡ length xs = count-whole p xs (λ j d l. h (suc j) d (omega arith)) in
     omega arith
 
--- one list is a part of all
+-- each list is a sublist of all lists joined
 pub one-sub : {X : Type 0} (ls : List (List X)) (i : ℕ) → i < length ls → Sub (get_or ls i []) (flat_map (λ l. l) ls)
 one-sub [] i l = absurd (omega arith)
 one-sub (x ∷ ls) zero l = subst (λ z. Sub z (x ++ flat_map (λ y. y) ls)) (append-nil x) (keep_all x (subst (Sub []) (append-nil (flat_map (λ y. y) ls)) (skip_all (flat_map (λ y. y) ls) none)))
@@ -102,11 +102,11 @@ module _ {E S : Type 0} (c : Contents E S) (i : ℕ) (e : E) (d : Contents E S) 
         omega (arith, put.slot);
   }
 
-  -- the entry stands where it was put in its list
+  -- in the list of its bucket, the inserted entry e stands at the slot of p
   pub put-here : slice_get (list_of d p.bucket) p.slot ≡ Some e
   put-here = ap (λ k. slice_get (list_of d k) p.slot) put.bucket ∙ ap (λ z. slice_get z p.slot) put-list ∙ get-insert (list_of c i) p.slot e put.slot
 
-  -- and among all entries
+  -- among all entries, the inserted entry e stands at the spot p
   pub put-inserted : IsInsertedAtSpot c e d p
   put-inserted = record {
     holds = put-holds;

@@ -1,4 +1,4 @@
--- A new array, every bucket of which waits for the entries of the old one.
+-- A new current array: each of its buckets waits for entries of the old array.
 use Rattle.std.proofs.Common.{◌≡◌, ◌==◌, ◌≢◌, ℕ, suc, ◌+◌, ◌*◌, ◌-◌, ◌%◌, ◌^◌, ◌<◌, ◌≤◌, inr, Bool, true, false, not, cond, List, [], ◌∷◌, ◌++◌, length, map, get_or, replicate, refl, sym, ap, ◌∙◌, subst, arith, rules, eqb-true}
 use Rattle.std.specs.Cmp.{IsEquivalence}
 use Rattle.std.specs.Int.{IsPowerOfTwo}
@@ -37,7 +37,7 @@ greater a b m n less em en =
     let split : b ≡ (b - a) + a = omega arith in
     (omega arith, en ∙ ap (λ j. 2 ^ j) split ∙ pow-add 2 (b - a) a ∙ ap (λ z. 2 ^ (b - a) * z) (sym em))
 
--- of two powers of two that differ one is a multiple of the other
+-- if two powers of two differ, one is a multiple of the other
 pub powers-multiples : (m n : ℕ) → IsPowerOfTwo m → IsPowerOfTwo n → n ≢ m → AreMultiples m n
 powers-multiples m n p q ne = elim (dec_lt p.0 q.0) [
   | yes h ↦ let g = greater p.0 q.0 m n h p.1 q.1 in grown (2 ^ (q.0 - p.0)) g.0 g.1
@@ -47,7 +47,7 @@ powers-multiples m n p q ne = elim (dec_lt p.0 q.0) [
   ]
 ]
 
--- the bucket of a hash is one of those
+-- the number of the bucket of a hash is below n, the number of buckets
 pub number-within : (t n h : ℕ) → 0 < n → bucket_number t n h < n
 number-within t n h some =
     let x : ℕ = (h * 2 ^ t) % 2 ^ 64 in
@@ -60,7 +60,7 @@ equal : (a b : ℕ) → a ≡ b → (a == b) ≡ true
 equal a b h = search rules
 
 module _ {E : Type 0} (f : E → ℕ) where
-  -- leaving out one target takes nothing from another
+  -- leaving out the entries of bucket i leaves out no entry of another bucket k
   filter-others : (k i : ℕ) → k ≢ i → (es : List E) → filter (λ e. f e == k) (filter (λ e. not (f e == i)) es) ≡ filter (λ e. f e == k) es
   filter-others k i ne [] = refl
   filter-others k i ne (e ∷ es) = by_answer (f e == i)
@@ -75,7 +75,7 @@ module _ {E : Type 0} (f : E → ℕ) where
   joined-like a (w ∷ ws) (l ∷ ls) es os h =
       ap (λ z. cond w z l ∷ joined f (suc a) ws ls es) (h a (omega arith)) ∙ ap (λ z. cond w (filter (λ e. f e == a) os) l ∷ z) (joined-like (suc a) ws ls es os (λ k q. h k (omega arith)))
 
-  -- where all buckets wait, together they show all entries
+  -- if all buckets wait, the joined lists hold all entries of es, in some order
   pub joined-all : (a : ℕ) (ws : List Bool) (ls : List (List E)) (es : List E) → length ws ≡ length ls → ((k : ℕ) → k < length ws → waits_at ws k ≡ true) → All (λ e. (a ≤ f e) × (f e < a + length ws)) es
       → IsPermutation es (flat_map (λ l. l) (joined f a ws ls es))
   joined-all a [] [] [] l up h = IsPermutation-refl []
@@ -108,7 +108,7 @@ count-up n =
     let s : count_by (λ w. w) (replicate n true) ≡ n * 1 = sum_by-replicate (λ (w : Bool). cond {A = ℕ} w 1 0) n true in
     omega arith
 
--- the new array's contents d, which has n buckets without entries
+-- d is the contents of the new array, which has n buckets without entries
 module _ {E S : Type 0} (hash : E → ℕ) (d : Contents E S) (n : ℕ) (olds : List (Shelf E)) (counted : bucket_count d ≡ n) (none : lists_of d ≡ map shelf_entries (replicate n empty_shelf)) where
   pub flags-up : (k : ℕ) → k < n → waits_at (replicate n true) k ≡ true
   flags-up k l = get_or-replicate n k true false l
@@ -122,7 +122,7 @@ module _ {E S : Type 0} (hash : E → ℕ) (d : Contents E S) (n : ℕ) (olds : 
     | no l ↦ list-is d i ∙ get_or_past (lists_of d) i [] (omega (arith, counted, count-is d))
   ]
 
-  -- together they show all entries of the old array
+  -- both arrays together hold the entries of the old array, in some order
   pub permuted-all : 0 < n → IsPermutation (flat_map shelf_entries olds) (entries (together hash d (replicate n true) olds))
   unfolding entries lists_of
   permuted-all some =
@@ -148,7 +148,7 @@ module _ {E S : Type 0} (hash : E → ℕ) (d : Contents E S) (n : ℕ) (olds : 
       bare = λ i up. bare-lists i;
     }
 
-    -- each list is made of the entries that belong to its bucket
+    -- each list has the entries of c that belong to its bucket
     pub started-lists : (c : Contents E S) → entries c ≡ flat_map shelf_entries olds → settings_of d ≡ settings_of c → IsRegrouped hash n c (together hash d (replicate n true) olds)
     started-lists c all settings =
         record {
@@ -159,7 +159,7 @@ module _ {E S : Type 0} (hash : E → ℕ) (d : Contents E S) (n : ℕ) (olds : 
           settings = settings-together hash d (replicate n true) olds ∙ settings;
         }
 
--- of all fields then
+-- the invariant `IsTable` holds after the new array is installed
 pub started-fields : {E K S : Type 0} (eq : K → K → Bool) (laws : IsEquivalence eq) (key : E → K) (hash : K → ℕ) (d : Contents E S) (n : ℕ) (olds : List (Shelf E)) (counted : bucket_count d ≡ n) (none : lists_of d ≡ map shelf_entries (replicate n empty_shelf)) (skipped left over : ℕ)
     → IsBuckets (λ e. hash (key e)) (settings_of d).skipped olds left over → IsBucketCount (length olds) → IsBucketCount n → n ≢ length olds → skipped ≡ (settings_of d).skipped → skipped ≤ 4 → overflow_of d ≡ 0 → IsDistinct eq (map key (flat_map shelf_entries olds))
     → IsTable eq key hash d (record { array = olds; waiting = replicate n true; pending = n; next = 0; left = left; left_overflow = over }) skipped

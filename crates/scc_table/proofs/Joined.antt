@@ -1,4 +1,4 @@
--- A walk that goes on over one list after another, with the closure that was left.
+-- A walk over one list after another, each with the closure that the walk before left.
 use Rattle.std.proofs.Common.{List, ◌++◌, Bool, true, Result, Ok, refl}
 use Rattle.std.specs.Borrow.{Bor, MutBor}
 use Rattle.std.specs.Fn.{Mut}
@@ -21,7 +21,7 @@ module _ {F K V : Type 0} where
   takes-join (pairs.kept t x) y = pairs.kept t (takes-join x y)
   takes-join (pairs.took t x) y = pairs.took t (takes-join x y)
 
-  -- a closure that may always be called may be called after the walk
+  -- if a closure may always be called, it may always be called after the walk
   pub walks-always : (g : Mut F (Bor K × (Bor V × Unit {0})) Bool) {f last : F} {es : List (K × V)} {b : Bool} → Walks (CalledOn g) f es b last → always_mut g f → always_mut g last
   walks-always g walks.ended h = h
   walks-always g (walks.stopped t) h = mut_next g _ _ _ _ _ t.called refl h

@@ -1,4 +1,4 @@
--- The lists of two arrays together, once one list of the new array or some entries of the old one changed.
+-- The lists of two arrays together, after one list of the current array or some entries of the old array change.
 use Rattle.std.proofs.Common.{◌≡◌, ◌==◌, ℕ, zero, suc, ◌+◌, ◌<◌, ◌≤◌, ◌≢◌, Bool, true, false, cond, List, [], ◌∷◌, length, set, get_or, refl, sym, ap, ◌∙◌, arith}
 use Rattle.std.specs.List.{filter}
 use Rattle.scc_table.specs.TwoArrays.{joined, waits_at}
@@ -9,14 +9,14 @@ set-none (suc i) x = refl
 
 module _ {E : Type 0} (target : E → ℕ) where
   module _ (es : List E) where
-    -- the list of a bucket that doesn't wait is its own
+    -- in the joined lists, a bucket that doesn't wait has its own list
     pub joined-here : (a i : ℕ) (ws : List Bool) (ls : List (List E)) → waits_at ws i ≡ false → get_or (joined target a ws ls es) i [] ≡ get_or ls i []
     joined-here a i [] ls h = refl
     joined-here a i (w ∷ ws) [] h = refl
     joined-here a zero (w ∷ ws) (l ∷ ls) h = ap (λ (v : Bool). cond v (filter (λ e. target e == a) es) l) h
     joined-here a (suc i) (w ∷ ws) (l ∷ ls) h = joined-here (suc a) i ws ls h
 
-    -- and what it becomes is seen
+    -- if the list of a bucket that doesn't wait becomes x, its joined list becomes x
     pub joined-set : (a i : ℕ) (ws : List Bool) (ls : List (List E)) (x : List E) → waits_at ws i ≡ false → joined target a ws (set ls i x) es ≡ set (joined target a ws ls es) i x
     joined-set a i [] ls x h = refl
     joined-set a i (w ∷ ws) [] x h = ap (λ z. joined target a (w ∷ ws) z es) (set-none i x) ∙ sym (set-none i x)
@@ -24,14 +24,14 @@ module _ {E : Type 0} (target : E → ℕ) where
     joined-set a (suc i) (w ∷ ws) (l ∷ ls) x h = ap (λ z. cond w (filter (λ e. target e == a) es) l ∷ z) (joined-set (suc a) i ws ls x h)
 
   module _ (es fs : List E) where
-    -- where no list of the entries changes, none does
+    -- if fs has the entries of es for each bucket, the joined lists are equal
     pub joined-same : (a : ℕ) (ws : List Bool) (ls : List (List E)) → ((k : ℕ) → a ≤ k → filter (λ e. target e == k) fs ≡ filter (λ e. target e == k) es) → joined target a ws ls fs ≡ joined target a ws ls es
     joined-same a [] ls same = refl
     joined-same a (w ∷ ws) [] same = refl
     joined-same a (w ∷ ws) (l ∷ ls) same =
         ap (λ z. cond w z l ∷ joined target (suc a) ws ls fs) (same a (omega arith)) ∙ ap (λ z. cond w (filter (λ e. target e == a) es) l ∷ z) (joined-same (suc a) ws ls (λ k q. same k (omega arith)))
 
-    -- where one does, that of its bucket does, which waits
+    -- if fs has x for a waiting bucket, and the entries of es for each other bucket, only that bucket's joined list changes
     pub joined-changed : (a t : ℕ) (ws : List Bool) (ls : List (List E)) (x : List E) → waits_at ws t ≡ true → t < length ls → filter (λ e. target e == a + t) fs ≡ x
         → ((k : ℕ) → k ≢ a + t → filter (λ e. target e == k) fs ≡ filter (λ e. target e == k) es) → joined target a ws ls fs ≡ set (joined target a ws ls es) t x
     joined-changed a t [] ls x up l is others = absurd (let z : false ≡ true = up in cc)

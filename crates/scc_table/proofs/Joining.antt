@@ -22,7 +22,7 @@ module _ {E : Type 0} (target : E → ℕ) (es : List E) where
       let z : suc i + k ≡ i + suc k = omega arith in
       get-joined (suc i) k ws ls (omega arith) (omega arith) ∙ ap (λ n. cond (waits_at ws k) (filter (λ e. target e == n) es) (get_or ls k [])) z
 
--- the words of both arrays together
+-- the parts of the contents of both arrays
 module _ {E S : Type 0} (hash : E → ℕ) (c : Contents E S) (ws : List Bool) (olds : List (Shelf E)) where
   pub settings-together : settings_of (together hash c ws olds) ≡ settings_of c
   unfolding settings_of
@@ -52,7 +52,7 @@ module _ {E S : Type 0} (hash : E → ℕ) (c : Contents E S) (ws : List Bool) (
   unfolding bucket_count lists_of
   count-together flags = length-joined (target_by hash c) (flat_map shelf_entries olds) 0 ws c.lists flags
 
--- where some wait, there is one flag for each bucket
+-- if some bucket waits, there is a flag for each bucket
 pub flags-length : {E S : Type 0} (c : Contents E S) (ws : List Bool) (n : ℕ) → (ws ≡ []) ⊎ (length ws ≡ bucket_count c) → n ≡ count_by (λ w. w) ws → 0 < n → length ws ≡ bucket_count c
 flags-length c ws n flags counted some = elim flags [
   | inl z ↦ absurd (let e : n ≡ 0 = counted ∙ ap (count_by (λ w. w)) z in omega arith)

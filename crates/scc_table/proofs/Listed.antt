@@ -1,4 +1,4 @@
--- The entries of one bucket among all.
+-- The entries of one bucket among all entries.
 use Rattle.std.proofs.Common.{◌≡◌, ◌≢◌, ◌==◌, ℕ, zero, suc, ◌+◌, ◌<◌, true, false, Some, List, [], ◌∷◌, ◌++◌, length, get_or, refl, sym, ap, ◌∙◌, arith, eq-eqb}
 use Rattle.std.specs.List.{count_by, filter, flat_map, slice_get}
 use Rattle.std.proofs.lemmas.List.{append-nil}
@@ -35,7 +35,7 @@ module _ {E : Type 0} (f : E → ℕ) (i : ℕ) where
       let rest = flat-at (suc j) k ls (λ k m e g. let z : j + suc k ≡ suc j + k = omega arith in h (suc k) m e g ∙ z) (omega arith) in
       filter-append (λ e. f e == i) x (flat_map (λ y. y) ls) ∙ ap (λ z. z ++ filter (λ e. f e == i) (flat_map (λ y. y) ls)) here ∙ rest
 
--- as many belong to a bucket as its list has
+-- the number of entries that belong to bucket i is the length of its list
 pub count-listed : {E S : Type 0} (hash : E → ℕ) (d : Contents E S) (i : ℕ) → IsRouted hash d → count_by (λ e. bucket_number (settings_of d).skipped (bucket_count d) (hash e) == i) (entries d) ≡ length (list_of d i)
 unfolding entries list_of
 count-listed {E} hash d i routed =
@@ -43,7 +43,7 @@ count-listed {E} hash d i routed =
     let z : i ≡ 0 + i = omega arith in
     sym (length-filter (λ e. f e == i) (flat_map (λ l. l) d.lists)) ∙ ap length (flat-at f i 0 i d.lists (λ k m e g. let y : k ≡ 0 + k = omega arith in routed.routed k m e g ∙ y) z)
 
--- those of a bucket are its list
+-- the entries that belong to bucket i are those of its list, in their order
 pub listed-is : {E S : Type 0} (hash : E → ℕ) (d : Contents E S) (i : ℕ) → IsRouted hash d → filter (λ e. bucket_number (settings_of d).skipped (bucket_count d) (hash e) == i) (entries d) ≡ list_of d i
 unfolding entries list_of
 listed-is {E} hash d i routed =

@@ -1,4 +1,4 @@
--- A list of a bucket that doesn't wait, with an entry put at its end, in a table without entries past the places.
+-- An entry is added at the end of the list of a bucket that doesn't wait, in a table with empty overflow lists.
 use Rattle.std.proofs.Common.{◌≡◌, ℕ, zero, suc, ◌<◌, ◌≤◌, ◌≢◌, Bool, false, Option, Some, None, List, [], ◌∷◌, ◌++◌, length, map, set, get_or, refl, sym, ap, ◌∙◌, subst, arith, append_assoc, length-set, get_or-set_same, get_or-set_other}
 use Rattle.std.specs.Cmp.{IsEquivalence}
 use Rattle.std.specs.List.{flat_map, position, remove, slice_get}
@@ -28,7 +28,7 @@ use Rattle.scc_table.proofs.Joining.{count-together, settings-together}
 use Rattle.scc_table.proofs.Relocated.{count-is, list-is}
 use Rattle.scc_table.proofs.TakenFrom.{entries-are, flat-permuted, list-same, removed-is}
 
--- an entry at the end of one list, among all
+-- an entry that is added at the end of one list is one more among the entries of all lists
 perm-last : {X : Type 0} (ls : List (List X)) (i : ℕ) (e : X) → i < length ls → IsPermutation (e ∷ flat_map (λ l. l) ls) (flat_map (λ l. l) (set ls i (get_or ls i [] ++ e ∷ [])))
 perm-last [] i e h = absurd (omega arith)
 perm-last (l ∷ ls) zero e h =
@@ -39,9 +39,9 @@ perm-last (l ∷ ls) (suc i) e h =
     let s = flat_map (λ x. x) (set ls i (get_or ls i [] ++ e ∷ [])) in
     IsPermutation-trans (e ∷ (l ++ r)) (l ++ e ∷ r) (l ++ s) (IsPermutation-sym (l ++ e ∷ r) (e ∷ (l ++ r)) (IsPermutation-middle l e r)) (IsPermutation-append_right l (e ∷ r) s (perm-last ls i e (omega arith)))
 
--- the lists of contents of which one changed
+-- contents d, which are c after a change to the list of bucket i
 module _ {E K S : Type 0} {eq : K → K → Bool} (laws : IsEquivalence eq) (key : E → K) (c d : Contents E S) (i : ℕ) (l : i < bucket_count c) (unique : IsUniqueBy eq key c) where
-  -- a new entry stands last
+  -- keys stay distinct if a new entry is added at the end of the list of bucket i
   pub unique-last : (e : E) → lists_of d ≡ set (lists_of c) i (list_of c i ++ e ∷ []) → position (λ x. eq (key e) (key x)) (entries c) ≡ None → IsUniqueBy eq key d
   unique-last e lists absent =
       let ls = lists_of c in
@@ -49,7 +49,7 @@ module _ {E K S : Type 0} {eq : K → K → Bool} (laws : IsEquivalence eq) (key
       let all : entries d ≡ flat_map (λ x. x) (set ls i (get_or ls i [] ++ e ∷ [])) = entries-are d ∙ ap (flat_map (λ x. x)) (lists ∙ ap (λ z. set ls i (z ++ e ∷ [])) (list-is c i)) in
       unique-inserted laws key e (entries c) (entries d) unique absent (subst (IsPermutation (e ∷ entries c)) (sym all) (subst (λ z. IsPermutation (e ∷ z) (flat_map (λ x. x) (set ls i (get_or ls i [] ++ e ∷ [])))) (sym (entries-are c)) put))
 
-  -- an entry moved to the end
+  -- keys stay distinct if an entry of the list of bucket i is moved to its end
   pub unique-moved : (s : ℕ) (e : E) → slice_get (list_of c i) s ≡ Some e → lists_of d ≡ set (lists_of c) i (remove (list_of c i) s ++ e ∷ []) → IsUniqueBy eq key d
   unique-moved s e got lists =
       let ls = lists_of c in
@@ -64,7 +64,7 @@ module _ {E K S : Type 0} {eq : K → K → Bool} (laws : IsEquivalence eq) (key
       let moved : IsPermutation (entries c) (entries d) = subst (λ z. IsPermutation z (entries d)) was (subst (IsPermutation (flat_map (λ x. x) (set ls i li))) now all) in
       IsDistinct-IsPermutation eq laws.symm (map key (entries c)) (map key (entries d)) (IsPermutation-map key (entries c) (entries d) moved) unique
 
-  -- a new entry stands last, and the first is gone
+  -- keys stay distinct if the first entry of the list is removed and a new entry is added at its end
   pub unique-pushed : (x : E) (rest : List E) (e : E) → list_of c i ≡ x ∷ rest → lists_of d ≡ set (lists_of c) i (rest ++ e ∷ []) → position (λ y. eq (key e) (key y)) (entries c) ≡ None → IsUniqueBy eq key d
   unique-pushed x rest e is lists absent =
       let ls = lists_of c in
@@ -85,7 +85,7 @@ module _ {E K S : Type 0} {eq : K → K → Bool} (laws : IsEquivalence eq) (key
       let now : flat_map (λ y. y) (set ms i (get_or ms i [] ++ e ∷ [])) ≡ entries d = ap (flat_map (λ y. y)) both ∙ sym (entries-are d) in
       unique-inserted laws key e (remove (entries c) k) (entries d) less gone (subst (IsPermutation (e ∷ remove (entries c) k)) now (subst (λ z. IsPermutation (e ∷ z) (flat_map (λ y. y) (set ms i (get_or ms i [] ++ e ∷ [])))) left put))
 
--- a list of the new array is seen
+-- bucket i doesn't wait: what its list becomes in the current array, it becomes in both arrays
 module _ {E S : Type 0} (hash : E → ℕ) (c d : Contents E S) (ws : List Bool) (olds : List (Shelf E)) (i : ℕ) (down : waits_at ws i ≡ false) (bounded : IsBounded (together hash c ws olds)) where
   pub own-bounded : IsBounded c
   own-bounded = let z = spilled-together hash c ws olds in omega arith
@@ -106,7 +106,7 @@ module _ {E S : Type 0} (hash : E → ℕ) (c d : Contents E S) (ws : List Bool)
       let here = own-list hash c ws olds i down in
       (subst (λ z. 32 ≤ length z) (sym here) t.0, (t.1.0, here ∙ t.1.1, own-has_list (t.1.0 ++ e ∷ []) t.1.2))
 
--- what was listed stays so where one list changed to one that is
+-- `IsListed` stays if one list becomes a list of at most 32 entries, each in the bucket of its hash
 pub listed-after : {E S : Type 0} (hash : E → ℕ) (c d : Contents E S) (i : ℕ) (es : List E) → i < bucket_count c → HasList c i es d → IsListed hash c → length es ≤ 32 → ((j : ℕ) (e : E) → slice_get es j ≡ Some e → bucket_number (settings_of d).skipped (bucket_count d) (hash e) ≡ i)
     → IsListed hash d
 listed-after hash c d i es l t listed short routed =
@@ -135,7 +135,7 @@ listed-after hash c d i es l t listed short routed =
           ];
     }
 
--- what stands in a list without one of its entries stood in the list
+-- an element of a list after a removal is an element of the list before
 get-removed : {X : Type 0} (xs : List X) (s j : ℕ) (e : X) → slice_get (remove xs s) j ≡ Some e → (k : ℕ) × (slice_get xs k ≡ Some e)
 get-removed [] zero j e got = (j, got)
 get-removed [] (suc s) j e got = (j, got)
@@ -149,7 +149,7 @@ removed-less [] (suc s) = omega arith
 removed-less (x ∷ xs) zero = omega arith
 removed-less (x ∷ xs) (suc s) = let r = removed-less xs s in omega arith
 
--- what was listed stays so without one entry
+-- `IsListed` stays if one entry is removed from a list
 pub listed-removed : {E S : Type 0} (hash : E → ℕ) (c d : Contents E S) (i s : ℕ) → i < bucket_count c → HasList c i (remove (list_of c i) s) d → IsListed hash c → IsListed hash d
 listed-removed hash c d i s l t listed =
     let es = remove (list_of c i) s in
@@ -179,23 +179,23 @@ module _ {X : Type 0} (p : X → Bool) where
   absent-one (l ∷ ls) zero n = (absent-parts l (flat_map (λ x. x) ls) n).0
   absent-one (l ∷ ls) (suc i) n = absent-one ls i (absent-parts l (flat_map (λ x. x) ls) n).1
 
--- what no entry passes, none of a list does
+-- if no entry of c passes p, no entry of a list of c passes p
 pub absent-list : {E S : Type 0} (c : Contents E S) (p : E → Bool) (i : ℕ) → position p (entries c) ≡ None → position p (list_of c i) ≡ None
 absent-list c p i n = ap (position p) (list-is c i) ∙ absent-one p (lists_of c) i (ap (position p) (sym (entries-are c)) ∙ n)
 
--- where an entry was put last, a list changed
+-- `PutsLast` gives bucket i a new list
 pub puts-list : {E S : Type 0} (c d : Contents E S) (i : ℕ) (e : E) (o : Option E) → PutsLast c i e o d → (es : List E) × HasList c i es d
 puts-list c d i e None t = (list_of c i ++ e ∷ [], t.1)
 puts-list c d i e (Some x) t = (t.1.0 ++ e ∷ [], t.1.2)
 
--- and keys stay distinct
+-- `PutsLast` keeps keys distinct if the key of e is missing
 pub unique-puts : {E K S : Type 0} {eq : K → K → Bool} (laws : IsEquivalence eq) (key : E → K) (c d : Contents E S) (i : ℕ) → i < bucket_count c → IsUniqueBy eq key c → (e : E) (o : Option E) → PutsLast c i e o d
     → position (λ x. eq (key e) (key x)) (entries c) ≡ None → IsUniqueBy eq key d
 unique-puts laws key c d i l unique e None t absent = unique-last laws key c d i l unique e t.1.lists absent
 unique-puts laws key c d i l unique e (Some x) t absent = unique-pushed laws key c d i l unique x t.1.0 e t.1.1 t.1.2.lists absent
 
 module _ {E S : Type 0} (hash : E → ℕ) (c d : Contents E S) (ws : List Bool) (olds : List (Shelf E)) (arrays : TwoArrays hash c ws olds) (i : ℕ) (down : waits_at ws i ≡ false) (l : i < bucket_count c) where
-  -- the lists of both arrays stay listed
+  -- `IsListed` holds of both arrays after the change if it held before, and holds of the current array afterwards
   pub own-listed : (es : List E) → HasList c i es d → IsListed hash (together hash c ws olds) → IsListed hash d → IsListed hash (together hash d ws olds)
   own-listed es t listed ours =
       let u = together hash c ws olds in

@@ -1,4 +1,4 @@
--- A table of two arrays of which no bucket waits, where a call changes the new array alone.
+-- A table of two arrays without a waiting bucket, and a call that changes the current array alone.
 use Rattle.std.proofs.Common.{◌≡◌, ℕ, ◌+◌, ◌*◌, ◌^◌, ◌<◌, ◌==◌, inl, inr, Bool, true, false, [], ◌∷◌, length, map, sym, ap, ◌∙◌, subst, arith}
 use Rattle.std.specs.List.{filter, flat_map, slice_get, IsDistinct}
 use Rattle.std.specs.List.Sorted.{IsPermutation}
@@ -17,7 +17,7 @@ use Rattle.scc_table.proofs.OldSpots.{spot-own}
 use Rattle.scc_table.proofs.Placing.{index-same}
 use Rattle.scc_table.proofs.Same.{count-same, entries-same, list-same}
 
--- of all fields then
+-- the invariant `IsTable` holds after the contents of the current array change from c to d
 pub fields-lone : {E K S : Type 0} (eq : K → K → Bool) (key : E → K) (hash : K → ℕ) (c d : Contents E S) (drain : Draining E) (skipped : ℕ) → IsTable eq key hash c drain skipped → drain.waiting ≡ [] → settings_of d ≡ settings_of c → overflow_of d < 2 ^ 62
     → IsDistinct eq (map key (entries d)) → IsTable eq key hash d (record drain { left_overflow = 0 }) skipped
 fields-lone {E} eq key hash c d drain skipped inv none settings few unique =
@@ -44,7 +44,7 @@ fields-lone {E} eq key hash c d drain skipped inv none settings few unique =
       unique = subst (λ es. IsDistinct eq (map key es)) (sym (entries-alone h d drain.waiting drain.array none)) unique;
     }
 
--- what is seen before and after has the lists and the settings of the new array
+-- a and f, the contents of both arrays before and after, have the lists and settings of c and d, those of the current array
 module _ {E S : Type 0} (a c d f : Contents E S) (before : lists_of a ≡ lists_of c) (had : settings_of a ≡ settings_of c) (after : lists_of f ≡ lists_of d) (has : settings_of f ≡ settings_of d) where
   pub over-unchanged : IsUnchanged c d → IsUnchanged a f
   over-unchanged u = record {

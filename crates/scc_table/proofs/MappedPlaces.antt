@@ -1,4 +1,4 @@
--- Places of two arrays whose entries are seen through a function.
+-- Places in contents whose entries are mapped by a function.
 use Rattle.std.proofs.Common.{◌≡◌, ℕ, sym, ap, subst, ◌∙◌}
 use Rattle.scc_common.specs.Contents.{Contents, owed_of, waiting_of}
 use Rattle.scc_common.specs.Mapped.{mapped}

@@ -1,4 +1,4 @@
--- What waits in contents whose entries are seen through a function.
+-- Waiting buckets of contents whose entries are mapped by a function.
 use Rattle.std.proofs.Common.{◌≡◌, ◌∙◌, ℕ, zero, suc, inl, inr, List, [], ◌∷◌, length, map, refl, sym, ap}
 use Rattle.std.specs.List.{filter, range_with_len, slice_index_or}
 use Rattle.std.proofs.lemmas.List.{length-map}

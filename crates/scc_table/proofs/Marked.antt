@@ -1,4 +1,4 @@
--- The note of refused memory and the mark of a growth that was tried, after room was made for a new key.
+-- The note and the mark after room is made for a new key.
 use Rattle.std.proofs.Common.{◌≡◌, ◌≢◌, ◌∙◌, ◌*◌, ◌^◌, ◌<◌, ◌≤◌, ℕ, Bool, true, false, inl, inr, Result, length, sym, ap, arith}
 use Rattle.std.specs.List.{count_by}
 use Rattle.std.proofs.lemmas.Bool.{cases_order}
@@ -16,7 +16,7 @@ module _ {E K S X : Type 0} (eq : K → K → Bool) (key : E → K) (hash : K �
   down-grown : 0 < bucket_count a → bucket_count b ≢ bucket_count a → refused_of b ≡ (false, false)
   down-grown some ne = both-are (refused_of b) false false (m.down some ne) (m.unmarked some (m.growth.not_waiting some ne) (λ room. ne (ap bucket_count (m.still room))) (m.growth.half some ne) (m.growth.below some ne))
 
-  -- what becomes of both where no growth is due that wasn't made
+  -- if no growth is due that wasn't made, the note and the mark are as `MarksPreparation` says
   pub marks-left : (IsGrowthDue hash key a h → bucket_count b ≡ bucket_count a → ⊥) → MarksPreparation hash key a h b
   marks-left none = record {
     stays = m.noted;
@@ -26,27 +26,27 @@ module _ {E K S X : Type 0} (eq : K → K → Bool) (key : E → K) (hash : K �
     marked = λ up. inl (sym (ap (λ (x : Bool × Bool). x.1) (m.marked up)) ∙ up);
   }
 
-  -- none is due where buckets wait
+  -- if buckets wait, no growth is due that wasn't made
   pub not-not_waiting : 0 < pending_of b → IsGrowthDue hash key a h → bucket_count b ≡ bucket_count a → ⊥
   not-not_waiting waits due same = let p = pending-same a b (m.waiting due.array same) in absurd (omega (arith, due.not_waiting))
 
-  -- none where fewer than half as many entries as slots are held
+  -- if the table holds fewer than half as many entries as slots, no growth is due that wasn't made
   pub not-half : 2 * length (entries b) < 32 * bucket_count b → IsGrowthDue hash key a h → bucket_count b ≡ bucket_count a → ⊥
   not-half few due same =
       let l : length (entries b) ≡ length (entries a) = ap length (entries-same a b (m.stays due.array same)) in
       absurd (omega (arith, due.half))
 
-  -- none of the greatest array
+  -- if the array has the greatest size, no growth is due that wasn't made
   pub not-below : 2 ^ 63 ≤ 32 * bucket_count b → IsGrowthDue hash key a h → bucket_count b ≡ bucket_count a → ⊥
   not-below great due same = absurd (omega (arith, due.below))
 
-  -- none where the bucket has room
+  -- if the bucket of the hash has room, no growth is due that wasn't made
   pub not-full : settings_of b ≡ settings_of a → HasRoomAt hash key b h → IsGrowthDue hash key a h → bucket_count b ≡ bucket_count a → ⊥
   not-full settings room due same =
       let lists = sym (m.stays due.array same) in
       due.full (rw (sym settings, count-same b a lists, entries-same b a lists) room)
 
-  -- the array is the same where none waits and some entry is held
+  -- if no bucket waits and the table holds entries, the number of buckets has stayed
   pub array-same : pending_of b ≡ 0 → 0 < bucket_count b → 0 < length (entries b) → (0 < bucket_count a) × (bucket_count b ≡ bucket_count a)
   array-same not_waiting some entry_count =
       let had : 0 < bucket_count a = elim (cases_order (bucket_count a) 0) as (λ _. 0 < bucket_count a) [
@@ -63,7 +63,7 @@ module _ {E K S X : Type 0} (eq : K → K → Bool) (key : E → K) (hash : K �
         ],
       )
 
-  -- a growth was due that wasn't made
+  -- a growth was due and wasn't made if no bucket waits, the hash's bucket is full, and the array is half full and can double
   pub due-left : settings_of b ≡ settings_of a → pending_of b ≡ 0 → 0 < bucket_count b → (HasRoomAt hash key b h → ⊥) → 32 * bucket_count b ≤ 2 * length (entries b) → 32 * bucket_count b < 2 ^ 63 → IsGrowthDue hash key a h × (bucket_count b ≡ bucket_count a)
   due-left settings not_waiting some full half below =
       let s = array-same not_waiting some (omega arith) in
@@ -81,7 +81,7 @@ module _ {E K S X : Type 0} (eq : K → K → Bool) (key : E → K) (hash : K �
         n,
       )
 
-  -- what becomes of both where it is marked as tried
+  -- if a due growth wasn't made, and the note and the mark are up, they are as `MarksPreparation` says
   pub marks-up : (d : Contents E S) → lists_of d ≡ lists_of b → refused_of d ≡ (true, true) → IsGrowthDue hash key a h × (bucket_count b ≡ bucket_count a) → MarksPreparation hash key a h d
   marks-up d lists up due =
       let n = count-same b d lists in

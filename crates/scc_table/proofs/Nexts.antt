@@ -1,4 +1,4 @@
--- Where steps in the old array lead.
+-- Where a search for the next entry in the old array leads.
 use Rattle.std.proofs.Common.{◌≡◌, ◌==◌, ℕ, suc, ◌+◌, ◌-◌, ◌^◌, ◌<◌, ◌≤◌, inl, inr, Bool, true, false, cond, nat_lt, rules, add-one, Some, List, [], ◌∷◌, length, map, take, refl, sym, ap, ◌∙◌, subst, arith, length-append}
 use Rattle.std.proofs.lemmas.List.{get_or_past, length-map, take_all}
 use Rattle.std.specs.List.{count_by, flat_map, slice_get}
@@ -24,7 +24,7 @@ use Rattle.scc_table.proofs.Preparing.{long-flags, waiting-list}
 use Rattle.scc_table.proofs.RelocatingLemmas.{up-within}
 use Rattle.scc_draining.proofs.Stepped.{before-start, bound-count}
 
--- each old bucket holds fewer entries than a word counts
+-- the number of entries of each old bucket fits into a word
 pub few-entries : {E : Type 0} (hash : E → ℕ) (t : ℕ) (olds : List (Shelf E)) (aside : ℕ) → AreOwn hash t olds → overflow_in olds ≤ aside → aside < 2 ^ 62 → (j : ℕ) → length (shelf_entries (shelf_of olds j)) < 2 ^ 63
 few-entries hash t olds aside keeps le few j =
     let o = few-each olds aside le few j in
@@ -34,7 +34,7 @@ few-entries hash t olds aside keeps le few j =
       | no far ↦ let z : length (shelf_entries (shelf_of olds j)) ≡ 0 = ap (λ b. length (shelf_entries b)) (get_or_past olds j empty_shelf (omega arith)) in omega arith
     ]
 
--- the sources may be looked through further
+-- if the old buckets before `last` hold all entries of bucket i, so do those before a greater `more`
 pub sources-more : {E : Type 0} (hash : E → ℕ) (t n i first last more : ℕ) (olds : List (Shelf E)) → IsWithinSources hash t n i first last olds → last ≤ more → more ≤ length olds → IsWithinSources hash t n i first more olds
 sources-more hash t n i first last more olds w l m = record {
   order = omega (arith, w.order);
@@ -49,19 +49,19 @@ module _ {E S : Type 0} (hash : E → ℕ) (c : Contents E S) (ws : List Bool) (
   pub owed-count : length (owed_of (together hash c ws olds)) ≡ length olds
   owed-count = ap length owed-is ∙ length-map olds (λ b. map (target_by hash c) (shelf_entries b))
 
-  -- what the annotations count
+  -- `rank_on` counts the entries of bucket i that stand before slot s of old bucket j
   pub rank-is : (j s : ℕ) → j < length olds → rank_on (together hash c ws olds) i j s ≡ length (bound_for hash (settings_of c).skipped (bucket_count c) i (entries_before olds j s))
   rank-is j s l =
       ap (λ h. count_by (λ u. u == i) (owed_before h j s)) owed-is ∙ ap (count_by (λ u. u == i)) (owed-before (target_by hash c) olds j s l) ∙ count-map (target_by hash c) i (entries_before olds j s)
 
-  -- none of the bucket stands there or later
+  -- if no entry of bucket i stands at slot s of old bucket j or later, `rank_on` is the length of its list
   pub rank-end : (first last j s : ℕ) → j < length olds → IsWithinSources hash (settings_of c).skipped (bucket_count c) i first last olds
       → bound_for hash (settings_of c).skipped (bucket_count c) i (entries_before olds j s) ≡ bound_for hash (settings_of c).skipped (bucket_count c) i (flat_map shelf_entries (take last olds))
       → rank_on (together hash c ws olds) i j s ≡ length (list_of (together hash c ws olds) i)
   rank-end first last j s l sources e =
       rank-is j s l ∙ ap length (e ∙ take-all_bound hash (settings_of c).skipped (bucket_count c) i first last olds sources empty_shelf ∙ sym (waiting-list hash c ws olds arrays i up (long-flags c ws i arrays.flags up)))
 
-  -- the next one stands there
+  -- the next entry of bucket i stands at slot s of old bucket j
   pub rank-next : (a b j s : ℕ) → a < length olds → StandsNext hash (settings_of c).skipped (bucket_count c) i olds a b j s → (p : Place) → p.bucket ≡ bucket_count c + j → p.slot ≡ s
       → StandsAt (together hash c ws olds) (spots.index_of_spot (together hash c ws olds) (record { bucket = i; slot = rank_on (together hash c ws olds) i a b })) p
   rank-next a b j s la next p at slot =
@@ -84,7 +84,7 @@ pub bound-same : {E : Type 0} (hash : E → ℕ) (u t m n i : ℕ) (xs ys : List
 bound-same hash u t m n i xs ys e f x = subst (λ z. bound_for hash t z i xs ≡ bound_for hash t z i ys) f (subst (λ z. bound_for hash z m i xs ≡ bound_for hash z m i ys) e x)
 
 module _ {E S : Type 0} (hash : E → ℕ) (c : Contents E S) (ws : List Bool) (olds : List (Shelf E)) (arrays : TwoArrays hash c ws olds) (i : ℕ) (up : waits_at ws i ≡ true) (first last : ℕ) (sources : IsWithinSources hash (settings_of c).skipped (bucket_count c) i first last olds) where
-  -- none of the bucket stands before the sources
+  -- no entry of bucket i stands before old bucket `first`
   pub rank-start : first < length olds → rank_on (together hash c ws olds) i first 0 ≡ 0
   rank-start l =
       let t = (settings_of c).skipped in
@@ -97,7 +97,7 @@ module _ {E S : Type 0} (hash : E → ℕ) (c : Contents E S) (ws : List Bool) (
       let n = bucket_count c in
       waiting-list hash c ws olds arrays i up (long-flags c ws i arrays.flags up) ∙ ap (λ z. bound_for hash t n i (flat_map shelf_entries z)) (sym (take_all first olds l)) ∙ before-none hash t n i first last olds sources empty_shelf
 
--- one that doesn't wait stands at its own spot
+-- a place in a bucket that doesn't wait is its own spot
 pub own-stands : {E S : Type 0} (hash : E → ℕ) (c : Contents E S) (ws : List Bool) (olds : List (Shelf E)) (arrays : TwoArrays hash c ws olds) (p : Place) → p.bucket < bucket_count c → waits_at ws p.bucket ≡ false → p.slot < length (list_of c p.bucket)
     → StandsAt (together hash c ws olds) (spots.index_of_spot (together hash c ws olds) p) p
 own-stands hash c ws olds arrays p l down q = record {
@@ -121,7 +121,7 @@ module _ {E S : Type 0} (d : Contents E S) (t b s : ℕ) where
       let number : b - bucket_count d ≡ j = omega arith in
       ap (λ v. cond v p q) past ∙ ap (λ m. let r : Place = record { bucket = t; slot = rank_on d t m s } in r) number
 
--- a start that is below the number of buckets is that bucket itself
+-- if the bucket b of a start is below the number of buckets, b is t, and t doesn't wait
 pub start-own : {E S : Type 0} (d : Contents E S) (t b s : ℕ) → IsStart d t b s → b < bucket_count d → (b ≡ t) × (waits_at (waiting_of d) t ≡ false) × (s ≤ length (list_of d t))
 start-own d t b s (own e down q) l = (e, down, q)
 start-own d t b s (old up far m) l = absurd (omega arith)
@@ -130,7 +130,7 @@ pub start-old : {E S : Type 0} (d : Contents E S) (t b s : ℕ) → IsStart d t 
 start-old d t b s (own e down q) far l = absurd (omega arith)
 start-old d t b s (old up low m) far l = (up, m)
 
--- the place after p is looked for there
+-- a search for the entry after p may start at the slot after p
 pub record NextStart {E S : Type 0} (d : Contents E S) (t : ℕ) (p : Place) : Type 0 where
   pub start : IsStart d t p.bucket (p.slot + 1)
   pub index : index_on d t p.bucket (p.slot + 1) ≡ suc (index_of d p)

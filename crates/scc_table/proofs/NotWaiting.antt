@@ -1,4 +1,4 @@
--- Where no bucket waits, and what follows from either answer.
+-- Contents without a waiting bucket, and what follows from either result of a call.
 use Rattle.std.proofs.Common.{◌≡◌, ℕ, Bool, false, List, [], Result, Ok, Err, ap, sym, ◌∙◌}
 use Rattle.std.specs.Prelude.{IfOk, IfErr}
 use Rattle.std.specs.List.{count_by}
@@ -7,11 +7,11 @@ use Rattle.scc_table.specs.TwoArrays.{waits_at}
 use Rattle.scc_table.proofs.Finishing.{pending-is}
 use Rattle.scc_table.proofs.RelocatingLemmas.{none-up}
 
--- none waits where none is counted
+-- if the number of waiting buckets is 0, no bucket waits
 pub not_waiting-all : {E S : Type 0} (c : Contents E S) → pending_of c ≡ 0 → (i : ℕ) → waits_at (waiting_of c) i ≡ false
 not_waiting-all c none i = none-up (waiting_of c) (sym (pending-is c) ∙ none) i
 
--- and none is counted where there is no flag
+-- if there are no flags, the number of waiting buckets is 0
 pub none-flagged : {E S : Type 0} (c : Contents E S) → waiting_of c ≡ [] → pending_of c ≡ 0
 none-flagged c none = pending-is c ∙ ap (λ (ws : List Bool). count_by (λ w. w) ws) none
 

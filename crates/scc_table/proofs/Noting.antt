@@ -1,4 +1,4 @@
--- Two arrays, of which the new one has the same lists and routes alike.
+-- A change to two arrays that keeps the lists of the current array and the bucket of each hash.
 use Rattle.std.proofs.Common.{◌≡◌, ◌==◌, ℕ, ◌+◌, ◌≤◌, inl, inr, Bool, List, length, map, sym, ap, ◌∙◌, subst, arith}
 use Rattle.std.specs.List.{filter, flat_map, IsDistinct}
 use Rattle.scc_array.specs.Shelf.{Shelf, shelf_entries}
@@ -11,7 +11,7 @@ use Rattle.scc_table.proofs.Alone.{spilled-together}
 use Rattle.scc_table.proofs.Joining.{lists-together, owed-together}
 use Rattle.scc_table.proofs.Same.{count-same, list-same, entries-same}
 
--- an entry belongs to the same bucket
+-- each entry has the same bucket number in d as in c
 pub target-kept : {E S : Type 0} (hash : E → ℕ) (c d : Contents E S) → (settings_of d).skipped ≡ (settings_of c).skipped → bucket_count d ≡ bucket_count c → target_by hash d ≡ target_by hash c
 target-kept {E} hash c d skips counts =
     ap (λ s. let g : E → ℕ = λ e. bucket_number s (bucket_count d) (hash e) in g) skips ∙ ap (λ m. let g : E → ℕ = λ e. bucket_number (settings_of c).skipped m (hash e) in g) counts

@@ -1,4 +1,4 @@
--- What both arrays show, once one entry of the old array was written or taken out.
+-- The contents of both arrays after one entry of the old array is written or taken out.
 use Rattle.std.proofs.Common.{◌≡◌, ◌==◌, ℕ, zero, suc, ◌+◌, ◌^◌, ◌<◌, ◌≤◌, ◌≢◌, inl, inr, Bool, true, false, cond, Some, List, [], ◌∷◌, ◌++◌, length, map, take, drop, set, refl, sym, ap, ◌∙◌, subst, arith, append_assoc, length-set, get_or-set_same, get_or-set_other, eq-eqb}
 use Rattle.std.specs.List.{filter, flat_map, slice_get, sum_by, remove, IsDistinct}
 use Rattle.std.proofs.lemmas.List.{nil_from_length, set-get_or, take-append-drop}
@@ -22,11 +22,11 @@ use Rattle.scc_table.proofs.Preparing.{waiting-list}
 use Rattle.scc_table.proofs.Relocated.{count-is}
 use Rattle.scc_table.proofs.RelocatingLemmas.{not_equal}
 
--- the entries of the old array after number s of bucket j, in the order of the buckets
+-- the entries of the old array after slot s of bucket j, in the order of the buckets
 abbrev pub entries_after : {E : Type 0} → List (Shelf E) → ℕ → ℕ → List E
 entries_after olds j s = drop (suc s) (shelf_entries (shelf_of olds j)) ++ flat_map shelf_entries (drop (suc j) olds)
 
--- one bucket that has others in the place of that entry
+-- the entries of the old array after bucket j gets the entries mid in place of its entry at slot s
 pub flat-around : {E : Type 0} (olds : List (Shelf E)) (j s : ℕ) (b : Shelf E) (mid : List E) → j < length olds → shelf_entries b ≡ take s (shelf_entries (shelf_of olds j)) ++ (mid ++ drop (suc s) (shelf_entries (shelf_of olds j)))
     → flat_map shelf_entries (set olds j b) ≡ entries_before olds j s ++ (mid ++ entries_after olds j s)
 flat-around [] j s b mid l own = absurd (omega arith)
@@ -44,7 +44,7 @@ flat-around (a ∷ olds) (suc j) s b mid l own =
 pub around : {X : Type 0} (xs : List X) (s : ℕ) (x : X) → slice_get xs s ≡ Some x → xs ≡ take s xs ++ (x ∷ [] ++ drop (suc s) xs)
 around xs s x got = sym (take-append-drop s xs) ∙ ap (λ z. take s xs ++ z) (drop-got xs s x got)
 
--- all entries of the old array, about that one
+-- the entries of the old array are those before the entry e, e itself, and those after e
 pub flat-split : {E : Type 0} (olds : List (Shelf E)) (j s : ℕ) (e : E) → j < length olds → slice_get (shelf_entries (shelf_of olds j)) s ≡ Some e → flat_map shelf_entries olds ≡ entries_before olds j s ++ (e ∷ entries_after olds j s)
 flat-split olds j s e l got =
     ap (flat_map shelf_entries) (sym (set-get_or olds j empty_shelf)) ∙ flat-around olds j s (shelf_of olds j) (e ∷ []) l (around (shelf_entries (shelf_of olds j)) s e got)
@@ -58,7 +58,7 @@ remove-middle [] x ys = refl
 remove-middle (z ∷ xs) x ys = ap (λ l. z ∷ l) (remove-middle xs x ys)
 
 module _ {E S : Type 0} (hash : E → ℕ) (c : Contents E S) (ws : List Bool) (olds : List (Shelf E)) (arrays : TwoArrays hash c ws olds) (j s : ℕ) (e : E) (lj : j < length olds) (got : slice_get (shelf_entries (shelf_of olds j)) s ≡ Some e) where
-  -- what comes before it in the list of its bucket, and after it
+  -- the entries before e in the list of its bucket; `list_back` has the entries after e
   abbrev pub list_front : List E
   list_front = bound_for hash (settings_of c).skipped (bucket_count c) (target_by hash c e) (entries_before olds j s)
 
@@ -87,14 +87,14 @@ module _ {E S : Type 0} (hash : E → ℕ) (c : Contents E S) (ws : List Bool) (
         ap (filter q) flat-new ∙ filter-append q (entries_before olds j s) (mid ++ entries_after olds j s)
         ∙ ap (λ z. filter q (entries_before olds j s) ++ z) (filter-append q mid (entries_after olds j s) ∙ ap (λ z. z ++ filter q (entries_after olds j s)) (same k))
 
-    -- the list of that bucket has them in its place
+    -- in the list of the bucket of e, the entries mid stand in place of e
     bound-here : bound_for hash (settings_of c).skipped (bucket_count c) (target_by hash c e) (flat_map shelf_entries (set olds j b)) ≡ list_front ++ (mid ++ list_back)
     bound-here =
         let i = target_by hash c e in
         let here : (target_by hash c e == i) ≡ true = eq-eqb _ _ refl in
         bound-new i ∙ ap (λ (v : Bool). list_front ++ (cond v mid [] ++ list_back)) here
 
-    -- each other stays
+    -- the entries of each other bucket stay
     bound-other : (k : ℕ) → k ≢ target_by hash c e → bound_for hash (settings_of c).skipped (bucket_count c) k (flat_map shelf_entries (set olds j b)) ≡ bound_for hash (settings_of c).skipped (bucket_count c) k (flat_map shelf_entries olds)
     bound-other k ne =
         let q : E → Bool = λ x. target_by hash c x == k in
@@ -143,7 +143,7 @@ module _ {E S : Type 0} (hash : E → ℕ) (c : Contents E S) (ws : List Bool) (
           bare = arrays.bare;
         }
 
--- of all fields
+-- the invariant `IsTable` holds after the old array becomes news
 pub old-fields : {E K S : Type 0} (eq : K → K → Bool) (key : E → K) (hash : K → ℕ) (c : Contents E S) (drain : Draining E) (news : List (Shelf E)) (skipped kept under : ℕ) → IsTable eq key hash c drain skipped
     → TwoArrays (λ e. hash (key e)) c drain.waiting news → length news ≡ length drain.array → kept ≡ sum_by (λ b. length (shelf_entries b)) news → overflow_in news ≤ under → overflow_of c + under < 2 ^ 62 → IsDistinct eq (map key (entries (together (λ e. hash (key e)) c drain.waiting news)))
     → IsTable eq key hash c (record drain { array = news; left = kept; left_overflow = under }) skipped

@@ -1,4 +1,4 @@
--- Where an entry that waits stands, and one that doesn't.
+-- Where the entries of a waiting bucket stand, and where the entries of another bucket stand.
 use Rattle.std.proofs.Common.{◌≡◌, ◌==◌, ℕ, zero, suc, ◌+◌, ◌-◌, ◌<◌, ◌≤◌, inl, inr, Bool, true, false, cond, nat_lt, Some, None, List, [], ◌∷◌, ◌++◌, length, map, take, get_or, refl, sym, ap, ◌∙◌, subst, arith, rules, append_assoc, length-append}
 use Rattle.std.specs.List.{filter, flat_map, count_by, slice_get}
 use Rattle.std.proofs.lemmas.List.{get_or-map, length-map, get_or_past}
@@ -41,17 +41,17 @@ filter-map : {E : Type 0} (f : E → ℕ) (t : ℕ) (xs : List E) → filter (λ
 filter-map f t [] = refl
 filter-map f t (x ∷ xs) = by_answer (f x == t) (λ q. rw q (ap (λ z. f x ∷ z) (filter-map f t xs))) (λ q. rw q (filter-map f t xs))
 
--- how many belong to a bucket
+-- the count of t among the bucket numbers of xs is the number of entries of xs that belong to bucket t
 pub count-map : {E : Type 0} (f : E → ℕ) (t : ℕ) (xs : List E) → count_by (λ u. u == t) (map f xs) ≡ length (filter (λ e. f e == t) xs)
 count-map f t xs = sym (length-filter (λ u. u == t) (map f xs)) ∙ ap length (filter-map f t xs) ∙ length-map (filter (λ e. f e == t) xs) f
 
--- an entry of a list, and those after it
+-- a list is the elements before number i, element x at number i, and the rest
 pub split-list : {X : Type 0} (xs : List X) (i : ℕ) (x : X) → slice_get xs i ≡ Some x → (rest : List X) × (xs ≡ take i xs ++ x ∷ rest)
 split-list [] i x e = absurd (let n : None ≡ Some x = e in cc)
 split-list (y ∷ xs) zero x e = let s : y ≡ x = cc in (xs, ap (λ z. z ∷ xs) s)
 split-list (y ∷ xs) (suc i) x e = let r = split-list xs i x e in (r.0, ap (λ z. y ∷ z) r.1)
 
--- an entry of the old array, and those after it
+-- the entries of the old array are those before the entry e, e itself, and the rest
 pub split-old : {E : Type 0} (olds : List (Shelf E)) (j s : ℕ) (e : E) → j < length olds → slice_get (shelf_entries (shelf_of olds j)) s ≡ Some e
     → (rest : List E) × (flat_map shelf_entries olds ≡ entries_before olds j s ++ e ∷ rest)
 split-old [] j s e l got = absurd (omega arith)
@@ -66,7 +66,7 @@ split-old (b ∷ olds) (suc j) s e l got =
     let ys = take s (shelf_entries (shelf_of olds j)) in
     (r.0, ap (λ z. bs ++ z) r.1 ∙ sym (append_assoc bs (xs ++ ys) (e ∷ r.0)) ∙ ap (λ z. z ++ e ∷ r.0) (sym (append_assoc bs xs ys)))
 
--- what the annotations say of them
+-- `owed_before` lists the buckets of the entries that stand before slot s of old bucket j
 pub owed-before : {E : Type 0} (f : E → ℕ) (olds : List (Shelf E)) (j s : ℕ) → j < length olds → owed_before (map (λ b. map f (shelf_entries b)) olds) j s ≡ map f (entries_before olds j s)
 owed-before f [] j s l = absurd (omega arith)
 owed-before f (b ∷ olds) zero s l = map-take f s (shelf_entries b)
@@ -90,7 +90,7 @@ spot-own (w ∷ ws) hs n p l down =
     let after : Place = spot_by n (slice_get (get_or hs (p.bucket - n) []) p.slot) (owed_before hs (p.bucket - n) p.slot) in
     ap (λ b. cond b (cond (get_or (w ∷ ws) p.bucket false) none p) after) before ∙ ap (λ b. cond b none p) down
 
--- one of a bucket that waits is none
+-- a place in a waiting bucket has no spot in any of the n buckets
 pub spot-none : (ws : List Bool) (hs : List (List ℕ)) (n : ℕ) (p : Place) → p.bucket < n → waits_at ws p.bucket ≡ true → spot_in ws hs n p ≡ record { bucket = n; slot = 0 }
 spot-none [] hs n p l up = absurd (let z : false ≡ true = up in cc)
 spot-none (w ∷ ws) hs n p l up =
@@ -99,7 +99,7 @@ spot-none (w ∷ ws) hs n p l up =
     let after : Place = spot_by n (slice_get (get_or hs (p.bucket - n) []) p.slot) (owed_before hs (p.bucket - n) p.slot) in
     ap (λ b. cond b (cond (get_or (w ∷ ws) p.bucket false) none p) after) before ∙ ap (λ b. cond b none p) up
 
--- one of the old array is that of the bucket that its entry waits for
+-- the spot of a place of the old array is in the bucket that the entry belongs to
 pub spot-old : (ws : List Bool) (hs : List (List ℕ)) (n j : ℕ) (p : Place) → 0 < length ws → p.bucket ≡ n + j → spot_in ws hs n p ≡ spot_by n (slice_get (get_or hs j []) p.slot) (owed_before hs j p.slot)
 spot-old [] hs n j p some at = absurd (omega arith)
 spot-old (w ∷ ws) hs n j p some at =
@@ -123,7 +123,7 @@ owed-within f [] j s l = absurd (let z : s < 0 = l in omega arith)
 owed-within f (b ∷ olds) zero s l = let m = length-map (shelf_entries b) f in (omega arith, omega arith)
 owed-within f (b ∷ olds) (suc j) s l = let r = owed-within f olds j s l in (let q = r.0 in omega arith, r.1)
 
--- what a place is: one of a list of the new array, or one of the old array
+-- a place is in the list of a bucket of the current array that doesn't wait, or in the old array
 pub data PlaceKind {E S : Type 0} (c : Contents E S) (ws : List Bool) (olds : List (Shelf E)) (p : Place) : Type 0 where
   own : spots.IsSpot c p → waits_at ws p.bucket ≡ false → PlaceKind c ws olds p
   old : (j : ℕ) → p.bucket ≡ bucket_count c + j → j < length olds → p.slot < length (shelf_entries (shelf_of olds j)) → PlaceKind c ws olds p
@@ -135,7 +135,7 @@ module _ {E S : Type 0} (hash : E → ℕ) (c : Contents E S) (ws : List Bool) (
       ap (λ w. spot_in w (owed_of d) (bucket_count d) p) (waiting-together hash c ws olds) ∙ ap (λ h. spot_in ws h (bucket_count d) p) (owed-together hash c ws olds)
       ∙ ap (λ m. spot_in ws (owed_in (target_by hash c) ws olds) m p) (count-together hash c ws olds arrays.flags)
 
-  -- a bucket that doesn't wait has its own list
+  -- in the contents of both arrays, a bucket that doesn't wait has its own list
   pub own-list : (i : ℕ) → i < bucket_count c → waits_at ws i ≡ false → list_of (together hash c ws olds) i ≡ list_of c i
   unfolding list_of lists_of
   own-list i l down = elim arrays.flags [
@@ -159,7 +159,7 @@ module _ {E S : Type 0} (hash : E → ℕ) (c : Contents E S) (ws : List Bool) (
         } in
         subst (λ z. spots.IsSpot d z) (sym own-spot) at
 
-    -- what stands there in the list of the new array stands there among all entries
+    -- the entry at p in the current array stands at p among all entries
     pub own-get : (e : E) → slice_get (list_of c p.bucket) p.slot ≡ Some e → slice_get (entries (together hash c ws olds)) (index_of (together hash c ws olds) p) ≡ Some e
     own-get e got =
         let d = together hash c ws olds in
@@ -170,7 +170,7 @@ module _ {E S : Type 0} (hash : E → ℕ) (c : Contents E S) (ws : List Bool) (
         ap (λ q. slice_get (entries d) (spots.index_of_spot d q)) own-spot ∙ place-get d p at e (ap (λ z. slice_get z p.slot) (own-list p.bucket l down) ∙ got)
 
   module _ (j s : ℕ) (e : E) (lj : j < length olds) (got : slice_get (shelf_entries (shelf_of olds j)) s ≡ Some e) where
-    -- the entries of the same bucket before it
+    -- how many entries of the bucket of e stand before e in the old array
     abbrev pub rank_of : ℕ
     rank_of = length (bound_for hash (settings_of c).skipped (bucket_count c) (target_by hash c e) (entries_before olds j s))
 
@@ -184,7 +184,7 @@ module _ {E S : Type 0} (hash : E → ℕ) (c : Contents E S) (ws : List Bool) (
         let bs = entries_before olds j s in
         (bound_for hash t n i r.0, ap (bound_for hash t n i) r.1 ∙ bound_append hash t n i bs (e ∷ r.0) ∙ ap (λ z. bound_for hash t n i bs ++ z) (bound_here hash t n i e r.0 refl))
 
-    -- its bucket waits
+    -- the bucket of e waits
     pub old-waits : waits_at ws (target_by hash c e) ≡ true
     old-waits = by_answer (waits_at ws (target_by hash c e)) (λ q. q)
         (λ q.
@@ -202,7 +202,7 @@ module _ {E S : Type 0} (hash : E → ℕ) (c : Contents E S) (ws : List Bool) (
     pub old-within : target_by hash c e < bucket_count c
     old-within = let l = up-within ws (target_by hash c e) old-waits in omega (arith, old-long)
 
-    -- it stands in the list of that bucket
+    -- the list of the bucket of e has e at the slot `rank_of`
     pub old-list : slice_get (list_of (together hash c ws olds) (target_by hash c e)) rank_of ≡ Some e
     old-list =
         let i = target_by hash c e in
@@ -233,14 +233,14 @@ module _ {E S : Type 0} (hash : E → ℕ) (c : Contents E S) (ws : List Bool) (
       pub old-place : IsPlace (together hash c ws olds) p
       old-place = subst (λ q. spots.IsSpot (together hash c ws olds) q) (sym old-spot) old-there
 
-      -- and there among all entries
+      -- e stands at p among all entries
       pub old-get : slice_get (entries (together hash c ws olds)) (index_of (together hash c ws olds) p) ≡ Some e
       old-get =
           let d = together hash c ws olds in
           let q : Place = record { bucket = target_by hash c e; slot = rank_of } in
           ap (λ z. slice_get (entries d) (spots.index_of_spot d z)) old-spot ∙ place-get d q old-there e old-list
 
-  -- a place is of one of the two kinds
+  -- each place is of one of the two kinds of `PlaceKind`
   pub place-kind : (p : Place) → IsPlace (together hash c ws olds) p → PlaceKind c ws olds p
   place-kind p h =
       let d = together hash c ws olds in
@@ -277,14 +277,14 @@ module _ {E S : Type 0} (hash : E → ℕ) (c : Contents E S) (ws : List Bool) (
   kind-at : PlaceKind c ws olds p
   kind-at = place-kind hash c ws olds arrays p (subst (λ x. IsPlace x p) (sym view) h)
 
-  -- below the number of buckets it is one of the new array
+  -- if the bucket of p is below the number of buckets, p is a place of the current array
   pub own-at : p.bucket < bucket_count c → spots.IsSpot c p × (waits_at ws p.bucket ≡ false)
   own-at l = elim kind-at [
     | own at down ↦ (at, down)
     | old j at lj ls ↦ absurd (omega arith)
   ]
 
-  -- from there on it is one of the old array
+  -- if the bucket of p is not below the number of buckets, p is a place of the old array
   pub old-at : (n : ℕ) → n ≡ bucket_count c → n ≤ p.bucket → (p.bucket ≡ bucket_count c + (p.bucket - n)) × (p.bucket - n < length olds) × (p.slot < length (shelf_entries (shelf_of olds (p.bucket - n))))
   old-at n count far = elim kind-at [
     | own at down ↦ absurd (let l = at.bucket in omega arith)

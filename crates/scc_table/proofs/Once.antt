@@ -1,4 +1,4 @@
--- What keeps an insertion from a resize, and room that is made before it.
+-- When an insertion makes no resize, and room that is made before an insertion.
 use Rattle.std.proofs.Common.{◌≡◌, ◌≢◌, ℕ, ◌<◌, ◌⊎◌, inl, inr, true, [], replicate, refl, sym, ap, ◌∙◌, arith}
 use Rattle.std.specs.List.{count_by}
 use Rattle.std.proofs.lemmas.Bool.{cases_order}
@@ -9,7 +9,7 @@ use Rattle.scc_table.proofs.InstallingLemmas.{count-up}
 use Rattle.scc_table.proofs.Same.{count-same, entries-same, pending-same}
 
 module _ {E S K : Type 0} (hash : K → ℕ) (key : E → K) (c d : Contents E S) (h : ℕ) where
-  -- where all is made that an insertion wants, the number of buckets stays
+  -- if an insertion is prepared, the number of buckets stays
   pub once-made : Grows c d → (HasRoomAt hash key c h → bucket_count d ≡ bucket_count c) → (0 < bucket_count c → (0 < pending_of c) ⊎ ((refused_of c).1 ≡ true) → bucket_count d ≡ bucket_count c)
       → IsPreparedAt hash key c h → bucket_count d ≡ bucket_count c
   once-made growth room once ready =
@@ -53,7 +53,7 @@ module _ {E S : Type 0} (a b d : Contents E S) (lists : lists_of d ≡ lists_of 
   grows-lists : Grows a b → Grows a d
   grows-lists g = let n = count-same b d lists in record { first = rw n g.first; half = rw n g.half; below = rw n g.below; doubled = rw n g.doubled; not_waiting = rw n g.not_waiting }
 
-  -- what is made of room: the same where a mark is set afterwards
+  -- if room is made from a to b, and d is b with another note and mark, `Prepares` holds from a to d
   pub room-marked : {K : Type 0} (hash : K → ℕ) (key : E → K) (h : ℕ) → waiting_of d ≡ waiting_of b
       → Rests a b → Grows a b → (HasRoomAt hash key a h → b ≡ a) → (0 < bucket_count a → bucket_count b ≢ bucket_count a → waiting_of b ≡ replicate (bucket_count b) true) → (bucket_count a ≡ 0 → waiting_of b ≡ [])
       → (0 < bucket_count a → bucket_count b ≡ bucket_count a → lists_of b ≡ lists_of a) → (0 < bucket_count a → bucket_count b ≡ bucket_count a → waiting_of b ≡ waiting_of a)

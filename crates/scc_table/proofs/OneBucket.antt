@@ -1,4 +1,4 @@
--- What a table's invariant says of one bucket.
+-- What the invariant of a table says of one bucket.
 use Rattle.std.proofs.Common.{◌≡◌, ℕ, ◌+◌, ◌-◌, ◌<◌, ◌≤◌, Bool, true, false, List, length, map, set, get_or, sym, ap, ◌∙◌, arith}
 use Rattle.std.specs.List.{flat_map, IsDistinct}
 use Rattle.std.proofs.lemmas.List.{get_or_read}
@@ -25,15 +25,15 @@ use Rattle.scc_table.proofs.SearchingLemmas.{not_true}
 use Rattle.scc_table.proofs.Viewed.{count-seen, pending-seen, settings-seen, waiting-seen}
 
 module _ {E K S : Type 0} {eq : K → K → Bool} {key : E → K} {hash : K → ℕ} {c : Contents E S} {drain : Draining E} {skipped : ℕ} (inv : IsTable eq key hash c drain skipped) where
-  -- a bucket that is seen to wait has its flag
+  -- if bucket i of the contents a waits, its flag is up
   pub flag-up : {a : Contents E S} (i : ℕ) → together (λ e. hash (key e)) c drain.waiting drain.array ≡ a → IsWaiting a i → waits_at drain.waiting i ≡ true
   flag-up {a} i view waits = ap (λ w. waits_at w i) (sym (waiting-seen (λ e. hash (key e)) c drain.waiting drain.array a view)) ∙ waits
 
-  -- and one that is seen not to wait has it down
+  -- if bucket i of the contents a doesn't wait, its flag is down
   pub flag-down : {a : Contents E S} (i : ℕ) → together (λ e. hash (key e)) c drain.waiting drain.array ≡ a → waits_at (waiting_of a) i ≡ false → waits_at drain.waiting i ≡ false
   flag-down {a} i view down = ap (λ w. waits_at w i) (sym (waiting-seen (λ e. hash (key e)) c drain.waiting drain.array a view)) ∙ down
 
-  -- the present array has as many buckets as are seen, and each hash has the same one
+  -- the current array has as many buckets as the contents a, and a hash has the same bucket in a and in c
   pub within-own : {a : Contents E S} {i : ℕ} → together (λ e. hash (key e)) c drain.waiting drain.array ≡ a → i < bucket_count a → i < bucket_count c
   within-own {a} view l = let count = count-seen (λ e. hash (key e)) c drain.waiting drain.array a view inv.arrays.flags in omega (arith, l, count)
 
@@ -48,11 +48,11 @@ module _ {E K S : Type 0} {eq : K → K → Bool} {key : E → K} {hash : K → 
   pub flag-free : {a : Contents E S} (i : ℕ) → together (λ e. hash (key e)) c drain.waiting drain.array ≡ a → (IsWaiting a i → ⊥) → waits_at drain.waiting i ≡ false
   flag-free {a} i view free = not_true (waits_at drain.waiting i) (λ up. free (ap (λ w. waits_at w i) (waiting-seen (λ e. hash (key e)) c drain.waiting drain.array a view) ∙ up))
 
-  -- a place that is seen below the number of buckets is one of the present array, in a bucket that doesn't wait
+  -- a place of a below the number of buckets is a place of the current array, in a bucket that doesn't wait
   pub own-here : {a : Contents E S} (p : Place) → together (λ e. hash (key e)) c drain.waiting drain.array ≡ a → IsPlace a p → p.bucket < bucket_count c → spots.IsSpot c p × (waits_at drain.waiting p.bucket ≡ false)
   own-here {a} p view place = own-at (λ e. hash (key e)) c drain.waiting drain.array inv.arrays a view p place
 
-  -- and one from there on is one of the old array
+  -- a place of a that is not below the number of buckets is a place of the old array
   pub old-here : {a : Contents E S} (p : Place) → together (λ e. hash (key e)) c drain.waiting drain.array ≡ a → IsPlace a p → (n : ℕ) → n ≡ bucket_count c → n ≤ p.bucket
       → (p.bucket ≡ bucket_count c + (p.bucket - n)) × (p.bucket - n < length drain.array) × (p.slot < length (shelf_entries (shelf_of drain.array (p.bucket - n))))
   old-here {a} p view place = old-at (λ e. hash (key e)) c drain.waiting drain.array inv.arrays a view p place
@@ -73,25 +73,25 @@ module _ {E K S : Type 0} {eq : K → K → Bool} {key : E → K} {hash : K → 
     pub unique-coming : IsDistinct eq (map key (flat_map (λ l. l) (set (lists_of c) i (bound_for (λ e. hash (key e)) skipped (bucket_count c) i (flat_map shelf_entries drain.array)))))
     unique-coming = rw inv.skips (unique-before (λ e. hash (key e)) c drain.waiting drain.array inv.arrays i up flags-whole eq key inv.unique)
 
-    -- its list is that of its entries in the old array
+    -- the list of the waiting bucket i has the entries of the old array that belong to bucket i
     pub list-coming : {a : Contents E S} → together (λ e. hash (key e)) c drain.waiting drain.array ≡ a → list_of a i ≡ bound_for (λ e. hash (key e)) (settings_of c).skipped (bucket_count c) i (flat_map shelf_entries drain.array)
     list-coming view = ap (λ z. list_of z i) (sym view) ∙ waiting-list (λ e. hash (key e)) c drain.waiting drain.array inv.arrays i up flags-whole
 
-    -- there is an annotation for each old bucket
+    -- `owed_of` has one list for each old bucket
     pub owed-length : {a : Contents E S} → together (λ e. hash (key e)) c drain.waiting drain.array ≡ a → length (owed_of a) ≡ length drain.array
     owed-length view = ap (λ d. length (owed_of d)) (sym view) ∙ owed-count (λ e. hash (key e)) c drain.waiting drain.array inv.arrays i up
 
     pub some-pending : 1 ≤ drain.pending
     some-pending = let fewer = one-down drain.waiting i (up-within drain.waiting i up) up in omega (arith, inv.counted, fewer)
 
-  -- the old array has as many entries as come from it
+  -- a relocation moves at most as many entries as the old array holds
   pub moved-within : {i n : ℕ} {d : Contents E S} {news : List (Shelf E)} → TakesOver (λ e. hash (key e)) i n c drain.array d news → n ≤ drain.left
   moved-within {i} {n} takes =
       let le = bound-le (λ e. hash (key e)) (settings_of c).skipped (bucket_count c) i (flat_map shelf_entries drain.array) in
       let all = inv.left_is ∙ sym (length-flat_map shelf_entries drain.array) in
       omega (arith, takes.moved, le, all)
 
-  -- where some bucket waits, there is a flag for each of some buckets
+  -- if some bucket waits, there are buckets, and each has a flag
   module _ {a : Contents E S} (view : together (λ e. hash (key e)) c drain.waiting drain.array ≡ a) (pending : 0 < pending_of a) where
     flags-all : length drain.waiting ≡ bucket_count c
     flags-all = let counted = pending-seen (λ e. hash (key e)) c drain.waiting drain.array a view in flags-length c drain.waiting drain.pending inv.arrays.flags inv.counted (omega (arith, counted, inv.counted, pending))
@@ -106,11 +106,11 @@ module _ {E K S : Type 0} {eq : K → K → Bool} {key : E → K} {hash : K → 
     pub index-within : {i : ℕ} → (0 < bucket_count c → i < bucket_count c) → i < length drain.waiting
     index-within within = let l = bucket-within within in let long = flags-all in omega (arith, l, long)
 
-    -- the flag that is read is that of the bucket
+    -- the flag that is read is the flag of bucket i
     pub flag-read : {i : ℕ} {r : Bool} → (0 < bucket_count c → i < bucket_count c) → r ≡ get_or drain.waiting i r → r ≡ waits_at drain.waiting i
     flag-read {i} {r} within read = get_or_read drain.waiting i r (index-within within) read false
 
-  -- the old bucket of a hash
+  -- the old bucket of a hash is a bucket of the old array
   pub source-within : (i : ℕ) {j n : ℕ} → waits_at drain.waiting i ≡ true → n ≡ length drain.array → (0 < n → j < n) → j < length drain.array
   source-within i up len within =
       let least = (old-sized i up).least in

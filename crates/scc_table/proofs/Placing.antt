@@ -1,4 +1,4 @@
--- Where an entry stands that was put in, once other buckets took their entries over.
+-- Where an inserted entry stands after other buckets are relocated.
 use Rattle.std.proofs.Common.{◌≡◌, ◌==◌, ◌≢◌, ℕ, ◌+◌, ◌-◌, ◌<◌, ◌≤◌, inl, Bool, true, false, not, List, [], ◌∷◌, length, get_or, drop, take, Some, refl, sym, ap, ◌∙◌, subst, arith, eq-eqb, get_or-set_other}
 use Rattle.std.specs.List.{filter, flat_map, count_by, insert, slice_get}
 use Rattle.std.specs.List.Sorted.{IsPermutation}
@@ -30,7 +30,7 @@ pub index-same : {E S : Type 0} (c d : Contents E S) (p : Place) → lists_of d 
 unfolding lists_of spots.index_of_spot
 index-same c d p same = ap (λ ls. length (flat_map (λ l. l) (take p.bucket ls)) + p.slot) same
 
--- a list of 32 entries leaves no room
+-- if the list of a key's bucket has 32 entries or more, the key has no room
 pub long-none : {E K S : Type 0} (key : E → K) (hash : K → ℕ) (c : Contents E S) → IsRouted (λ e. hash (key e)) c → (k : K) (i : ℕ) → i < bucket_count c → i ≡ bucket_number (settings_of c).skipped (bucket_count c) (hash k) → 32 ≤ length (list_of c i) → HasRoomBy hash key c k → ⊥
 long-none {E} key hash c routed k i l at long r =
     let p : E → Bool = λ e. bucket_of hash c (key e) == bucket_of hash c k in
@@ -79,7 +79,7 @@ module _ {E S : Type 0} (c : Contents E S) (i : ℕ) (e : E) (m : Contents E S) 
         let spot : spot_of d p ≡ p = spot-own (waiting_of d) (owed_of d) (bucket_count d) p (there.within.bucket) low in
         subst (spots.IsInsertedAtSpot c e d) (sym spot) there
 
--- an insertion after a bucket took its entries over
+-- an insertion after bucket i is relocated
 module _ {E S : Type 0} (i : ℕ) (c d : Contents E S) (r : IsRelocated i c d) where
   pub relocated-fewer : (k : ℕ) → IsWaiting d k → IsWaiting c k
   relocated-fewer k h = settle-down (waiting_of c) i k (ap (λ ws. waits_at ws k) (sym r.waiting) ∙ h)
@@ -98,7 +98,7 @@ module _ {E S : Type 0} (i : ℕ) (c d : Contents E S) (r : IsRelocated i c d) w
       let one : length rest + 2 - length (pending_targets c) ≡ 1 = omega arith in
       h ∙ ap (drop 1) same ∙ ap (λ k. drop k rest) (sym one)
 
-  -- and another one at most after it
+  -- if at most one other bucket is relocated after bucket i, `AreMovedBeside` holds
   pub moved-relocated : (f : Contents E S) → AreMovedFrom (pending_targets d) 1 f → AreMovedBeside i (pending_targets c) f
   moved-relocated f h =
       let rest = filter (λ t. not (t == i)) (pending_targets c) in
@@ -107,7 +107,7 @@ module _ {E S : Type 0} (i : ℕ) (c d : Contents E S) (r : IsRelocated i c d) w
       let one : length rest + 2 - length (pending_targets c) ≡ 1 = omega arith in
       subst (λ k. AreMovedFrom rest k f) (sym one) (subst (λ ts. AreMovedFrom ts 1 f) same h)
 
--- where the bucket doesn't wait, two others go at most
+-- if bucket i doesn't wait and at most two others are relocated, `AreMovedBeside` holds
 pub moved-not_waiting : {E S : Type 0} (i : ℕ) (c f : Contents E S) → waits_at (waiting_of c) i ≡ false → AreMovedFrom (pending_targets c) 2 f → AreMovedBeside i (pending_targets c) f
 moved-not_waiting i c f down h =
     let all = pending_targets c in
@@ -116,7 +116,7 @@ moved-not_waiting i c f down h =
     let two : length rest + 2 - length all ≡ 2 = let x = ap length same in omega arith in
     subst (λ k. AreMovedFrom rest k f) (sym two) (subst (λ ts. AreMovedFrom ts 2 f) (sym same) h)
 
--- where none waits before and after, none took entries over
+-- if no bucket waits before and none waits afterwards, no bucket is relocated, and `AreMovedBeside` holds
 pub moved-nothing : {E S : Type 0} (i : ℕ) (c f : Contents E S) → pending_of c ≡ 0 → pending_of f ≡ 0 → AreMovedBeside i (pending_targets c) f
 moved-nothing i c f none left =
     let before : pending_targets c ≡ [] = nil_from_length (pending_targets c) (targets-length c ∙ none) in
@@ -124,7 +124,7 @@ moved-nothing i c f none left =
     let nothing : AreMovedBeside i [] f = record { count = 0; most = omega arith; left = after; stopped = λ l. inl after } in
     subst (λ ts. AreMovedBeside i ts f) (sym before) nothing
 
--- where the bucket doesn't wait, two others go
+-- if bucket i doesn't wait and the first two are relocated, the waiting buckets are those of `left_after`
 pub not_waiting-left : {E S : Type 0} (i : ℕ) (c : Contents E S) (ts : List ℕ) → waits_at (waiting_of c) i ≡ false → ts ≡ drop 2 (pending_targets c) → ts ≡ left_after i (pending_targets c)
 not_waiting-left i c ts down h =
     let all = pending_targets c in
@@ -133,13 +133,13 @@ not_waiting-left i c ts down h =
     let two : length rest + 2 - length all ≡ 2 = let x = ap length same in omega arith in
     h ∙ ap (drop 2) (sym same) ∙ ap (λ k. drop k rest) (sym two)
 
--- where none waits, none does afterwards
+-- if no bucket waits, `left_after` leaves the waiting buckets as they are: none
 pub none-left : {E S : Type 0} (i : ℕ) (c : Contents E S) (ts : List ℕ) → pending_of c ≡ 0 → ts ≡ pending_targets c → ts ≡ left_after i (pending_targets c)
 none-left i c ts none h =
     let nothing : pending_targets c ≡ [] = nil_from_length (pending_targets c) (targets-length c ∙ none) in
     h ∙ nothing ∙ sym (ap (λ z. drop (length (filter (λ t. not (t == i)) z) + 2 - length z) (filter (λ t. not (t == i)) z)) nothing ∙ drop_all 2 [] (omega arith))
 
--- there is room where there was, in the same lists
+-- if the lists and the settings stay, the room for a key stays
 pub room-same : {E K S : Type 0} (key : E → K) (hash : K → ℕ) (c d : Contents E S) → lists_of d ≡ lists_of c → settings_of d ≡ settings_of c → (k : K) → HasRoomBy hash key c k → HasRoomBy hash key d k
 room-same key hash c d lists settings k h =
     let count = count-same c d lists in

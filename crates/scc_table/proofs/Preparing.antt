@@ -1,4 +1,4 @@
--- What a bucket needs, before it takes its entries over.
+-- What holds of a bucket before it is relocated.
 use Rattle.std.proofs.Common.{◌≡◌, ◌==◌, ℕ, ◌+◌, ◌<◌, ◌≢◌, ◌⊎◌, inl, inr, Bool, true, false, cond, List, [], length, map, set, get_or, sym, ap, ◌∙◌, arith, length-set, get_or-set_same, get_or-set_other}
 use Rattle.std.specs.List.{filter, flat_map, IsDistinct}
 use Rattle.std.proofs.lemmas.List.{get_or_past}
@@ -16,7 +16,7 @@ use Rattle.scc_table.proofs.RelocatingLemmas.{up-within}
 use Rattle.scc_draining.proofs.Sublists.{flat-sub, distinct-sub}
 
 module _ {E S : Type 0} (hash : E → ℕ) (c : Contents E S) (ws : List Bool) (olds : List (Shelf E)) (arrays : TwoArrays hash c ws olds) (i : ℕ) (up : waits_at ws i ≡ true) (long : length ws ≡ bucket_count c) where
-  -- the list of a bucket that waits is that of its entries in the old array
+  -- the list of a waiting bucket has its entries of the old array
   pub waiting-list : list_of (together hash c ws olds) i ≡ bound_for hash (settings_of c).skipped (bucket_count c) i (flat_map shelf_entries olds)
   unfolding list_of lists_of
   waiting-list =
@@ -55,7 +55,7 @@ module _ {E S : Type 0} (hash : E → ℕ) (c : Contents E S) (ws : List Bool) (
         ]
       ]
 
-  -- the keys of the new array stay distinct
+  -- keys in the current array are distinct after bucket i gets its entries of the old array
   pub unique-before : {K : Type 0} (eq : K → K → Bool) (key : E → K) → IsDistinct eq (map key (entries (together hash c ws olds)))
       → IsDistinct eq (map key (flat_map (λ l. l) (set (lists_of c) i (bound_for hash (settings_of c).skipped (bucket_count c) i (flat_map shelf_entries olds)))))
   unfolding entries
@@ -76,6 +76,6 @@ module _ {E S : Type 0} (c : Contents E S) (ws : List Bool) (olds : List (Shelf 
   pub sized-flags : (ws ≡ []) ⊎ IsBucketCount (length olds) → waits_at ws i ≡ true → IsBucketCount (length olds)
   sized-flags h up = elim h [ inl z ↦ some-flag up z | inr z ↦ z ]
 
--- where some bucket waits, there is a flag for each
+-- if some bucket waits, there is a flag for each bucket
 pub long-flags : {E S : Type 0} (c : Contents E S) (ws : List Bool) (i : ℕ) → (ws ≡ []) ⊎ (length ws ≡ bucket_count c) → waits_at ws i ≡ true → length ws ≡ bucket_count c
 long-flags c ws i h up = elim h [ inl z ↦ absurd (let q : false ≡ true = ap (λ w. waits_at w i) (sym z) ∙ up in cc) | inr z ↦ z ]

@@ -1,4 +1,4 @@
--- Two arrays, into the new one of which an entry is put, in a bucket that doesn't wait.
+-- An entry is inserted into the current array of two arrays, into a bucket that doesn't wait.
 use Rattle.std.proofs.Common.{Result, Ok, Err, ◌≡◌, ◌==◌, ◌≢◌, ℕ, zero, suc, ◌+◌, ◌^◌, ◌<◌, ◌≤◌, ◌⊎◌, inl, inr, Bool, true, false, cond, List, [], ◌∷◌, length, map, set, get_or, Some, None, refl, sym, ap, ◌∙◌, subst, arith, get_or-set_other, eq-eqb}
 use Rattle.std.specs.Cmp.{IsEquivalence}
 use Rattle.std.specs.List.{filter, flat_map, count_by, insert, position, slice_get, IsDistinct}
@@ -25,7 +25,7 @@ use Rattle.scc_table.proofs.Relocated.{count-is, list-is}
 use Rattle.scc_draining.proofs.Sublists.{Sub, flat-sub}
 use Rattle.scc_table.proofs.Viewed.{count-seen, refused-seen, settings-seen, spilled-seen}
 
--- a bucket that doesn't wait has its own list, a new one too
+-- if the list of a bucket that doesn't wait becomes l, its joined list becomes l
 joined-set : {E : Type 0} (f : E → ℕ) (a : ℕ) (ws : List Bool) (ls : List (List E)) (es : List E) (i : ℕ) (l : List E) → waits_at ws i ≡ false → joined f a ws (set ls i l) es ≡ set (joined f a ws ls es) i l
 joined-set f a [] ls es i l down = refl
 joined-set f a (w ∷ ws) [] es i l down = refl
@@ -52,7 +52,7 @@ module _ {E K S : Type 0} (key : E → K) (hash : K → ℕ) (c : Contents E S) 
     | no l ↦ inr (get_or_past (lists_of c) k [] (omega (arith, count-is c)))
   ]
 
-  -- the entries of the new array are a part of all
+  -- the entries of the current array are a sublist of all entries
   pub own-sub : Sub (entries c) (entries d)
   own-sub =
       let n : length (lists_of c) ≡ length (lists_of d) = sym (count-is c) ∙ sym counts ∙ count-is d in
@@ -67,7 +67,7 @@ module _ {E K S : Type 0} (key : E → K) (hash : K → ℕ) (c : Contents E S) 
   passes : (k : K) → (e : E) → (bucket_of hash d (key e) == bucket_of hash d k) ≡ (bucket_of hash c (key e) == bucket_of hash c k)
   passes k e = ap (λ n. n == bucket_of hash d k) (same-bucket (key e)) ∙ ap (λ n. bucket_of hash c (key e) == n) (same-bucket k)
 
-  -- where there is room among all, there is in the new array
+  -- if a key has room in both arrays together, it has room in the current array
   pub room-own : (k : K) → HasRoomBy hash key d k → HasRoomBy hash key c k
   room-own k h =
       let less = count-sub (λ e. bucket_of hash c (key e) == bucket_of hash c k) own-sub in
@@ -77,7 +77,7 @@ module _ {E K S : Type 0} (key : E → K) (hash : K → ℕ) (c : Contents E S) 
       let few = h.1 in
       (omega (arith, h.0, counts), omega arith)
 
-  -- a list of 32 entries leaves no room
+  -- if the list of a key's bucket has 32 entries or more, the key has no room
   pub long-full : IsRouted (λ e. hash (key e)) c → (k : K) (i : ℕ) → i < bucket_count c → waits_at ws i ≡ false → i ≡ bucket_number (settings_of c).skipped (bucket_count c) (hash k) → 32 ≤ length (list_of c i) → HasRoomBy hash key d k → ⊥
   long-full routed k i l down at long h =
       let r = room-own k h in
@@ -95,7 +95,7 @@ module _ {E K S : Type 0} (key : E → K) (hash : K → ℕ) (c : Contents E S) 
     same-target : target_by (λ x. hash (key x)) b ≡ target_by (λ x. hash (key x)) c
     same-target = target-kept (λ x. hash (key x)) c b (ap (λ s. s.skipped) put.settings) (put-count c i e b p put l)
 
-    -- all entries have it in that list too
+    -- the entry is inserted into the list of bucket i in both arrays together, too
     pub put-together : IsPutIn d i e (together (λ x. hash (key x)) b ws olds) p
     put-together =
         let h : E → ℕ = λ x. hash (key x) in
@@ -129,7 +129,7 @@ module _ {E K S : Type 0} (key : E → K) (hash : K → ℕ) (c : Contents E S) 
           list-is b k ∙ ap (λ z. get_or z k []) put.lists ∙ get_or-set_other (lists_of c) i k (insert (list_of c i) p.slot e) [] apart ∙ sym (list-is c k) ∙ arrays.bare k up;
     }
 
--- of all fields then
+-- the invariant `IsTable` holds after the insertion
 pub fields-put : {E K S : Type 0} (eq : K → K → Bool) (laws : IsEquivalence eq) (key : E → K) (hash : K → ℕ) (c : Contents E S) (drain : Draining E) (skipped : ℕ) (inv : IsTable eq key hash c drain skipped) (d : Contents E S)
     → together (λ e. hash (key e)) c drain.waiting drain.array ≡ d → (e : E) (i : ℕ) (b : Contents E S) (p : Place) → IsPutIn c i e b p → i < bucket_count c → waits_at drain.waiting i ≡ false → overflow_of b + drain.left_overflow < 2 ^ 62 → position (λ x. eq (key e) (key x)) (entries d) ≡ None
     → IsTable eq key hash b drain skipped
@@ -150,7 +150,7 @@ fields-put {E} eq laws key hash c drain skipped inv d view e i b p put l down fe
       unique = unique-inserted laws key e (entries d) (entries (together (λ x. hash (key x)) b drain.waiting drain.array)) (subst (λ z. IsDistinct eq (map key (entries z))) view inv.unique) absent (put-permuted d i e (together (λ x. hash (key x)) b drain.waiting drain.array) p there within);
     }
 
--- where nothing was put in
+-- if nothing is inserted into the current array, the contents of both arrays keep their lists
 pub same-together : {E S : Type 0} (hash : E → ℕ) (c d : Contents E S) (ws : List Bool) (olds : List (Shelf E)) → HasSameLists c d → HasSameLists (together hash c ws olds) (together hash d ws olds)
 same-together hash c d ws olds z = record {
   lists = lists-kept hash c d ws olds z.lists (ap (λ s. s.skipped) z.settings);
@@ -159,7 +159,7 @@ same-together hash c d ws olds z = record {
   spilled = let s = spilled-together hash c ws olds in let t = spilled-together hash d ws olds in omega (arith, z.spilled);
 }
 
--- the keys stay distinct, whatever the answer was
+-- the keys stay distinct, whether the insertion fails or not
 pub unique-answered : {E K S X : Type 0} {eq : K → K → Bool} (laws : IsEquivalence eq) {key : E → K} {hash : K → ℕ} {c : Contents E S} {drain : Draining E} {skipped : ℕ} (inv : IsTable eq key hash c drain skipped) {a : Contents E S} → together (λ e. hash (key e)) c drain.waiting drain.array ≡ a → (e : E) (i : ℕ)
     (b : Contents E S) (r : Result Place X) → IfOk r (IsPutIn c i e b) → OnErr r (HasSameLists c b) → i < bucket_count c → waits_at drain.waiting i ≡ false → position (λ x. eq (key e) (key x)) (entries a) ≡ None → IsDistinct eq (map key (entries (together (λ x. hash (key x)) b drain.waiting drain.array)))
 unique-answered {eq = eq} laws {key} {hash} {c} {drain} inv {a} view e i b (Ok p) put stays l down absent =

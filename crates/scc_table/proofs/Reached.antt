@@ -11,7 +11,7 @@ use Rattle.scc_buckets.proofs.Standing.{index-below}
 use Rattle.scc_table.specs.Placed.{spot-with_write_at}
 use Rattle.scc_table.specs.Places.{IsPlace, StandsAt, index_of, spot_of, with_write_at}
 
--- how many entries stand before the place of a walk, all where it is over
+-- how many entries stand before the place of a walk; all entries, if the walk is over
 abbrev pub reached : {E S : Type 0} → Contents E S → Option Place → ℕ
 reached c None = length (entries c)
 reached c (Some p) = index_of c p
@@ -35,7 +35,7 @@ walk_spot c None = None
 walk_spot c (Some p) = Some (spot_of c p)
 
 module _ {E S : Type 0} (c : Contents E S) where
-  -- where a walk goes on, by the spot of its place
+  -- if a walk goes on at a place, it goes on at the spot of this place
   pub stands-spot : (A : Type 0) (i : ℕ) (o : Option Place) → MatchOption o A (StandsAt c i) → MatchOption (walk_spot c o) A (standing.StandsAtSpot c i)
   stands-spot A i None h = h
   stands-spot A i (Some p) h = h
@@ -55,15 +55,15 @@ all-taken (x ∷ xs) zero h = absurd (omega arith)
 all-taken (x ∷ xs) (suc i) h = ap (λ z. x ∷ z) (all-taken xs i (omega arith))
 
 module _ {F K V : Type 0} {T : F → K × V → Bool → F → Type 0} where
-  -- one pair more
+  -- a walk over es that goes on with one more pair is a walk over es and this pair
   pub walk-more : (es : List (K × V)) {f f' f'' : F} {p : K × V} → Walks T f es true f' → T f' p true f'' → Walks T f (es ++ p ∷ []) true f''
   walk-more es w t = walk-append w (went_on t ended)
 
-  -- the pair at which it ends, of all
+  -- a walk over es that ends at the next pair is a walk over es, this pair and the rest
   pub walk-ends : (es rest : List (K × V)) {f f' f'' : F} {p : K × V} → Walks T f es true f' → T f' p false f'' → Walks T f (es ++ p ∷ rest) false f''
   walk-ends es rest w t = walk-append w (stopped t)
 
--- a list, at one of its elements
+-- a list is the elements before number i, element x at number i, and the elements after it
 pub split-at : {X : Type 0} (es : List X) (i : ℕ) (x : X) → slice_get es i ≡ Some x → es ≡ take i es ++ x ∷ drop (suc i) es
 split-at [] i x e = absurd (let h : None ≡ Some x = e in cc)
 split-at (y ∷ es) zero x e = let h : y ≡ x = cc in ap (λ z. z ∷ es) h

@@ -1,4 +1,4 @@
--- The fields of a table of two arrays, once a bucket took its entries over.
+-- The fields of a table of two arrays after a bucket is relocated.
 use Rattle.std.proofs.Common.{◌≡◌, ◌==◌, ℕ, suc, ◌+◌, ◌-◌, ◌^◌, ◌<◌, ◌≤◌, ◌≢◌, inl, inr, Bool, true, false, not, List, [], ◌∷◌, length, map, set, get_or, refl, sym, ap, ◌∙◌, subst, arith, length-set, get_or-set_same, get_or-set_other, eq-eqb}
 use Rattle.std.specs.List.{filter, flat_map, count_by, sum_by, IsDistinct}
 use Rattle.std.proofs.lemmas.List.Concat.{length-flat_map}
@@ -40,7 +40,7 @@ spilled-le {E} (a ∷ olds) (b ∷ news) l h =
     let goal_is : sum_by f (b ∷ news) ≤ sum_by f (a ∷ olds) = omega arith in
     goal_is
 
--- the flags afterwards: bucket i doesn't wait, and there are none where no other does
+-- the flags after bucket i is relocated: bucket i doesn't wait, and if no other bucket waits, there are no flags
 pub data Settles (ws : List Bool) (i : ℕ) (vs : List Bool) : Type 0 where
   others : vs ≡ set ws i false → 0 < count_by (λ w. w) (set ws i false) → Settles ws i vs
   last : vs ≡ [] → count_by (λ w. w) (set ws i false) ≡ 0 → Settles ws i vs
@@ -130,7 +130,7 @@ module _ {E S : Type 0} (hash : E → ℕ) (i n : ℕ) (c d : Contents E S) (ws 
   unfolding entries
   entries-after = ap (flat_map (λ l. l)) joined-after
 
-  -- the old array has as many entries less
+  -- the old array loses n entries
   pub owed-left : sum_by (λ b. length (shelf_entries b)) olds ≡ n + sum_by (λ b. length (shelf_entries b)) news
   owed-left =
       let es = flat_map shelf_entries olds in
@@ -142,7 +142,7 @@ module _ {E S : Type 0} (hash : E → ℕ) (i n : ℕ) (c d : Contents E S) (ws 
       let b = length-flat_map shelf_entries news in
       omega arith
 
--- of all fields, where another bucket waits still
+-- the invariant `IsTable` holds after bucket i is relocated, if another bucket still waits
 pub fields-after : {E K S : Type 0} (eq : K → K → Bool) (key : E → K) (hash : K → ℕ) (i n : ℕ) (c d : Contents E S) (drain : Draining E) (vs : List Bool) (news : List (Shelf E)) (skipped : ℕ)
     → IsTable eq key hash c drain skipped → waits_at drain.waiting i ≡ true → TakesOver (λ e. hash (key e)) i n c drain.array d news → vs ≡ set drain.waiting i false → 0 < count_by (λ w. w) (set drain.waiting i false) → overflow_of d + drain.left_overflow < 2 ^ 62
     → IsTable eq key hash d (record drain { array = news; waiting = vs; pending = drain.pending - 1; left = drain.left - n }) skipped
@@ -171,11 +171,11 @@ fields-after {E} eq key hash i n c d drain vs news skipped inv up takes down som
       unique = subst (λ z. IsDistinct eq (map key z)) (sym (entries-after h i n c d drain.waiting vs drain.array news inv.arrays up takes settles)) inv.unique;
     }
 
--- nothing lies in the old array once its last bucket took its entries over
+-- the old array holds no entries after the last waiting bucket is relocated
 pub bare-after : {E S : Type 0} (hash : E → ℕ) (i n : ℕ) (c d : Contents E S) (ws : List Bool) (olds news : List (Shelf E)) → TwoArrays hash c ws olds → waits_at ws i ≡ true → TakesOver hash i n c olds d news → count_by (λ w. w) (set ws i false) ≡ 0 → flat_map shelf_entries news ≡ []
 bare-after hash i n c d ws olds news arrays up takes none = nothing-owed hash d [] news refl (arrays-after hash i n c d ws [] olds news arrays up takes (last refl none))
 
--- of all fields, where no other bucket waits and the old array is given back
+-- the invariant `IsTable` holds after bucket i is relocated, if no other bucket waits and the old array is freed
 pub fields-last : {E K S : Type 0} (eq : K → K → Bool) (key : E → K) (hash : K → ℕ) (i n : ℕ) (c d : Contents E S) (drain : Draining E) (news : List (Shelf E)) (skipped : ℕ)
     → IsTable eq key hash c drain skipped → waits_at drain.waiting i ≡ true → TakesOver (λ e. hash (key e)) i n c drain.array d news → count_by (λ w. w) (set drain.waiting i false) ≡ 0 → overflow_of d + drain.left_overflow < 2 ^ 62
     → IsTable eq key hash d (record drain { array = []; waiting = []; pending = drain.pending - 1; left = drain.left - n; left_overflow = 0 }) skipped

@@ -1,4 +1,4 @@
--- What both arrays show, once a bucket took its entries over.
+-- The contents of both arrays after a bucket is relocated.
 use Rattle.std.proofs.Common.{◌≡◌, ◌==◌, ℕ, zero, suc, ◌+◌, ◌<◌, ◌≢◌, inr, Bool, true, false, not, cond, List, [], ◌∷◌, ◌++◌, length, set, get_or, refl, sym, ap, ◌∙◌, arith, rules, length-set, get_or-set_same, get_or-set_other, eqb-true}
 use Rattle.std.specs.List.{filter, flat_map, count_by}
 use Rattle.std.proofs.lemmas.List.{ext_get_or}
@@ -18,12 +18,12 @@ pub not_equal : (a b : ℕ) → a ≢ b → (a == b) ≡ false
 not_equal a b h = search rules
 
 module _ {E : Type 0} (hash : E → ℕ) (t n i : ℕ) where
-  -- the others have none of the bucket
+  -- the entries of the other buckets have no entry of bucket i
   pub bound-others_none : (es : List E) → bound_for hash t n i (others_for hash t n i es) ≡ []
   bound-others_none [] = refl
   bound-others_none (e ∷ es) = by_answer (bucket_number t n (hash e) == i) (λ q. rw q (bound-others_none es)) (λ q. rw (q, q) (bound-others_none es))
 
-  -- and all of each other bucket
+  -- the entries of the other buckets have all entries of each bucket k other than i
   pub bound-others_same : (k : ℕ) → k ≢ i → (es : List E) → bound_for hash t n k (others_for hash t n i es) ≡ bound_for hash t n k es
   bound-others_same k ne [] = refl
   bound-others_same k ne (e ∷ es) = by_answer (bucket_number t n (hash e) == i)
@@ -32,7 +32,7 @@ module _ {E : Type 0} (hash : E → ℕ) (t n i : ℕ) where
       rw (q, other) (bound-others_same k ne es))
       (λ q. rw q (ap (λ z. cond (bucket_number t n (hash e) == k) (e ∷ z) z) (bound-others_same k ne es)))
 
-  -- where each bucket keeps its others, all of them together do
+  -- if each old bucket keeps its entries of other buckets, the old array keeps the entries of other buckets
   pub flat-others : (olds news : List (Shelf E)) → length news ≡ length olds → ((j : ℕ) → j < length olds → shelf_entries (shelf_of news j) ≡ others_for hash t n i (shelf_entries (shelf_of olds j)))
       → flat_map shelf_entries news ≡ others_for hash t n i (flat_map shelf_entries olds)
   flat-others [] [] l h = refl
@@ -42,13 +42,13 @@ module _ {E : Type 0} (hash : E → ℕ) (t n i : ℕ) where
       ap (λ z. z ++ flat_map shelf_entries news) (h 0 (omega arith)) ∙ ap (λ z. others_for hash t n i (shelf_entries a) ++ z) (flat-others olds news (omega arith) (λ j q. h (suc j) (omega arith)))
       ∙ sym (filter-append (λ e. not (bucket_number t n (hash e) == i)) (shelf_entries a) (flat_map shelf_entries olds))
 
--- flags of which none is up
+-- if the number of flags that are up is 0, each flag is down
 pub none-up : (ws : List Bool) → count_by (λ w. w) ws ≡ 0 → (k : ℕ) → waits_at ws k ≡ false
 none-up [] h k = refl
 none-up (w ∷ ws) h zero = by_answer w (λ q. absurd (let s = sum_by-cons (λ x. cond x 1 0) w ws in let z : cond {A = ℕ} w 1 0 ≡ 1 = ap (λ (v : Bool). cond {A = ℕ} v 1 0) q in omega arith)) (λ q. q)
 none-up (w ∷ ws) h (suc k) = none-up ws (let s = sum_by-cons (λ x. cond x 1 0) w ws in omega arith) k
 
--- one flag less is up
+-- if each flag is down, the number of flags that are up is 0
 pub all-down : (ws : List Bool) → ((k : ℕ) → k < length ws → waits_at ws k ≡ false) → count_by (λ w. w) ws ≡ 0
 all-down [] h = refl
 all-down (w ∷ ws) h = let z : w ≡ false = h 0 (omega arith) in rw z (all-down ws (λ k l. h (suc k) (omega arith)))
@@ -59,21 +59,21 @@ one-down ws i l up =
     let z : cond {A = ℕ} (get_or ws i false) 1 0 ≡ 1 = ap (λ (w : Bool). cond {A = ℕ} w 1 0) up in
     omega arith
 
--- a flag that is up has a bucket
+-- the number of a flag that is up is below the number of flags
 pub up-within : (ws : List Bool) (i : ℕ) → waits_at ws i ≡ true → i < length ws
 up-within [] i h = absurd (let z : false ≡ true = h in cc)
 up-within (w ∷ ws) zero h = omega arith
 up-within (w ∷ ws) (suc i) h = let l = up-within ws i h in omega arith
 
 module _ {E : Type 0} (target : E → ℕ) (es : List E) where
-  -- where no bucket waits, the lists are those of the new array
+  -- if no bucket waits, the joined lists are those of the current array
   pub joined-none : (a : ℕ) (ws : List Bool) (ls : List (List E)) → length ws ≡ length ls → ((k : ℕ) → waits_at ws k ≡ false) → joined target a ws ls es ≡ ls
   joined-none a [] ls l h = refl
   joined-none a (w ∷ ws) [] l h = absurd (omega arith)
   joined-none a (w ∷ ws) (x ∷ ls) l h =
       ap (λ (v : Bool). cond v (filter (λ e. target e == a) es) x ∷ joined target (suc a) ws ls es) (h 0) ∙ ap (λ z. x ∷ z) (joined-none (suc a) ws ls (omega arith) (λ k. h (suc k)))
 
-  -- a bucket that takes its entries over changes no list
+  -- the relocation of a bucket changes no joined list
   pub joined-moved : (os : List E) (ws : List Bool) (ls : List (List E)) (i : ℕ) → length ws ≡ length ls → waits_at ws i ≡ true → ((k : ℕ) → k ≢ i → filter (λ e. target e == k) os ≡ filter (λ e. target e == k) es)
       → joined target 0 (set ws i false) (set ls i (filter (λ e. target e == i) es)) os ≡ joined target 0 ws ls es
   joined-moved os ws ls i l up same =

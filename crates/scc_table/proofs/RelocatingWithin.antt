@@ -1,4 +1,4 @@
--- Some of the first buckets that wait take their entries over.
+-- Some of the first waiting buckets are relocated.
 use Rattle.std.proofs.Common.{◌≡◌, ℕ, zero, suc, ◌+◌, ◌<◌, ◌≤◌, inl, inr, List, [], ◌∷◌, length, drop, get_or, refl, sym, ap, ◌∙◌, subst, arith}
 use Rattle.std.proofs.lemmas.List.{drop_all, get_or-drop, length-drop, nil_from_length}
 use Rattle.scc_buckets.specs.Bounded.{IsBounded}
@@ -16,15 +16,15 @@ drop-next (suc n) [] = drop_all (suc n + 1) [] (omega arith) ∙ sym (ap (drop 1
 drop-next (suc n) (x ∷ xs) = let m : suc n + 1 ≡ suc (n + 1) = omega arith in ap (λ k. drop k (x ∷ xs)) m ∙ drop-next n xs
 
 module _ {E S : Type 0} where
-  -- so many took theirs over
+  -- if the first n buckets of ts are relocated, `AreMovedFrom` holds for n
   pub moved-most : (ts : List ℕ) (d : Contents E S) (n : ℕ) → pending_targets d ≡ drop n ts → AreMovedFrom ts n d
   moved-most ts d n left = record { count = n; most = omega arith; left = left; stopped = λ l. absurd (omega arith) }
 
-  -- none is left
+  -- if no bucket waits, `AreMovedFrom` for n gives `AreMovedFrom` for a greater number m
   pub moved-all : (ts : List ℕ) (d : Contents E S) (n m : ℕ) → AreMovedFrom ts n d → n ≤ m → pending_of d ≡ 0 → AreMovedFrom ts m d
   moved-all ts d n m h le none = record { count = h.count; most = omega (arith, h.most); left = h.left; stopped = λ l. inl (nil_from_length (pending_targets d) (targets-length d ∙ none)) }
 
-  -- one more took its entries over, the first that waits
+  -- if one more bucket is relocated, the first that waits, `AreMovedFrom` for n gives `AreMovedFrom` for n + 1
   pub moved-one : (ts : List ℕ) (d e : Contents E S) (n i : ℕ) → AreMovedFrom ts n d → IsFirstWaiting d i → IsRelocated i d e → AreMovedFrom ts (n + 1) e
   moved-one ts d e n i h first r = record {
     count = h.count + 1;
@@ -36,7 +36,7 @@ module _ {E S : Type 0} where
     ];
   }
 
-  -- the next one was refused memory
+  -- if memory for the next bucket, with more than 32 entries, is refused, `AreMovedFrom` holds for a greater number m, too
   pub moved-none : (ts : List ℕ) (d : Contents E S) (n m i : ℕ) → AreMovedFrom ts n d → n ≤ m → IsFirstWaiting d i → 32 < length (list_of d i) → AreMovedFrom ts m d
   moved-none ts d n m i h le first long =
       let head = targets-head i d first in
@@ -50,7 +50,7 @@ module _ {E S : Type 0} where
         stopped = λ l. inr (h.count, omega arith, omega (arith, head.0), subst (λ k. 32 < length (list_of d k)) (sym at) long);
       }
 
-  -- n of them were tried
+  -- n relocations are tried, from the first waiting bucket on
   pub record SettlesFirst (c d : Contents E S) (n : ℕ) : Type 0 where
     pub lists : lists_of d ≡ lists_of c
     pub settings : settings_of d ≡ settings_of c
@@ -91,7 +91,7 @@ module _ {E S : Type 0} where
     bounded = f.bounded;
   }
 
-  -- none is left
+  -- if no bucket waits after n tries, at most m buckets waited before, for each m that is not below n
   pub settles-all : (c d : Contents E S) (n m : ℕ) → SettlesFirst c d n → n ≤ m → pending_of d ≡ 0 → AreShort c → pending_targets d ≡ drop m (pending_targets c)
   settles-all c d n m f le none short =
       let nothing : pending_targets d ≡ [] = nil_from_length (pending_targets d) (targets-length d ∙ none) in

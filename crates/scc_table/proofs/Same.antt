@@ -41,7 +41,7 @@ module _ {E S : Type 0} (c d : Contents E S) (same : lists_of d ≡ lists_of c) 
         rw (settings, count-same) there;
   }
 
--- equal settings hash alike
+-- if two contents have equal hashers or equal settings, a key has the same hash in both
 module _ {E S T K : Type 0} (build : builder.Ghosts S T) (feed : hasher.Ghosts T) (input : K → HashWrites) (c d : Contents E S) where
   pub hash-like : (settings_of d).hasher ≡ (settings_of c).hasher → key_hash build feed input d ≡ key_hash build feed input c
   hash-like same = ap (λ s. let h : K → ℕ = λ k. hash_of build feed s (input k) in h) same
@@ -54,7 +54,7 @@ module _ {E S : Type 0} (b d : Contents E S) where
   unfolding pending_of waiting_of
   pending-same same = ap (count_by (λ w. w)) same
 
--- contents with the lists of a regrouping are one
+-- if b is a regrouping of a, and d has the lists and settings of b, d is a regrouping of a
 pub regrouped-same : {E S : Type 0} (hash : E → ℕ) (n : ℕ) (a b d : Contents E S) → lists_of d ≡ lists_of b → settings_of d ≡ settings_of b → IsRegrouped hash n a b → IsRegrouped hash n a d
 regrouped-same hash n a b d lists settings h = record {
   count = count-same b d lists ∙ h.count;
@@ -62,7 +62,7 @@ regrouped-same hash n a b d lists settings h = record {
   settings = settings ∙ h.settings;
 }
 
--- and so is a regrouping of contents with the same lists
+-- if d is a regrouping of b, and b has the lists and settings of a, d is a regrouping of a
 pub regrouped-from : {E S : Type 0} (build hash : E → ℕ) (n : ℕ) (a b d : Contents E S) → build ≡ hash → lists_of b ≡ lists_of a → settings_of b ≡ settings_of a → IsRegrouped build n b d → IsRegrouped hash n a d
 regrouped-from build hash n a b d same lists settings h = record {
   count = h.count;
@@ -70,7 +70,7 @@ regrouped-from build hash n a b d same lists settings h = record {
   settings = h.settings ∙ settings;
 }
 
--- what follows from what holds of an answer
+-- if P implies Q, and P holds in one case of a result, Q holds in this case
 pub on-ok : {X Y P Q : Type 0} (r : Result X Y) → (P → Q) → OnOk r P → OnOk r Q
 on-ok (Ok x) f p = f p
 on-ok (Err y) f p = p
@@ -91,7 +91,7 @@ pub by-answer : {X Y : Type 0} {P : X → Type 0} {Q R : Type 0} (r : Result X Y
 by-answer (Ok x) p q f h = f x p
 by-answer (Err y) p q f h = h q
 
--- what holds anyway holds of a refusal
+-- what holds anyway holds in case of `Err`
 pub any-err : {X Y P : Type 0} (r : Result X Y) → P → OnErr r P
 any-err (Ok x) p = tt
 any-err (Err y) p = p

@@ -56,7 +56,7 @@ module _ {X : Type 0} (p : X → Bool) where
   absent-filter q [] n = n
   absent-filter q (x ∷ xs) n = by_answer (q x) (λ y. rw y (absent-cons x (filter q xs) (absent-head x xs n) (absent-filter q xs (absent-tail x xs n)))) (λ y. rw y (absent-filter q xs (absent-tail x xs n)))
 
-  -- the first that passes, after those that don't
+  -- if no element of xs passes p and x passes p, x is the first element of xs, x and ys that passes p
   pub found-after : (xs : List X) (x : X) (ys : List X) → position p xs ≡ None → p x ≡ true → position p (xs ++ x ∷ ys) ≡ Some (length xs)
   found-after [] x ys n y = position_hit p x ys y
   found-after (z ∷ xs) x ys n y = position_cons p z (xs ++ x ∷ ys) (absent-head z xs n) ∙ ap (option_map suc) (found-after xs x ys (absent-tail z xs n) y)
@@ -83,7 +83,7 @@ module _ {X : Type 0} (p : X → Bool) where
   absent-front (b ∷ bs) zero f = refl
   absent-front (b ∷ bs) (suc j) f = absent-append (shelf_entries b) (flat_map shelf_entries (take j bs)) (f 0 (omega arith) (omega arith)) (absent-front bs j (λ k l m. f (suc k) (omega arith) (omega arith)))
 
--- an old bucket of another hash has no entry that passes
+-- an old bucket other than that of the hash h has no entry that passes p
 absent-own : {E : Type 0} (p : E → Bool) (hash : E → ℕ) (h t m j : ℕ) (b : Shelf E) → HashOf p hash h → IsOwn hash t m j b → j ≢ bucket_number t m h → position p (shelf_entries b) ≡ None
 absent-own p hash h t m j b a o n = none_is p (shelf_entries b) (λ k d l. not_true _ (λ w. n (sym (o.routed k d l) ∙ ap (bucket_number t m) (a.same _ w))))
 
@@ -92,7 +92,7 @@ default-same [] i x y l = absurd (omega arith)
 default-same (z ∷ xs) zero x y l = refl
 default-same (z ∷ xs) (suc i) x y l = default-same xs i x y (omega arith)
 
--- where each entry stands in the list of its hash, the first that passes stands in that of theirs
+-- if each entry stands in the bucket of its hash, the first entry that passes p stands in bucket i, the bucket of h
 module _ {E S : Type 0} (hash : E → ℕ) (d : Contents E S) (routed : IsRouted hash d) (p : E → Bool) (h i : ℕ) (a : HashOf p hash h) (at : i ≡ bucket_number (settings_of d).skipped (bucket_count d) h) (l : i < bucket_count d) where
   elsewhere : (j : ℕ) (e : List E) → j < length (lists_of d) → j ≢ i → NoneOf p (get_or (lists_of d) j e)
   elsewhere j e lj ne = record {
@@ -123,7 +123,7 @@ module _ {E S : Type 0} (hash : E → ℕ) (c : Contents E S) (ws : List Bool) (
   beyond : (i : ℕ) → bucket_count c ≤ i → list_of (together hash c ws olds) i ≡ []
   beyond i l = let d = together hash c ws olds in list-is d i ∙ get_or_past (lists_of d) i [] (omega (arith, count-is d, count-together hash c ws olds arrays.flags))
 
-  -- each entry of both arrays stands in the list of its hash
+  -- each entry of both arrays stands in the list of the bucket of its hash
   pub routed-together : IsRouted hash c → IsRouted hash (together hash c ws olds)
   routed-together routed = record {
     routed = λ i k e got.
@@ -155,7 +155,7 @@ module _ {E S : Type 0} (hash : E → ℕ) (c : Contents E S) (ws : List Bool) (
     within-together : i < bucket_count (together hash c ws olds)
     within-together = omega (arith, l, count-together hash c ws olds arrays.flags)
 
-    -- a bucket that doesn't wait has it, or none has
+    -- if bucket i doesn't wait, the first entry that passes p stands in its list, or no entry passes p
     pub found-own : waits_at ws i ≡ false → (q : Place) → q.bucket ≡ i → position p (list_of c i) ≡ Some q.slot → IsFoundAt p (together hash c ws olds) q
     found-own down q here e =
         let d = together hash c ws olds in
@@ -170,7 +170,7 @@ module _ {E S : Type 0} (hash : E → ℕ) (c : Contents E S) (ws : List Bool) (
       others-absent : (k : ℕ) → k < length olds → k ≢ j → position p (shelf_entries (shelf_of olds k)) ≡ None
       others-absent k lk ne = absent-own p hash h (settings_of c).skipped (length olds) k (shelf_of olds k) a (arrays.own.own k lk) (λ z. ne (z ∙ sym source))
 
-      -- the old bucket of the hash lacks it, and so all do
+      -- if no entry of the old bucket of h passes p, no entry of both arrays passes p
       pub missed-old : position p (shelf_entries (shelf_of olds j)) ≡ None → position p (entries (together hash c ws olds)) ≡ None
       missed-old e =
           let d = together hash c ws olds in
@@ -185,7 +185,7 @@ module _ {E S : Type 0} (hash : E → ℕ) (c : Contents E S) (ws : List Bool) (
           missed-listed hash d (routed-together routed) p h i a at-together within-together
           (ap (position p) (waiting-list hash c ws olds arrays i up (long-flags c ws i arrays.flags up)) ∙ absent-filter p (λ x. bucket_number t (bucket_count c) (hash x) == i) (flat_map shelf_entries olds) none)
 
-      -- it has it
+      -- the first entry of the old bucket of h that passes p is the first of both arrays that passes p
       pub found-old : (q : Place) → q.bucket ≡ bucket_count c + j → position p (shelf_entries (shelf_of olds j)) ≡ Some q.slot → IsFoundAt p (together hash c ws olds) q
       found-old q here e =
           let d = together hash c ws olds in
@@ -209,13 +209,13 @@ module _ {E S : Type 0} (hash : E → ℕ) (c : Contents E S) (ws : List Bool) (
           subst (λ r. spots.IsFoundAtSpot p d r) (sym spot) (found-listed hash d (routed-together routed) p h i a at-together within-together (length xs) there)
 
 module _ {E S : Type 0} (hash : E → ℕ) (c : Contents E S) (olds : List (Shelf E)) where
-  -- where nothing waits, it stands where it does in the new array
+  -- if no bucket waits, a search finds the place in both arrays that it finds in the current array
   pub found-not_waiting : (ws : List Bool) → ws ≡ [] → (p : E → Bool) (q : Place) → spots.IsFoundAtSpot p c q → IsFoundAt p (together hash c ws olds) q
   unfolding waiting_of owed_of bucket_count list_of entries spots.index_of_spot lists_of
   found-not_waiting [] z p q f = record { within = record { bucket = f.within.bucket; slot = f.within.slot }; found = f.found }
   found-not_waiting (w ∷ ws) z p q f = absurd (let y : w ∷ ws ≡ [] = z in cc)
 
-  -- where none waits, an entry stands in the present array
+  -- if no bucket waits, each place is a place of the current array
   pub near-not_waiting : (ws : List Bool) → ws ≡ [] → (q : Place) → IsPlace (together hash c ws olds) q → q.bucket < bucket_count c
   unfolding waiting_of owed_of bucket_count list_of lists_of
   near-not_waiting [] z q w = w.bucket

@@ -1,4 +1,4 @@
--- What the contents of two arrays have of the new one.
+-- The parts of the contents of two arrays that are those of the current array.
 use Rattle.std.proofs.Common.{◌≡◌, ℕ, Bool, List, sym, ap, ◌∙◌}
 use Rattle.scc_array.specs.Shelf.{Shelf}
 use Rattle.scc_common.specs.Contents.{Contents, bucket_count, settings_of, waiting_of}

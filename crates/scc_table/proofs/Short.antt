@@ -32,22 +32,22 @@ module _ {E S : Type 0} where
   pub short-listed : (hash : E → ℕ) (c : Contents E S) → IsListed hash c → AreShort c
   short-listed hash c h = record { short = λ i up. h.short i }
 
-  -- lists that stay are short where they were
+  -- `AreShort` stays if the lists stay and no bucket starts to wait
   pub short-later : (c d : Contents E S) → lists_of d ≡ lists_of c → ((i : ℕ) → IsWaiting d i → IsWaiting c i) → AreShort c → AreShort d
   short-later c d lists fewer s = record { short = λ i up. subst (λ z. length z ≤ 32) (sym (list-same c d lists i)) (s.short i (fewer i up)) }
 
-  -- and listed, by the hasher that stays too
+  -- `IsListed` stays if the lists and the settings, and so the hasher, stay
   pub listed-later : (hash : Settings S → E → ℕ) (c d : Contents E S) → lists_of d ≡ lists_of c → settings_of d ≡ settings_of c → IsBounded d → IsListed (hash (settings_of c)) c → IsListed (hash (settings_of d)) d
   listed-later hash c d lists settings bounded h = subst (λ s. IsListed (hash s) d) (sym settings) (listed-same c d lists (hash (settings_of c)) settings (bounded ∙ sym h.bounded) h)
 
-  -- the hash of the contents before is that of those after
+  -- if the settings stay, `IsListed` by the hash of c is `IsListed` by the hash of d
   pub listed-anew : (hash : Settings S → E → ℕ) (c d : Contents E S) → settings_of d ≡ settings_of c → IsListed (hash (settings_of c)) d → IsListed (hash (settings_of d)) d
   listed-anew hash c d settings h = subst (λ s. IsListed (hash s) d) (sym settings) h
 
   pub routed-before : (hash : Settings S → E → ℕ) (c d : Contents E S) → settings_of d ≡ settings_of c → IsRouted (hash (settings_of d)) d → IsRouted (hash (settings_of c)) d
   routed-before hash c d settings h = subst (λ s. IsRouted (hash s) d) settings h
 
-  -- entries that moved to other buckets are listed where each of those is short
+  -- after a resize, `IsListed` holds if each bucket gets at most 32 entries
   pub listed-resized : (hash : E → ℕ) (c d : Contents E S) → IsResized hash c d → IsRouted hash d → ((i : ℕ) → i < bucket_count d → length (bound_for hash (settings_of c).skipped (bucket_count d) i (entries c)) ≤ 32) → IsListed hash d
   listed-resized hash c d r routed short = record {
     lawful = inr r.array;
@@ -59,7 +59,7 @@ module _ {E S : Type 0} where
     routed = routed.routed;
   }
 
-  -- where there are no entries, there are none in a list
+  -- if there are no entries, each list is empty
   pub list-none : (d : Contents E S) → entries d ≡ [] → (i : ℕ) → list_of d i ≡ []
   unfolding entries list_of
   list-none d none i = none-in d.lists i none
@@ -72,7 +72,7 @@ module _ {E S : Type 0} where
     routed = λ i j e got. none-there (list_of d i) j e (list-none d none i) got;
   }
 
-  -- the first array
+  -- making the first array, without entries, is a resize as `IsResized` says
   pub first-resized : (hash : E → ℕ) (a d : Contents E S) → entries a ≡ [] → entries d ≡ [] → settings_of d ≡ settings_of a → IsBucketCount (bucket_count d) → IsBounded d → IsResized hash a d
   first-resized hash a d bare still settings array bounded = record {
     array = array;
@@ -80,7 +80,7 @@ module _ {E S : Type 0} where
     bounded = bounded;
   }
 
-  -- among twice as many buckets each is short
+  -- after the number of buckets doubles, each bucket has at most 32 entries
   pub short-doubled : (hash : E → ℕ) (c : Contents E S) → IsListed hash c → (i : ℕ) → length (bound_for hash (settings_of c).skipped (2 * bucket_count c) i (entries c)) ≤ 32
   short-doubled hash c h i =
       let s = (settings_of c).skipped in
@@ -94,7 +94,7 @@ module _ {E S : Type 0} where
       let count : length (filter p (entries c)) ≡ length (filter p (list_of c (i / 2))) = ap length same in
       omega arith
 
--- a bucket that took its entries over doesn't wait
+-- a bucket that is relocated doesn't wait
 set-here : (ws : List Bool) (i : ℕ) → waits_at (set ws i false) i ≡ false
 set-here [] i = refl
 set-here (w ∷ ws) zero = refl
@@ -103,7 +103,7 @@ set-here (w ∷ ws) (suc i) = set-here ws i
 pub settle-here : (ws : List Bool) (i : ℕ) → waits_at (cleared ws i) i ≡ false
 settle-here ws i = by_answer (count_by (λ w. w) (set ws i false) == 0) (λ q. rw q refl) (λ q. rw q (set-here ws i))
 
--- the quotient by r
+-- if j is at least i * r and below i * r + r, the quotient of j by r is i
 quotient-is : (j i r : ℕ) → 0 < r → i * r ≤ j → j < i * r + r → j / r ≡ i
 quotient-is j i r pos low high =
     let more : suc i * r ≡ r + i * r = omega arith in
@@ -119,7 +119,7 @@ quotient-other j i r pos (inr high) same =
     let more : suc i * r ≡ r + i * r = omega arith in
     absurd (let w : j < suc i * r = (div-lt_iff_lt-mul {k = r} {x = j} {y = suc i} pos).0 (omega arith) in omega arith)
 
--- so many times a number, in a row
+-- if i is below n, row number i of r numbers ends within n rows
 pub row-within : (i n r : ℕ) → i < n → i * r + r ≤ n * r
 row-within i zero r l = absurd (omega arith)
 row-within zero (suc n) r l = let z : suc n * r ≡ r + n * r = omega arith in omega arith
@@ -134,11 +134,11 @@ bound-none hash t n i [] h = refl
 bound-none hash t n i (l ∷ ls) h =
     bound_append hash t n i l (flat_map (λ x. x) ls) ∙ ap (λ z. z ++ bound_for hash t n i (flat_map (λ x. x) ls)) (h 0) ∙ bound-none hash t n i ls (λ j. h (suc j))
 
--- the entries of the lists before number k
+-- the entries of the lists before list k
 abbrev pub entries_until : {E S : Type 0} → Contents E S → ℕ → List E
 entries_until c k = flat_map (λ l. l) (take k (lists_of c))
 
--- of so many times fewer buckets each has the entries of as many lists in a row
+-- with n buckets instead of n * r, bucket i has the entries of r lists in a row, from list i * r on
 module _ {E S : Type 0} (hash : E → ℕ) (c : Contents E S) (listed : IsListed hash c) (n r : ℕ) (even : n * r ≡ bucket_count c) (pos : 0 < r) (i : ℕ) where
   target-of : (j m : ℕ) (e : E) → slice_get (list_of c j) m ≡ Some e → bucket_number (settings_of c).skipped n (hash e) ≡ j / r
   target-of j m e got =
@@ -180,7 +180,7 @@ module _ {E S : Type 0} (hash : E → ℕ) (c : Contents E S) (listed : IsListed
       let none : bound_for hash t n i ys ≡ [] = bound-none hash t n i (drop k (lists_of c)) (λ j. ap (bound_for hash t n i) (get_or-drop k (lists_of c) j []) ∙ listed-get (k + j) ∙ list-other (k + j) (inr (omega arith))) in
       sym (ap (λ z. length (bound_for hash t n i z)) parts ∙ ap length (bound_append hash t n i xs ys) ∙ ap (λ z. length (bound_for hash t n i xs ++ z)) none ∙ ap length (append-nil (bound_for hash t n i xs)))
 
--- an entry put last, seen from contents with the same lists
+-- c and m have equal lists: `HasList` and `PutsLast` hold from c if they hold from m, and to m if they hold to c
 module _ {E S : Type 0} (c m : Contents E S) (lists : lists_of m ≡ lists_of c) (settings : settings_of m ≡ settings_of c) (refused : refused_of m ≡ refused_of c) where
   has-from : (d : Contents E S) (i : ℕ) (es : List E) → HasList m i es d → HasList c i es d
   has-from d i es h = record { lists = h.lists ∙ ap (λ ls. set ls i es) lists; settings = h.settings ∙ settings; refused = h.refused ∙ refused; bounded = h.bounded }
@@ -200,7 +200,7 @@ module _ {E S : Type 0} (c m : Contents E S) (lists : lists_of m ≡ lists_of c)
   puts-later b i e None bounded t = (t.0, has-later b i (list_of b i ++ e ∷ []) bounded t.1)
   puts-later b i e (Some x) bounded t = (t.0, (t.1.0, t.1.1, has-later b i (t.1.0 ++ e ∷ []) bounded t.1.2))
 
--- fewer buckets than there are, of two lawful numbers, divide them evenly
+-- if n is below m, and both are lawful numbers of buckets, n divides m without a rest
 pub even-parts : (m n : ℕ) → IsLawful m → IsBucketCount n → n < m → ((m / n) * n ≡ m) × (0 < m / n)
 even-parts m n lawful array less = elim lawful [
   | inl z ↦ absurd (omega arith)

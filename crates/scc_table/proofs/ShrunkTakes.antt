@@ -1,4 +1,4 @@
--- A removal after which the array may have become smaller.
+-- A removal after which the array may shrink.
 use Rattle.std.proofs.Common.{◌≡◌, ◌+◌, ◌≤◌, Bool, true, ◌∙◌, ap, sym, subst, length}
 use Rattle.std.specs.List.{remove}
 use Rattle.std.proofs.lemmas.List.Sorted.{length_permutation}

@@ -1,4 +1,4 @@
--- Where a walk goes on once an entry is taken out.
+-- Where a walk goes on after an entry is taken out.
 use Rattle.std.proofs.Common.{◌≡◌, ◌==◌, ℕ, zero, suc, ◌+◌, ◌-◌, ◌<◌, ◌≤◌, Bool, true, false, cond, nat_lt, rules, Option, Some, None, MatchOption, List, [], ◌∷◌, ◌++◌, length, take, set, get_or, refl, sym, ap, ◌∙◌, subst, arith, length-set, get_or-set_same}
 use Rattle.std.specs.List.{flat_map, count_by, remove, slice_get}
 use Rattle.std.proofs.lemmas.List.Edits.{length-remove}
@@ -28,14 +28,14 @@ take-remove (y ∷ []) zero = refl
 take-remove (y ∷ z ∷ xs) zero = refl
 take-remove (y ∷ xs) (suc i) = ap (λ l. y ∷ l) (take-remove xs i)
 
--- what is before a place of the old array stays before it
+-- if the entry at a place of the old array is taken out, what stands before this place stays
 pub before-taken : (hs : List (List ℕ)) (j s : ℕ) → j < length hs → owed_before (set hs j (remove (get_or hs j []) s)) j s ≡ owed_before hs j s
 before-taken hs j s l =
     let x = remove (get_or hs j []) s in
     let here : get_or (set hs j x) j [] ≡ x = get_or-set_same hs j x [] l in
     ap (λ z. flat_map (λ y. y) z ++ take s (get_or (set hs j x) j [])) (take-set hs j x) ∙ ap (λ z. flat_map (λ y. y) (take j hs) ++ take s z) here ∙ ap (λ z. flat_map (λ y. y) (take j hs) ++ z) (take-remove (get_or hs j []) s)
 
--- as many entries stand before it
+-- if the entry at q is taken out, the number of entries before q stays
 pub index-taken : {E S : Type 0} (c d : Contents E S) (q : Place) → IsTakenFrom c q d → spots.index_of_spot d q ≡ spots.index_of_spot c q
 index-taken c d q t =
     index-is d q ∙ ap (λ ls. length (flat_map (λ l. l) (take q.bucket ls)) + q.slot) t.lists
@@ -58,7 +58,7 @@ module _ {E S : Type 0} (c d : Contents E S) (p : Place) (within : IsPlace c p) 
         let far : nat_lt p.bucket n ≡ false = search rules in
         left ∙ ap (λ (b : Bool). cond b (owed_of c) (set (owed_of c) j (remove (get_or (owed_of c) j []) p.slot))) far
 
-  -- from there on a walk may look
+  -- after the removal, a search for the next entry may start at the slot of p
   pub step-start : IsStart c t p.bucket (p.slot + 1) → IsStart d t p.bucket p.slot
   step-start (own same down le) =
       let q = spot_of c p in
@@ -95,11 +95,11 @@ module _ {E S : Type 0} (c d : Contents E S) (p : Place) (within : IsPlace c p) 
       ap (λ m. rank_on d t (p.bucket - m) p.slot) count-kept ∙ ap (λ h. count_by (λ u. u == t) (owed_before h j p.slot)) (owed-is past) ∙ ap (count_by (λ u. u == t)) (before-taken hs j p.slot (omega arith)) in
       ap (λ (b : Bool). cond b here away) far ∙ ap (λ m. let r : Place = record { bucket = t; slot = m } in r) ranks ∙ sym is ∙ sym spot
 
-  -- as many entries stand before it as stood before the one that is gone
+  -- as many entries stand before the start of the search as stood before the removed entry
   pub step-index : IsStart c t p.bucket (p.slot + 1) → index_on d t p.bucket p.slot ≡ index_of c p
   step-index start = ap (spots.index_of_spot d) (spot-kept start) ∙ index-taken c d (spot_of c p) taken
 
-  -- and so the walk goes on with the one that stood next
+  -- the walk goes on with the entry that stood after the removed entry
   pub step-next : IsStart c t p.bucket (p.slot + 1) → (o : Option Place) → MatchOption o (index_on d t p.bucket p.slot ≡ length (entries d)) (StandsAt d (index_on d t p.bucket p.slot))
       → MatchOption o (suc (index_of c p) ≡ length (entries c)) (StandsAt d (index_of c p))
   step-next start o m =

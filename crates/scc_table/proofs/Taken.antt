@@ -1,4 +1,4 @@
--- A table of two arrays with one entry taken out.
+-- A table of two arrays after one entry is taken out.
 use Rattle.std.proofs.Common.{map, get_or, nat_lt, rules, ◌≡◌, ◌==◌, ℕ, zero, suc, ◌+◌, ◌-◌, ◌<◌, ◌≤◌, Bool, true, false, cond, Some, None, List, [], ◌∷◌, ◌++◌, length, take, drop, set, refl, sym, ap, ◌∙◌, subst, arith, length-set}
 use Rattle.std.specs.Cmp.{IsEquivalence}
 use Rattle.std.specs.List.{filter, remove, slice_get, sum_by}
@@ -64,7 +64,7 @@ module _ {E S : Type 0} (hash : E → ℕ) (c : Contents E S) (ws : List Bool) (
   pub arrays-less : TwoArrays hash c ws (set olds j (without_slot (shelf_of olds j) s))
   arrays-less = old-arrays hash c ws olds arrays j s e lj got (without_slot (shelf_of olds j) s) [] parts seen (own_without (shelf_of olds j) s inside hash (settings_of c).skipped (length olds) j (arrays.own.own j lj))
 
-  -- one entry less
+  -- the old array holds one entry fewer
   pub owed-less : sum_by (λ b. length (shelf_entries b)) (set olds j (without_slot (shelf_of olds j) s)) + 1 ≡ sum_by (λ b. length (shelf_entries b)) olds
   owed-less =
       let f : Shelf E → ℕ = λ b. length (shelf_entries b) in
@@ -75,7 +75,7 @@ module _ {E S : Type 0} (hash : E → ℕ) (c : Contents E S) (ws : List Bool) (
       let goal_is : sum_by f (set olds j d) + 1 ≡ sum_by f olds = omega arith in
       goal_is
 
-  -- and none more past the places
+  -- the overflow lists of the old array get no more entries
   pub spilled-less : overflow_in (set olds j (without_slot (shelf_of olds j) s)) ≤ overflow_in olds
   spilled-less =
       let f : Shelf E → ℕ = λ b. length b.overflow in
@@ -89,7 +89,7 @@ module _ {E S : Type 0} (hash : E → ℕ) (c : Contents E S) (ws : List Bool) (
       ] in
       goal_is
 
-  -- it is gone from the list of its bucket
+  -- the entry e is taken out of the list of its bucket
   pub old-taken : IsTakenFrom (together hash c ws olds) (record { bucket = target_by hash c e; slot = rank_of hash c ws olds arrays j s e lj got }) (together hash c ws (set olds j (without_slot (shelf_of olds j) s)))
   old-taken =
       let b = without_slot (shelf_of olds j) s in
@@ -107,7 +107,7 @@ module _ {E S : Type 0} (hash : E → ℕ) (c : Contents E S) (ws : List Bool) (
         spilled = let o = spilled-less in let a = spilled-together hash c ws news in let z = spilled-together hash c ws olds in omega arith;
       }
 
--- of all fields, with one entry taken out
+-- the invariant `IsTable` holds after the entry at p is taken out
 module _ {E K S : Type 0} {eq : K → K → Bool} (laws : IsEquivalence eq) {key : E → K} {hash : K → ℕ} {c : Contents E S} {drain : Draining E} {skipped : ℕ} (inv : IsTable eq key hash c drain skipped) (p : Place)
     (within : IsPlace (together (λ e. hash (key e)) c drain.waiting drain.array) p) where
   module _ (l : p.bucket < bucket_count c) (d : Contents E S) where
@@ -132,7 +132,7 @@ module _ {E K S : Type 0} {eq : K → K → Bool} (laws : IsEquivalence eq) {key
         } in
         subst (λ q. IsSwappedOutOf u q v) (sym spot-here) at
 
-    -- the annotations stay
+    -- if p is a place of the current array, what the old array owes stays
     pub own-owed_kept : (x : List E) → lists_of d ≡ set (lists_of c) p.bucket x → settings_of d ≡ settings_of c
         → owed_of (together (λ x. hash (key x)) d drain.waiting drain.array) ≡ owed_taken (bucket_count (together (λ x. hash (key x)) c drain.waiting drain.array)) (owed_of (together (λ x. hash (key x)) c drain.waiting drain.array)) p
     own-owed_kept x lists settings =
@@ -187,7 +187,7 @@ module _ {E K S : Type 0} {eq : K → K → Bool} (laws : IsEquivalence eq) {key
         subst (λ q. IsTakenFrom (together h c drain.waiting drain.array) q (together h c drain.waiting (set drain.array j (without_slot (shelf_of drain.array j) p.slot)))) (sym (old-spot h c drain.waiting drain.array inv.arrays j p.slot e lj got p back refl))
         (old-taken h c drain.waiting drain.array inv.arrays j p.slot e lj got)
 
-    -- the annotation of that entry goes
+    -- if p is a place of the old array, what the old array owes loses the entry at p
     pub old-owed_taken : owed_of (together (λ x. hash (key x)) c drain.waiting (set drain.array (p.bucket - bucket_count c) (without_slot (shelf_of drain.array (p.bucket - bucket_count c)) p.slot)))
         ≡ owed_taken (bucket_count (together (λ x. hash (key x)) c drain.waiting drain.array)) (owed_of (together (λ x. hash (key x)) c drain.waiting drain.array)) p
     old-owed_taken =
@@ -203,7 +203,7 @@ module _ {E K S : Type 0} {eq : K → K → Bool} (laws : IsEquivalence eq) {key
         owed-together h c drain.waiting (set drain.array j (without_slot (shelf_of drain.array j) p.slot)) ∙ owed-removed f drain.waiting drain.array j p.slot lj ls
         ∙ sym (ap (λ m. owed_taken m (owed_of u) p) count ∙ ap (λ z. owed_taken n z p) (owed-together h c drain.waiting drain.array) ∙ ap (λ (b : Bool). cond b hs (set hs j (remove (get_or hs j []) p.slot))) past)
 
-    -- there is one to take
+    -- the old array holds at least one entry
     pub old-some : 1 ≤ drain.left
     old-some = let h : E → ℕ = λ x. hash (key x) in let n = owed-less h c drain.waiting drain.array inv.arrays (p.bucket - bucket_count c) p.slot e lj got in let m = inv.left_is in omega arith
 

@@ -1,4 +1,4 @@
--- An entry taken out of its list.
+-- An entry that is taken out of its list.
 use Rattle.std.proofs.Common.{◌≡◌, ℕ, zero, suc, ◌+◌, ◌<◌, ◌≤◌, Bool, Some, None, List, [], ◌∷◌, length, take, map, set, get_or, refl, sym, ap, ◌∙◌, subst, arith, length-set, get_or-set_same}
 use Rattle.std.specs.Cmp.{IsEquivalence}
 use Rattle.std.specs.List.{flat_map, position, remove, slice_get, IsDistinct}
@@ -36,7 +36,7 @@ flat-permuted (l ∷ ls) zero xs ys h p = IsPermutation-append_left (flat_map (�
 flat-permuted (l ∷ ls) (suc i) xs ys h p = IsPermutation-append_right l (flat_map (λ l. l) (set ls i xs)) (flat_map (λ l. l) (set ls i ys)) (flat-permuted ls i xs ys (omega arith) p)
 
 module _ {E S : Type 0} (c d : Contents E S) (q : Place) (within : IsSpot c q) where
-  -- the entries without that one
+  -- if the entry at q is taken out of its list, all entries lose this entry alone
   pub removed-is : flat_map (λ l. l) (set (lists_of c) q.bucket (remove (list_of c q.bucket) q.slot)) ≡ remove (entries c) (index_of_spot c q)
   removed-is =
       let ls = lists_of c in

@@ -17,7 +17,7 @@ use Rattle.scc_table.proofs.WalkReached.{reached}
 use Rattle.scc_buckets.proofs.PairSplits.{split-place}
 use Rattle.scc_table.proofs.Visits.{Visited, kept-before, took-before, took-after}
 
--- each pair of a walk stays or is taken
+-- each pair of a walk stays or is taken out
 pub takes-count : {F K V : Type 0} {T : F → K × V → Verdict → V → F → Type 0} {f last : F} {es stay more : List (K × V)} {r : Result Bool WalkError} → Takes T f es stay more r last → length es ≡ length stay + length more
 takes-count ended = refl
 takes-count (refused {es = es}) = omega arith
@@ -26,13 +26,13 @@ takes-count (took t x) = omega (arith, takes-count x)
 takes-count (kept_last t) = omega arith
 takes-count (took_last t) = omega arith
 
--- the pair that comes out is the one that was written
+-- the pair that is taken out has the key of q and the written value w
 pub took-pair : {K V S : Type 0} (m : Contents (K × V) S) (p : Place) (q : K × V) (w : V) (n : Contents (K × V) S) → Visited m p q w n → (x : K × V) → slice_get (entries n) (index_of_spot n p) ≡ Some x → x ≡ (q.0, w)
 took-pair m p q w n v x got = let s : Some x ≡ Some (q.0, w) = sym got ∙ ap (slice_get (entries n)) v.index ∙ v.got in cc
 
 module _ {F K V S : Type 0} {T : F → K × V → Verdict → V → F → Type 0} (first : F) (all : List (K × V)) (m : Contents (K × V) S) (p : Place) (f : F) (more : List (K × V))
     (calls : (stay next : List (K × V)) (r : Result Bool WalkError) (last : F) → Takes T f (drop (index_of_spot m p) (entries m)) stay next r last → Takes T first all (take (index_of_spot m p) (entries m) ++ stay) (more ++ next) r last) where
-  -- the run that ends for want of room before this pair
+  -- the walk ends before the pair at p, for lack of room
   pub takes-refused : IsSpot m p → (e : WalkError) → Takes T first all (entries m) more (Err e) f
   takes-refused within e =
       let x : K × V = at (list_of m p.bucket) p.slot within.slot in
@@ -43,7 +43,7 @@ module _ {F K V S : Type 0} {T : F → K × V → Verdict → V → F → Type 0
       subst (λ z. Takes T first all z more (Err e) f) front (subst (λ z. Takes T first all (take (index_of_spot m p) (entries m) ++ drop (index_of_spot m p) (entries m)) z (Err e) f) (append-nil more) (calls (drop (index_of_spot m p) (entries m)) [] (Err e) f run))
 
   module _ (f' : F) (q : K × V) (w : V) (n : Contents (K × V) S) (v : Visited m p q w n) where
-    -- a run from the next pair on gives a run of all, where the closure kept this one
+    -- if the closure keeps the pair q, a walk from the next pair on gives a walk over all pairs
     pub takes-kept : T f q Keep w f' → (o : Option Place) → reached n o ≡ suc (index_of_spot m p) → (stay next : List (K × V)) (r : Result Bool WalkError) (last : F) → Takes T f' (drop (reached n o) (entries n)) stay next r last
         → Takes T first all (take (reached n o) (entries n) ++ stay) (more ++ next) r last
     takes-kept t o e stay next r last run =
@@ -53,7 +53,7 @@ module _ {F K V S : Type 0} {T : F → K × V → Verdict → V → F → Type 0
         sym (append_assoc (take (index_of_spot m p) (entries m)) ((q.0, w) ∷ []) stay) ∙ ap (λ z. z ++ stay) (sym (kept-before m p q w n v) ∙ ap (λ i. take i (entries n)) (sym e)) in
         subst (λ z. Takes T first all z (more ++ next) r last) front (calls ((q.0, w) ∷ stay) next r last here)
 
-    -- the run that stops at this pair, which stays
+    -- the walk stops at the pair q, which stays
     pub takes-kept_last : T f q KeepStop w f' → Takes T first all (entries n) more (Ok false) f'
     takes-kept_last t =
         let back : List (K × V) = drop (suc (index_of_spot m p)) (entries m) in
@@ -63,7 +63,7 @@ module _ {F K V S : Type 0} {T : F → K × V → Verdict → V → F → Type 0
         subst (λ z. Takes T first all z more (Ok false) f') front (subst (λ z. Takes T first all (take (index_of_spot m p) (entries m) ++ ((q.0, w) ∷ back)) z (Ok false) f') (append-nil more) (calls ((q.0, w) ∷ back) [] (Ok false) f' here))
 
     module _ (d : Contents (K × V) S) (out : HoldsExactly n (remove (entries n) (index_of_spot n p)) d) where
-      -- a run from the next pair on gives a run of all, where this one was taken
+      -- if the pair q is taken out, a walk from the next pair on gives a walk over all pairs
       pub takes-took : T f q Take w f' → (o : Option Place) → reached d o ≡ index_of_spot m p → (stay next : List (K × V)) (r : Result Bool WalkError) (last : F) → Takes T f' (drop (reached d o) (entries d)) stay next r last
           → Takes T first all (take (reached d o) (entries d) ++ stay) ((more ++ (q.0, w) ∷ []) ++ next) r last
       takes-took t o e stay next r last run =
@@ -73,7 +73,7 @@ module _ {F K V S : Type 0} {T : F → K × V → Verdict → V → F → Type 0
           subst (λ z. Takes T first all z ((more ++ (q.0, w) ∷ []) ++ next) r last) front
           (subst (λ z. Takes T first all (take (index_of_spot m p) (entries m) ++ stay) z r last) (sym (append_assoc more ((q.0, w) ∷ []) next)) (calls stay ((q.0, w) ∷ next) r last here))
 
-      -- the run that stops at this pair, which is taken
+      -- the walk stops at the pair q, which is taken out
       pub takes-took_last : T f q TakeStop w f' → Takes T first all (entries d) (more ++ (q.0, w) ∷ []) (Ok false) f'
       takes-took_last t =
           let back : List (K × V) = drop (suc (index_of_spot m p)) (entries m) in
@@ -82,7 +82,7 @@ module _ {F K V S : Type 0} {T : F → K × V → Verdict → V → F → Type 0
           ap (λ z. z ++ back) (sym (took-before m p q w n v d out)) ∙ ap (λ z. take (index_of_spot m p) (entries d) ++ z) (sym (took-after m p q w n v d out)) ∙ take-append-drop (index_of_spot m p) (entries d) in
           subst (λ z. Takes T first all z (more ++ (q.0, w) ∷ []) (Ok false) f') front (calls back ((q.0, w) ∷ []) (Ok false) f' here)
 
--- entries that stayed in their order, and were then resized
+-- entries that stay in their order, and then are resized, stay in some order
 pub holds-after : {E S : Type 0} (a b c : Contents E S) (es : List E) → HoldsExactly a es b → Resizes b c → Holds a es c
 holds-after a b c es h r = record {
   same = rw h.exact at r.same;
@@ -93,10 +93,10 @@ holds-after a b c es h r = record {
   settings = r.settings ∙ h.settings;
 }
 
--- a list that stays as it is has nothing at its end
+-- if xs stays as it is after `more` is added at its end, `more` is empty
 pub appended-none : {X : Type 0} (xs ys more : List X) → ys ≡ xs ++ more → ys ≡ xs → length more ≡ 0
 appended-none xs ys more e s = omega (arith, length-append xs more, ap length e, ap length s)
 
--- a list that nothing is put at the end of stays as it is
+-- if `more` is empty, xs stays as it is after `more` is added at its end
 pub appended-some : {X : Type 0} (xs ys more : List X) → ys ≡ xs ++ more → length more ≡ 0 → ys ≡ xs
 appended-some xs ys more e n = e ∙ ap (λ z. xs ++ z) (nil_from_length more n) ∙ append-nil xs

@@ -1,4 +1,4 @@
--- The numbers of the buckets that wait.
+-- The numbers of the waiting buckets.
 use Rattle.std.proofs.Common.{◌≡◌, ◌==◌, ℕ, zero, suc, ◌+◌, ◌-◌, ◌<◌, ◌≤◌, Bool, true, false, not, cond, List, [], ◌∷◌, length, set, drop, get_or, replicate, refl, sym, ap, ◌∙◌, arith, rules, eqb-true}
 use Rattle.std.specs.List.{filter, count_by, range_with_len}
 use Rattle.std.proofs.lemmas.List.{length-drop, nil_from_length, set-get_or}
@@ -14,7 +14,7 @@ use Rattle.scc_table.proofs.RelocatingLemmas.{not_equal, one-down, up-within}
 equal : (a b : ℕ) → a ≡ b → (a == b) ≡ true
 equal a b h = search rules
 
--- the numbers of the flags that are up, from number a on
+-- the numbers of the flags that are up, if the first flag has number a
 abbrev ups : ℕ → List Bool → List ℕ
 ups a [] = []
 ups a (w ∷ ws) = cond w (a ∷ ups (suc a) ws) (ups (suc a) ws)
@@ -43,7 +43,7 @@ ups-length a (w ∷ ws) =
     let r = ups-length (suc a) ws in
     omega arith)
 
--- none of them is below the first
+-- a number below that of the first flag is not among the numbers of the flags that are up
 ups-above : (i a : ℕ) (ws : List Bool) → i < a → filter (λ t. not (t == i)) (ups a ws) ≡ ups a ws
 ups-above i a [] l = refl
 ups-above i a (w ∷ ws) l =
@@ -92,7 +92,7 @@ ups-head a (suc i) (w ∷ ws) up below =
 ups-without : (i : ℕ) (ws : List Bool) → filter (λ t. not (t == i)) (ups 0 ws) ≡ ups 0 (set ws i false)
 ups-without i ws = let near : 0 + i ≡ i = omega arith in ap (λ n. filter (λ t. not (t == n)) (ups 0 ws)) (sym near) ∙ sym (ups-set 0 i ws)
 
--- two fewer, or none
+-- `left_after` has two numbers fewer, or none
 ups-left : (i : ℕ) (ws : List Bool) → length (left_after i (ups 0 ws)) ≡ length (ups 0 ws) - 2
 ups-left i ws =
     let ts = ups 0 ws in
@@ -115,11 +115,11 @@ module _ {E S : Type 0} where
   targets-are : (c : Contents E S) → pending_targets c ≡ ups 0 (waiting_of c)
   targets-are c = ups-are (waits_at (waiting_of c)) 0 (waiting_of c) (λ k l. let z : 0 + k ≡ k = omega arith in ap (waits_at (waiting_of c)) z)
 
-  -- they are as many as wait
+  -- `pending_targets` has as many numbers as buckets wait
   pub targets-length : (c : Contents E S) → length (pending_targets c) ≡ pending_of c
   targets-length c = ap length (targets-are c) ∙ ups-length 0 (waiting_of c) ∙ sym (pending-is c)
 
-  -- without the one that took its entries over
+  -- after bucket i is relocated, `pending_targets` loses number i
   pub targets-after : (i : ℕ) (c d : Contents E S) → IsRelocated i c d → pending_targets d ≡ filter (λ t. not (t == i)) (pending_targets c)
   targets-after i c d r =
       let ws = waiting_of c in
@@ -132,13 +132,13 @@ module _ {E S : Type 0} where
       (λ q. rw q refl) in
       targets-are d ∙ ap (ups 0) r.waiting ∙ there ∙ ups-set 0 i ws ∙ ap (λ n. filter (λ t. not (t == n)) (ups 0 ws)) near ∙ ap (filter (λ t. not (t == i))) (sym (targets-are c))
 
-  -- the first of them
+  -- after the first waiting bucket is relocated, `pending_targets` loses its first number
   pub targets-first : (i : ℕ) (c d : Contents E S) → IsFirstWaiting c i → IsRelocated i c d → pending_targets d ≡ drop 1 (pending_targets c)
   targets-first i c d first r =
       let near : 0 + i ≡ i = omega arith in
       targets-after i c d r ∙ ap (filter (λ t. not (t == i))) (targets-are c) ∙ ap (λ n. filter (λ t. not (t == n)) (ups 0 (waiting_of c))) (sym near) ∙ ups-first 0 i (waiting_of c) first.waits first.below ∙ ap (drop 1) (sym (targets-are c))
 
-  -- it stands first among them
+  -- the first waiting bucket stands first in `pending_targets`
   pub targets-head : (i : ℕ) (c : Contents E S) → IsFirstWaiting c i → (0 < length (pending_targets c)) × (get_or (pending_targets c) 0 0 ≡ i)
   targets-head i c first =
       let near : 0 + i ≡ i = omega arith in
@@ -148,7 +148,7 @@ module _ {E S : Type 0} where
   pub targets-same : (c d : Contents E S) → waiting_of d ≡ waiting_of c → pending_targets d ≡ pending_targets c
   targets-same c d same = targets-are d ∙ ap (ups 0) same ∙ sym (targets-are c)
 
-  -- one that doesn't wait is none of them
+  -- a bucket that doesn't wait is not in `pending_targets`
   pub targets-without : (i : ℕ) (c : Contents E S) → waits_at (waiting_of c) i ≡ false → filter (λ t. not (t == i)) (pending_targets c) ≡ pending_targets c
   targets-without i c down =
       let ws = waiting_of c in
@@ -156,7 +156,7 @@ module _ {E S : Type 0} where
       let same : set ws i false ≡ ws = ap (set ws i) (sym down) ∙ set-get_or ws i false in
       ap (filter (λ t. not (t == i))) (targets-are c) ∙ ap (λ n. filter (λ t. not (t == n)) (ups 0 ws)) (sym near) ∙ sym (ups-set 0 i ws) ∙ ap (ups 0) same ∙ sym (targets-are c)
 
-  -- two fewer wait, or none
+  -- if `left_after` has the waiting buckets afterwards, two buckets fewer wait, or none waits
   pub by-two : (i : ℕ) (c d : Contents E S) → pending_targets d ≡ left_after i (pending_targets c) → pending_of d ≡ pending_of c - 2
   by-two i c d h =
       let few = ap length h ∙ ap (λ z. length (left_after i z)) (targets-are c) ∙ ups-left i (waiting_of c) in
@@ -165,7 +165,7 @@ module _ {E S : Type 0} where
       let m = targets-length c in
       omega arith
 
-  -- of all n but two wait
+  -- if all n buckets waited before, all but two wait afterwards
   pub all-but-two : (i n : ℕ) (d : Contents E S) → 2 ≤ n → pending_targets d ≡ left_after i (range_with_len 0 n) → pending_of d + 2 ≡ n
   all-but-two i n d some h =
       let few = ap length h ∙ ap (λ z. length (left_after i z)) (sym (ups-all 0 n)) ∙ ups-left i (replicate n true) in
@@ -173,10 +173,10 @@ module _ {E S : Type 0} where
       let b = ap length (ups-all 0 n) ∙ length-range_with_len 0 n in
       omega arith
 
-  -- all wait
+  -- if all n buckets wait, `pending_targets` has all numbers below n
   pub targets-all : (n : ℕ) (c : Contents E S) → waiting_of c ≡ replicate n true → pending_targets c ≡ range_with_len 0 n
   targets-all n c all = targets-are c ∙ ap (ups 0) all ∙ ups-all 0 n
 
-  -- all but one do
+  -- if all n buckets but bucket k wait, `pending_targets` has all numbers below n but k
   pub targets-but : (n k : ℕ) (c : Contents E S) → waiting_of c ≡ set (replicate n true) k false → pending_targets c ≡ filter (λ t. not (t == k)) (range_with_len 0 n)
   targets-but n k c but = targets-are c ∙ ap (ups 0) but ∙ sym (ups-without k (replicate n true)) ∙ ap (filter (λ t. not (t == k))) (ups-all 0 n)

@@ -1,4 +1,4 @@
--- Two arrays, none of whose buckets waits, where a closure wrote into the present one.
+-- A closure writes into the current array of two arrays, and no bucket waits.
 use Rattle.std.proofs.Common.{◌≡◌, ℕ, Bool, true, Option, Some, None, sym, ap, subst, ◌∙◌}
 use Rattle.std.specs.Borrow.{Bor, MutBor}
 use Rattle.std.specs.Cmp.{IsEquivalence}
@@ -22,7 +22,7 @@ module _ {F E K V R S : Type 0} (g : Once F (Bor K × (MutBor V × Unit {0})) (R
   abbrev both : Contents E S → Contents E S
   both z = together (λ e. hash_for (settings_of z) (key e)) z drain.waiting drain.array
 
-  -- what was done to the present array was done to both
+  -- an update of the current array is an update of both arrays
   pub not_waiting-first : (r : Option R) → one.UpdatesFirstSpot g f key value_of put p c d r → UpdatesFirst g f key value_of put p (both c) (both d) r
   not_waiting-first None (missed, stays) = (ap (position p) (entries-not_waiting (λ e. hk (key e)) c drain.array drain.waiting none) ∙ missed, ap both stays)
   not_waiting-first (Some r) (q, e, w, found, got, called, written) =
@@ -37,7 +37,7 @@ module _ {F E K V R S : Type 0} (g : Once F (Bor K × (MutBor V × Unit {0})) (R
         ap both written ∙ ap (λ s. together (λ x. hash_for s (key x)) (writes.with_write_at_spot put c q w) drain.waiting drain.array) (settings-write put c q w) ∙ own-written laws inv q at.within near put w,
       )
 
-  -- they are two arrays still, if a written value keeps the key
+  -- the invariant `IsTable` holds after the update, if a written value keeps the key
   pub not_waiting-kept : ((e : E) (w : V) → eq (key (put e w)) (key e) ≡ true) → (r : Option R) → one.UpdatesFirstSpot g f key value_of put p c d r → IsTable eq key (hash_for (settings_of d)) d drain skipped
   not_waiting-kept keeps None (missed, stays) = subst (λ (z : Contents E S). IsTable eq key (hash_for (settings_of z)) z drain skipped) (sym stays) inv
   not_waiting-kept keeps (Some r) (q, e, w, found, got, called, written) =

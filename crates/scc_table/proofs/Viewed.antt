@@ -27,13 +27,13 @@ module _ {E S : Type 0} (hash : E → ℕ) (c : Contents E S) (ws : List Bool) (
   pub count-seen : (ws ≡ []) ⊎ (length ws ≡ bucket_count c) → bucket_count d ≡ bucket_count c
   count-seen flags = ap bucket_count (sym view) ∙ count-together hash c ws olds flags
 
-  -- where nothing waits
+  -- if no bucket waits, the lists are those of the current array
   pub lists-seen : ws ≡ [] → lists_of d ≡ lists_of c
   lists-seen none = ap lists_of (sym view) ∙ lists-alone hash c ws olds none
 
   pub owed-seen : ws ≡ [] → owed_of d ≡ []
   owed-seen none = ap owed_of (sym view) ∙ owed-alone hash c ws olds none
 
--- nothing waits where nothing is pending
+-- if the number of waiting buckets is 0, there are no flags
 pub not_waiting-flags : {E K S : Type 0} {eq : K → K → Bool} {key : E → K} {hash : K → ℕ} {c : Contents E S} {drain : Draining E} {skipped : ℕ} (d : Contents E S) → IsTable eq key hash c drain skipped → together (λ e. hash (key e)) c drain.waiting drain.array ≡ d → pending_of d ≡ 0 → drain.waiting ≡ []
 not_waiting-flags {key = key} {hash = hash} {c = c} {drain = drain} d inv view none = inv.none (inv.counted ∙ sym (pending-seen (λ e. hash (key e)) c drain.waiting drain.array d view) ∙ none)

@@ -1,4 +1,4 @@
--- A pair that was visited in a walk: it stays with what was written, or is taken out.
+-- A pair that a walk visits: it stays with the written value, or it is taken out.
 use Rattle.std.proofs.Common.{◌≡◌, ℕ, zero, suc, ◌<◌, ◌-◌, List, [], ◌∷◌, ◌++◌, length, take, drop, Bool, true, false, Option, None, Some, MatchOption, IfSome, refl, sym, ap, ◌∙◌, arith, subst, append_assoc}
 use Rattle.std.specs.List.{slice_get, remove}
 use Rattle.scc_common.specs.Contents.{Contents, entries, bucket_count, settings_of, list_of, refused_of}
@@ -30,7 +30,7 @@ shorter [] i h = absurd (omega arith)
 shorter (x ∷ es) zero h = refl
 shorter (x ∷ es) (suc i) h = ap suc (shorter es i (omega arith))
 
--- n is m once w was written at the place of q, before which so many pairs stand
+-- n is m after w is written at p, the place of the pair q
 pub record Visited {K V S : Type 0} (m : Contents (K × V) S) (p : Place) (q : K × V) (w : V) (n : Contents (K × V) S) : Type 0 where
   pub here : drop (index_of_spot m p) (entries m) ≡ q ∷ drop (suc (index_of_spot m p)) (entries m)
   pub within : IsSpot n p
@@ -64,7 +64,7 @@ module _ {K V S : Type 0} (m : Contents (K × V) S) (p : Place) where
       }
 
   module _ (q : K × V) (w : V) (n : Contents (K × V) S) (v : Visited m p q w n) where
-    -- where the walk goes on from the next pair
+    -- if the pair stays, the walk goes on at the next pair
     pub kept-next : (o : Option Place) → MatchOption o (suc (index_of_spot n p) ≡ length (entries n)) (StandsAtSpot n (suc (index_of_spot n p))) → (reached n o ≡ suc (index_of_spot m p)) × IfSome o (IsSpot n)
     kept-next o h = let r = reached-at n (suc (index_of_spot n p)) o h in (r.0 ∙ ap suc v.index, r.1)
 
@@ -81,7 +81,7 @@ module _ {K V S : Type 0} (m : Contents (K × V) S) (p : Place) where
       pub took-count : suc (length (entries d)) ≡ length (entries n)
       took-count = ap (λ z. suc (length z)) out-is ∙ shorter (entries n) (index_of_spot m p) (let b = index-below n p v.within in omega (arith, v.index))
 
-      -- where it goes on once the pair is out
+      -- if the pair is taken out, the walk goes on at the pair that stood after it
       pub took-next : (o : Option Place) → MatchOption o (suc (index_of_spot n p) ≡ length (entries n)) (StandsAtSpot d (index_of_spot n p)) → (reached d o ≡ index_of_spot m p) × IfSome o (IsSpot d)
       took-next None e = (let l : suc (length (entries d)) ≡ length (entries n) = took-count in omega (arith, v.index), tt)
       took-next (Some x) s = (s.index ∙ v.index, s.within)
@@ -97,7 +97,7 @@ module _ {K V S : Type 0} (m : Contents (K × V) S) (p : Place) where
 
 module _ {F K V S : Type 0} {T : F → K × V → Bool → V → F → Type 0} (first : F) (all : List (K × V)) (m : Contents (K × V) S) (p : Place) (f f' : F) (q : K × V) (w : V) (n : Contents (K × V) S) (v : Visited m p q w n)
     (calls : (stay : List (K × V)) (last : F) → Retains T f (drop (index_of_spot m p) (entries m)) stay last → Retains T first all (take (index_of_spot m p) (entries m) ++ stay) last) where
-  -- a run from the next pair on gives a run of all, where the closure kept this one
+  -- if the closure keeps the pair q, a walk from the next pair on gives a walk over all pairs
   pub retains-kept : T f q true w f' → (o : Option Place) → reached n o ≡ suc (index_of_spot m p) → (stay : List (K × V)) (last : F) → Retains T f' (drop (reached n o) (entries n)) stay last → Retains T first all (take (reached n o) (entries n) ++ stay) last
   retains-kept t o e stay last r =
       let rest : Retains T f' (drop (suc (index_of_spot m p)) (entries m)) stay last = subst (λ z. Retains T f' z stay last) (ap (λ i. drop i (entries n)) e ∙ v.after) r in
@@ -106,7 +106,7 @@ module _ {F K V S : Type 0} {T : F → K × V → Bool → V → F → Type 0} (
       sym (append_assoc (take (index_of_spot m p) (entries m)) ((q.0, w) ∷ []) stay) ∙ ap (λ z. z ++ stay) (sym (kept-before m p q w n v) ∙ ap (λ i. take i (entries n)) (sym e)) in
       subst (λ z. Retains T first all z last) front (calls ((q.0, w) ∷ stay) last here)
 
-  -- and where the pair is out
+  -- if the pair q is taken out, a walk from the next pair on gives a walk over all pairs
   pub retains-removed : T f q false w f' → (d : Contents (K × V) S) (out : HoldsExactly n (remove (entries n) (index_of_spot n p)) d) (o : Option Place) → reached d o ≡ index_of_spot m p → (stay : List (K × V)) (last : F)
       → Retains T f' (drop (reached d o) (entries d)) stay last → Retains T first all (take (reached d o) (entries d) ++ stay) last
   retains-removed t d out o e stay last r =
@@ -115,7 +115,7 @@ module _ {F K V S : Type 0} {T : F → K × V → Bool → V → F → Type 0} (
       let front : take (index_of_spot m p) (entries m) ++ stay ≡ take (reached d o) (entries d) ++ stay = ap (λ z. z ++ stay) (sym (took-before m p q w n v d out) ∙ ap (λ i. take i (entries d)) (sym e)) in
       subst (λ z. Retains T first all z last) front (calls stay last here)
 
--- what holds in turn from the place on
+-- what holds in turn of the pairs from p on
 module _ {F K V S : Type 0} {Step : F → K × V → F → Type 0} {Q : F → K × V → Type 0} (m : Contents (K × V) S) (p : Place) where
   pub turn-here : {f : F} → HoldsInTurn Step Q f (drop (index_of_spot m p) (entries m)) → (x : K × V) → slice_get (entries m) (index_of_spot m p) ≡ Some x → Q f x
   turn-here {f = f} h x e = turn-first Step Q (subst (HoldsInTurn Step Q f) (drop-here (entries m) (index_of_spot m p) x e) h)
@@ -124,10 +124,10 @@ module _ {F K V S : Type 0} {Step : F → K × V → F → Type 0} {Q : F → K 
     turn-next : HoldsInTurn Step Q f' (drop (suc (index_of_spot m p)) (entries m))
     turn-next = turn-others Step Q (subst (HoldsInTurn Step Q f) v.here h) t
 
-    -- after a step it holds from the next pair on
+    -- after a step in which the pair stays, `HoldsInTurn` holds from the next pair on
     pub turn-kept : (o : Option Place) → reached n o ≡ suc (index_of_spot m p) → HoldsInTurn Step Q f' (drop (reached n o) (entries n))
     turn-kept o e = subst (HoldsInTurn Step Q f') (sym (ap (λ i. drop i (entries n)) e ∙ v.after)) turn-next
 
-    -- and so where the pair is out
+    -- after a step in which the pair is taken out, `HoldsInTurn` holds from the next pair on
     pub turn-removed : (d : Contents (K × V) S) → HoldsExactly n (remove (entries n) (index_of_spot n p)) d → (o : Option Place) → reached d o ≡ index_of_spot m p → HoldsInTurn Step Q f' (drop (reached d o) (entries d))
     turn-removed d out o e = subst (HoldsInTurn Step Q f') (sym (ap (λ i. drop i (entries d)) e ∙ took-after m p q w n v d out)) turn-next

@@ -13,7 +13,7 @@ use Rattle.scc_buckets.proofs.Placed.{entry_of-is}
 use Rattle.scc_common.proofs.WalkLemmas.{turn-always}
 use Rattle.scc_common.specs.PairWalks.{CallableToWrite, Declines, ended, went_on, PassesAt, PassesFirst}
 
--- how many pairs stand before the place of a walk, all where it is over
+-- how many entries stand before the place of a walk; all entries, if the walk is over
 abbrev pub reached : {E S : Type 0} → Contents E S → Option Place → ℕ
 reached c None = length (entries c)
 reached c (Some p) = index_of_spot c p
@@ -42,11 +42,11 @@ module _ {F K V : Type 0} {T : F → K × V → Bool → F → Type 0} where
   declines-more [] ended t = went_on t ended
   declines-more (x ∷ es) (went_on s d) t = went_on s (declines-more es d t)
 
--- the pair that passes first is that of the place
+-- the first pair that passes is the pair at p
 pub passes-at : {K V S F : Type 0} {C : F → K × V → Bool → F → Type 0} {f : F} (c : Contents (K × V) S) (p : Place) (h : IsSpot c p) → PassesFirst C f (entries c) (index_of_spot c p) → PassesAt C f (front_of_spot c p) (entry_of_spot c p h)
 unfolding front_of_spot
 passes-at {C = C} {f = f} c p h x = rw (entry_of-is c p h x.pair x.here) x.first
 
--- a closure that may always be called may be called to write on all pairs
+-- if a closure may always be called, it may be called to write on all pairs
 pub CallableToWrite-always : {F K V R : Type 0} (g : Mut F (Bor K × (MutBor V × Unit {0})) (R × (MutBor V × Unit {0}))) (On : R → Type 0) (f : F) (es : List (K × V)) → always_mut g f → CallableToWrite g On f es
 CallableToWrite-always g On = turn-always _ _ (always_mut g) (λ f f' p t h. mut_next g _ _ _ _ _ t.3.called refl h) (λ f p h key value shows. (h.at ((key, (value, tt)) ∷ [])).0)

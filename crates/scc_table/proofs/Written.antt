@@ -1,4 +1,4 @@
--- A table of two arrays with one entry written, whose new key equals its old one.
+-- A table of two arrays after a write to one entry, whose new key is equal to its former key.
 use Rattle.std.proofs.Common.{◌≡◌, ◌==◌, ℕ, zero, suc, ◌+◌, ◌-◌, ◌^◌, ◌<◌, ◌≤◌, inr, Bool, true, false, cond, Some, List, [], ◌∷◌, ◌++◌, length, map, take, drop, set, refl, sym, ap, ◌∙◌, subst, arith, length-set, get_or-set_same}
 use Rattle.std.specs.Cmp.{IsEquivalence}
 use Rattle.std.specs.List.{filter, slice_get, sum_by, IsDistinct}
@@ -30,7 +30,7 @@ use Rattle.scc_table.proofs.OldChanges.{list-split, list_back, list_front, old-a
 use Rattle.scc_table.proofs.OldSpots.{own, old, own-get, own-spot, old-get, old-spot, old-waits, place-kind, rank_of}
 use Rattle.scc_table.proofs.Preparing.{sized-flags}
 
--- an old array is made of buckets as a table is
+-- `IsBuckets` holds of the old array
 pub old-table : {E : Type 0} (hash : E → ℕ) (t : ℕ) (olds : List (Shelf E)) → IsBucketCount (length olds) → AreOwn hash t olds → overflow_in olds < 2 ^ 62 → IsBuckets hash t olds (sum_by (λ b. length (shelf_entries b)) olds) (overflow_in olds)
 old-table hash t olds sized ours few = record {
   sized = inr sized;
@@ -76,7 +76,7 @@ module _ {E S X : Type 0} (put : E → X → E) (hash : E → ℕ) (c : Contents
   pub arrays-after : TwoArrays hash c ws (set olds j (shelf_write_at put (shelf_of olds j) s w))
   arrays-after = old-arrays hash c ws olds arrays j s e lj got (shelf_write_at put (shelf_of olds j) s w) (put e w ∷ []) parts seen own-after
 
-  -- it is a write in the list of its bucket
+  -- a write to an entry of the old array is a write in the list of its bucket
   pub old-write : together hash c ws (set olds j (shelf_write_at put (shelf_of olds j) s w))
       ≡ writes.with_write_at_spot put (together hash c ws olds) (record { bucket = target_by hash c e; slot = rank_of hash c ws olds arrays j s e lj got }) w
   old-write =
@@ -100,16 +100,16 @@ module _ {E S X : Type 0} (put : E → X → E) (hash : E → ℕ) (c : Contents
       (waiting-together hash c ws news ∙ sym (waiting-together hash c ws olds) ∙ sym (waiting-write put u p w))
       (owed-together hash c ws news ∙ owed-same f ws olds news rows ∙ sym (owed-together hash c ws olds) ∙ sym (owed-write put u p w))
 
--- what is seen to be a place is one
+-- a place of the contents a is a place of both arrays
 pub place-seen : {E K S : Type 0} {eq : K → K → Bool} {key : E → K} {hash : K → ℕ} {c : Contents E S} {drain : Draining E} {skipped : ℕ} (inv : IsTable eq key hash c drain skipped) {a : Contents E S} (p : Place) → together (λ e. hash (key e)) c drain.waiting drain.array ≡ a → IsPlace a p
     → IsPlace (together (λ e. hash (key e)) c drain.waiting drain.array) p
 place-seen inv p view place = subst (λ z. IsPlace z p) (sym view) place
 
--- of all fields, with one entry written
+-- the invariant `IsTable` holds after a write to the entry at p
 module _ {E K S : Type 0} {eq : K → K → Bool} (laws : IsEquivalence eq) {key : E → K} {hash : K → ℕ} {c : Contents E S} {drain : Draining E} {skipped : ℕ} (inv : IsTable eq key hash c drain skipped) (p : Place)
     (within : IsPlace (together (λ e. hash (key e)) c drain.waiting drain.array) p) where
   module _ (l : p.bucket < bucket_count c) where
-    -- a place of the new array
+    -- if p is below the number of buckets, it is a place of the current array, in a bucket that doesn't wait
     pub own-is : spots.IsSpot c p × (waits_at drain.waiting p.bucket ≡ false)
     own-is = elim (place-kind (λ e. hash (key e)) c drain.waiting drain.array inv.arrays p within) [
       | own q down ↦ (q, down)
@@ -145,7 +145,7 @@ module _ {E K S : Type 0} {eq : K → K → Bool} (laws : IsEquivalence eq) {key
           (subst (λ z. IsDistinct eq (map key z)) (sym all) (distinct-write laws key put (entries u) (spots.index_of_spot u q) e w there equal inv.unique))
 
   module _ (far : bucket_count c ≤ p.bucket) where
-    -- a place of the old array
+    -- if p is not below the number of buckets, it is a place of the old array
     pub old-is : (p.bucket - bucket_count c < length drain.array) × (p.slot < length (shelf_entries (shelf_of drain.array (p.bucket - bucket_count c))))
     old-is = elim (place-kind (λ e. hash (key e)) c drain.waiting drain.array inv.arrays p within) [
       | own q down ↦ let b = q.bucket in absurd (omega arith)
