@@ -1,4 +1,4 @@
--- What a step of the table is for a cache.
+-- Steps of the table, as steps of a cache.
 use Rattle.std.proofs.Common.{◌≡◌, ℕ, zero, suc, ◌+◌, ◌*◌, ◌^◌, ◌<◌, ◌≤◌, Bool, true, false, List, [], ◌∷◌, ◌++◌, length, refl, sym, ap, ◌∙◌, subst, arith, inl, inr, length-set, length-append, Option, None, Some, MatchOption}
 use Rattle.std.specs.Int.{IsPowerOfTwo}
 use Rattle.std.specs.List.{IsDistinct, flat_map, remove, slice_get, slice_set, slice_index_or, position}
@@ -34,7 +34,7 @@ one-less : (o : Option ℕ) (i : ℕ) → option_map suc o ≡ Some (suc i) → 
 one-less None i e = absurd (let z : None ≡ Some (suc i) = e in cc)
 one-less (Some k) i e = let z : Some (suc k) ≡ Some (suc i) = e in let w : suc k ≡ suc i = cc in let v : k ≡ i = omega arith in ap (λ x. Some x) v
 
--- what is found passes
+-- if `position` finds an element, the element passes the test
 pub position-passes : {X : Type 0} (p : X → Bool) (xs : List X) (i : ℕ) (e : X) → position p xs ≡ Some i → slice_get xs i ≡ Some e → p e ≡ true
 position-passes p [] i e found got = absurd (let n : None ≡ Some e = got in cc)
 position-passes p (x ∷ xs) zero e found got =
@@ -45,7 +45,7 @@ position-passes p (x ∷ xs) (suc i) e found got =
     (λ y. absurd (let z : Some 0 ≡ Some (suc i) = sym (position_hit p x xs y) ∙ found in cc))
     (λ y. position-passes p xs i e (one-less (position p xs) i (sym (position_cons p x xs y) ∙ found)) got)
 
--- what none of all lists passes, none of one does
+-- if no element of `xs ++ ys` passes, no element of xs passes
 absent-left : {X : Type 0} (p : X → Bool) (xs ys : List X) → position p (xs ++ ys) ≡ None → position p xs ≡ None
 absent-left p [] ys n = refl
 absent-left p (x ∷ xs) ys n = by_answer (p x)
@@ -62,7 +62,7 @@ absent-list p [] (suc i) n = refl
 absent-list p (l ∷ ls) zero n = absent-left p l (flat_map (λ l. l) ls) n
 absent-list p (l ∷ ls) (suc i) n = absent-list p ls i (absent-right p l (flat_map (λ l. l) ls) n)
 
--- lists of at most 32 hold at most 32 each together
+-- if each list has at most 32 elements, all lists together have at most 32 times the number of lists
 flat-short : {X : Type 0} (ls : List (List X)) → ((i : ℕ) → length (slice_index_or ls i []) ≤ 32) → length (flat_map (λ l. l) ls) ≤ 32 * length ls
 flat-short [] h = omega arith
 flat-short (l ∷ ls) h =
@@ -71,7 +71,7 @@ flat-short (l ∷ ls) h =
     let both = length-append l (flat_map (λ l. l) ls) in
     omega arith
 
--- a power below the double of another isn't above it
+-- if a and b are powers of two, and a is less than the double of b, a is at most b
 below-double : (a b j k : ℕ) → a ≡ 2 ^ j → b ≡ 2 ^ k → a < 2 * b → a ≤ b
 below-double a b j k ea eb l = elim (dec_lt k j) [
   | yes h ↦
@@ -107,7 +107,7 @@ module _ {E S : Type 0} where
       let below = due.below in
       below-double (32 * bucket_count d) m (p.0 + 5) w.0 (slots-power (bucket_count d) p.0 p.1) w.1 (omega arith)
 
-  -- where all is made that a new entry wants, its growth leaves the number of buckets
+  -- if the insertion of a new entry is prepared, its growth keeps the number of buckets
   pub once-grown : (hash : E → ℕ) (c d : Contents E S) (m i : ℕ) → GrowsBelow hash m i c d → IsPreparedBelow m i c → bucket_count d ≡ bucket_count c
   once-grown hash c d m i (makes none size r) ready = absurd (let some = ready.0 in omega arith)
   once-grown hash c d m i (has_room some room e) ready = ap bucket_count e
@@ -127,7 +127,7 @@ module _ {E S : Type 0} where
   shrunk-within hash c d (narrows s least down r) = (let f = s.fewer in omega arith, r.lists.settings)
 
 module _ {K V S : Type 0} (eq : K → K → Bool) where
-  -- a state goes on where lists, slots and minimum stay lawful
+  -- if lists, slots and minimum stay lawful, d still meets `IsCacheState`
   pub state-after : (hash hash' : K → ℕ) (c d : Contents (K × V) S) (m : ℕ) → IsCacheState eq hash (record { contents = c; maximum = m }) → IsListed (λ p. hash' p.0) d → IsUnique eq d → settings_of d ≡ settings_of c → 32 * bucket_count d ≤ m
       → IsCacheState eq hash' (record { contents = d; maximum = m })
   state-after hash hash' c d m h lists unique settings within =
@@ -139,7 +139,7 @@ module _ {K V S : Type 0} (eq : K → K → Bool) where
   unfolding entries lists_of
   missing-grown number c k none = absent-list (λ p. eq k p.0) c.lists (number (length c.lists) k) none
 
-  -- an entry put last is a pair put
+  -- a put of an entry at the end of its list is a put of a pair
   pub puts-pair : (number : ℕ → K → ℕ) (c d : Contents (K × V) S) (i : ℕ) (p : K × V) (x : Option (K × V)) → IsMissing number eq (lists_of c) p.0 → i ≡ number (bucket_count c) p.0 → 0 < bucket_count c → PutsLast c i p x d
       → PutsPair number eq p x (lists_of c) (lists_of d)
   unfolding list_of lists_of bucket_count
@@ -152,7 +152,7 @@ module _ {K V S : Type 0} (eq : K → K → Bool) where
   puts-refused c d i p None h = h.1.refused
   puts-refused c d i p (Some x) h = h.1.2.refused
 
-  -- what is seen in one list, seen in the lists
+  -- facts about list i, the list of k, as facts about all lists
   module _ (number : ℕ → K → ℕ) (c : Contents (K × V) S) (k : K) (i : ℕ) (e : i ≡ number (bucket_count c) k) where
     pub list-is : list_of c i ≡ list_for number (lists_of c) k
     unfolding list_of lists_of bucket_count
@@ -197,7 +197,7 @@ module _ {K V S : Type 0} (hash : K → ℕ) (eq : K → K → Bool) (c : Conten
   found-or-lacking i None e m = is-lacking i e m
   found-or-lacking i (Some p) e m = is-found i p e m
 
--- the last of a list that was put together
+-- the last element of `xs ++ x ∷ []` is x
 pub last-is : {X : Type 0} (xs : List X) (x : X) (n : ℕ) → suc n ≡ length (xs ++ x ∷ []) → slice_get (xs ++ x ∷ []) n ≡ Some x
 last-is [] x zero e = refl
 last-is [] x (suc n) e = absurd (omega arith)
@@ -208,7 +208,7 @@ module _ {E S : Type 0} (c d : Contents E S) (i : ℕ) (es : List E) (e : E) (h 
   pub last-length : length (list_of d i) ≡ suc (length es)
   last-length = let z = length-append es (e ∷ []) in ap length (has-list-of c d i (es ++ e ∷ []) h l) ∙ (let y : length (es ++ e ∷ []) ≡ suc (length es) = omega arith in y)
 
-  -- the entry that was put last stands at the last place
+  -- the entry that was put at the end of list i stands at the last slot of the list
   pub last-place : (n : ℕ) → suc n ≡ length (list_of d i) → spots.IsSpot d (record { bucket = i; slot = n }) × (slice_get (list_of d i) n ≡ Some e)
   last-place n s = (
     record { bucket = rw (list-count c d i (es ++ e ∷ []) h) l; slot = omega arith },
@@ -223,17 +223,17 @@ pub put-place : {E S : Type 0} (c d : Contents E S) (i : ℕ) (e : E) (x : Optio
 put-place c d i e None h l = last-place c d i _ e h.1 l
 put-place c d i e (Some x) h l = last-place c d i _ e h.1.2 l
 
--- a place in a list of a bucket that doesn't wait is its own spot
+-- if a bucket doesn't wait, a place in the bucket is its own spot
 pub at-spot : {E S : Type 0} (d : Contents E S) (p : Place) (e : E) → spots.IsSpot d p × (slice_get (list_of d p.bucket) p.slot ≡ Some e) → waits_at (waiting_of d) p.bucket ≡ false
     → IsPlace d p × (slice_get (list_of d (spot_of d p).bucket) (spot_of d p).slot ≡ Some e)
 at-spot d p e h down = subst (λ (q : Place). spots.IsSpot d q × (slice_get (list_of d q.bucket) q.slot ≡ Some e)) (sym (spot-own (waiting_of d) (owed_of d) (bucket_count d) p h.0.bucket down)) h
 
--- one list changed, seen in the lists
+-- a change of list i, as a change of all lists
 pub lists-set : {E S : Type 0} (c d : Contents E S) (i : ℕ) (F : List E → List E) → HasList c i (F (list_of c i)) d → lists_of d ≡ slice_set (lists_of c) i (F (slice_index_or (lists_of c) i []))
 unfolding list_of lists_of
 lists-set c d i F h = h.lists
 
--- a removal at the place of a key
+-- a removal at the place of k removes the pair of k
 pub takes-found : {K V S : Type 0} (hash : K → ℕ) (eq : K → K → Bool) (c d : Cached (K × V) S) (k : K) (p : Place) (x : K × V) → IsFound hash eq c.contents k p → slice_get (list_of c.contents (spot_of c.contents p).bucket) (spot_of c.contents p).slot ≡ Some x → TakesAt hash c p d → TakesThen hash eq c k x d
 unfolding bucket_count lists_of list_of
 takes-found hash eq c d k p x f got (left, change, shrinks) =
@@ -249,12 +249,12 @@ takes-found hash eq c d k p x f got (left, change, shrinks) =
       shrinks,
     )
 
--- what stands at the place of a key is its pair
+-- the entry at the place of k is the pair of k
 pub shows-pair : {K V S : Type 0} (hash : K → ℕ) (eq : K → K → Bool) (c : Contents (K × V) S) (k : K) (p : Place) (x : K × V) → IsFound hash eq c k p → slice_get (list_of c (spot_of c p).bucket) (spot_of c p).slot ≡ Some x → IsPresent hash eq c k x
 shows-pair hash eq c k p x f got =
     let t : f.pair ≡ x = let s : Some f.pair ≡ Some x = sym f.here ∙ got in cc in
     ((spot_of c p).slot, subst (λ y. IsThere (list_number hash c) eq (lists_of c) k (spot_of c p).slot y) t f.there)
 
--- the key of what stands at the place of a key equals it
+-- the key of the entry at the place of k equals k
 pub found-equal : {K V S : Type 0} (hash : K → ℕ) (eq : K → K → Bool) (c : Contents (K × V) S) (k : K) (p : Place) (x : K × V) → IsFound hash eq c k p → slice_get (list_of c (spot_of c p).bucket) (spot_of c p).slot ≡ Some x → eq k x.0 ≡ true
 found-equal hash eq c k p x f got = let s = shows-pair hash eq c k p x f got in position-passes (λ q. eq k q.0) _ s.0 x s.1.first s.1.pair

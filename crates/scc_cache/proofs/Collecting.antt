@@ -1,4 +1,4 @@
--- What puts, one after another, leave as it was.
+-- Facts that puts, one after another, leave as they are.
 use Rattle.std.proofs.Common.{◌≡◌, ◌∙◌, ℕ, Bool, List, [], ◌∷◌, Option, Result, Ok, Err, sym, ap}
 use Rattle.scc_common.specs.Contents.{Contents, settings_of}
 use Rattle.scc_common.specs.declared.errors.InsertError.{InsertError}
@@ -24,7 +24,7 @@ module _ {K V S : Type 0} (eq : K → K → Bool) where
     collected-settings c [] d s = sym (ap (λ z. settings_of z.contents) s)
     collected-settings c (p ∷ ps) d s = collected-settings s.0 ps d s.2 ∙ put-settings (hash c.contents) c p s.1.0 s.0 s.1.1
 
-    -- and the maximum
+    -- puts keep the maximum
     pub collected-maximum : (c : Cached (K × V) S) (ps : List (K × V)) (d : Cached (K × V) S) → PutsAll eq hash c ps d → d.maximum ≡ c.maximum
     collected-maximum c [] d s = sym (ap (λ z. z.maximum) s)
     collected-maximum c (p ∷ ps) d s = collected-maximum s.0 ps d s.2 ∙ put-maximum (hash c.contents) c p s.1.0 s.0 s.1.1

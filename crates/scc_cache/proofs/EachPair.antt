@@ -1,4 +1,4 @@
--- What holds of every pair of a cache goes on through its calls.
+-- If a fact holds of every pair of a cache, the fact holds of every pair after a call.
 use Rattle.std.proofs.Common.{◌≡◌, ℕ, zero, suc, ◌<◌, Bool, true, List, [], ◌∷◌, ◌++◌, length, Option, None, Some, sym, subst, arith}
 use Rattle.std.specs.List.{AllByRecursion, filter, flat_map, remove, slice_get, slice_set, slice_index_or}
 use Rattle.scc_buckets.specs.Bounded.{IsResized, ShrinksBounded, stays_wide, denied_narrow, narrows}
@@ -102,11 +102,11 @@ module _ {K V : Type 0} (P : K × V → Type 0) (eq : K → K → Bool) where
       let all = each-list P ls (number (length ls) p.0) each in
       subst (λ z. Each P z) (sym s.2.2) (each-set P ls (number (length ls) p.0) (s.2.0 ++ p ∷ []) (all-append P s.2.0 (p ∷ []) (all-tail P y s.2.0 (list_for number ls p.0) s.2.1 all) (h, tt)) each)
 
-  -- a new pair of which it holds
+  -- if P holds of a new pair, P holds of each pair after the put of the new pair
   pub each-new : {S : Type 0} (hash : K → ℕ) (c d : Cached (K × V) S) (p : K × V) (x : Option (K × V)) → PutsNew hash eq c p x d → P p → Each P (lists_of c.contents) → Each P (lists_of d.contents)
   each-new hash c d p x (grown, grows, puts) h each = each-put (list_number hash c.contents) p x (lists_of grown.contents) (lists_of d.contents) puts.lists h (each-grown P (λ e. hash e.0) c.maximum (list_number hash c.contents (bucket_count c.contents) p.0) c.contents grown.contents grows.grows each)
 
-  -- what is left of them after a removal
+  -- P holds of each pair that is left after a removal
   pub each-taken : {S : Type 0} (hash : K → ℕ) (c d : Cached (K × V) S) (k : K) (p : K × V) → TakesThen hash eq c k p d → Each P (lists_of c.contents) → Each P (lists_of d.contents)
   each-taken hash c d k p (left, change, shrinks) each =
       let number = list_number hash c.contents in
@@ -116,7 +116,7 @@ module _ {K V : Type 0} (P : K × V → Type 0) (eq : K → K → Bool) where
       let out : Each P (lists_of left.contents) = subst (λ z. Each P z) (sym change.lists.2) (each-set P ls (number (length ls) k) (remove list i) (all-removed P list i (each-list P ls (number (length ls) k) each)) each) in
       each-shrunk P (λ e. hash e.0) left.contents d.contents shrinks.shrinks out
 
-  -- it holds of the pair of a key, whose key equals that one
+  -- P holds of the pair of k, and the key of that pair equals k
   pub each-there : (number : ℕ → K → ℕ) (k : K) (i : ℕ) (p : K × V) (ls : List (List (K × V))) → IsThere number eq ls k i p → Each P ls → P p × (eq k p.0 ≡ true)
   each-there number k i p ls at each =
       let list = list_for number ls k in

@@ -1,4 +1,4 @@
--- What an entry shows, under any guard.
+-- Lemmas about an entry, whatever its guard is.
 use Rattle.std.proofs.Common.{◌≡◌, ℕ, zero, suc, ◌+◌, ◌<◌, List, [], ◌∷◌, ◌++◌, length, Bool, Option, true, None, Some, Result, Ok, Err, refl, sym, ap, subst, ◌∙◌, arith, length-append, length-set, get_or-set_same}
 use Rattle.std.specs.Prelude.{IfOk, IfErr}
 use Rattle.std.specs.Borrow.{MutBor}
@@ -44,7 +44,7 @@ module _ {E S : Type 0} (c : Contents E S) (p : Place) (h : IsPlace c p) where
   entry-listed e got = let s : Some e ≡ Some (entry_of c p h) = sym got ∙ listed-entry in cc
 
 module _ {K V S : Type 0} (c : Cached (K × V) S) (p : Place) (h : IsPlace c.contents p) where
-  -- a value written is one list changed
+  -- a write of a value is a change of one list
   pub changes-written : (v : V) → ChangesLists (λ ls ms. ms ≡ slice_set ls (spot_of c.contents p).bucket (slice_set (slice_index_or ls (spot_of c.contents p).bucket []) (spot_of c.contents p).slot ((entry_of c.contents p h).0, v))) c (with_value_at c p v)
   unfolding writes.with_write_at_spot lists_of list_of settings_of refused_of
   changes-written v = record {
@@ -68,7 +68,7 @@ set-last [] p q (suc s) e = absurd (omega arith)
 set-last (x ∷ es) p q zero e = absurd (let z = length-append es (p ∷ []) in omega arith)
 set-last (x ∷ es) p q (suc s) e = ap (λ l. x ∷ l) (set-last es p q s (omega arith))
 
--- what was moved to the end of a list, and written there, was moved as it is written
+-- a pair that is moved to the end of its list and then written there is moved as the written pair
 pub moved-last : {K V : Type 0} (number : ℕ → K → ℕ) (same : K → K → Bool) (k : K) (p q r : K × V) (ls ms ns : List (List (K × V))) (b s : ℕ) → RefreshesAs number same k p q ls ms → b ≡ number (length ls) k → b < length ms → s + 1 ≡ length (slice_index_or ms b []) → ns ≡ slice_set ms b (slice_set (slice_index_or ms b []) s r)
     → RefreshesAs number same k p r ls ns
 moved-last number same k p q r ls ms ns b s (i, there, e) at within last made =
@@ -81,7 +81,7 @@ moved-last number same k p q r ls ms ns b s (i, there, e) at within last made =
       made ∙ ap (λ z. slice_set ms b (slice_set z s r)) here ∙ ap (slice_set ms b) (set-last es q r s (last ∙ ap length here)) ∙ ap (λ z. slice_set z b (es ++ r ∷ [])) moved ∙ set-twice ls b (es ++ q ∷ []) (es ++ r ∷ []) ∙ ap (λ j. slice_set ls j (es ++ r ∷ [])) at,
     )
 
--- a key put in the place of its equal, which went to the end of its list
+-- if a pair is moved to the end of its list, and k is then written over its key, the pair is moved with k as its key
 pub moved-key : {K V S : Type 0} (hash : K → ℕ) (same : K → K → Bool) (c d : Cached (K × V) S) (k : K) (p : Place) (f : IsLastAt hash same c k d p) → ChangesLists (RefreshesAs (list_number hash c.contents) same k f.pair (k, f.pair.1)) c (with_key_at d p k)
 unfolding writes.with_write_at_spot lists_of list_of settings_of refused_of bucket_count
 moved-key hash same c d k p f =
@@ -93,7 +93,7 @@ moved-key hash same c d k p f =
       maximum = f.changes.maximum;
     }
 
--- so is a value put in the place of the old one
+-- a write of v over the value of the pair of k is a change of one list
 pub changes-value : {K V S : Type 0} (hash : K → ℕ) (same : K → K → Bool) (c : Cached (K × V) S) (k : K) (p : Place) (f : IsFound hash same c.contents k p) (v : V) → ChangesLists (Rewrites (list_number hash c.contents) same k f.pair (f.pair.0, v)) c (with_value_at c p v)
 unfolding writes.with_write_at_spot lists_of list_of settings_of refused_of bucket_count
 changes-value hash same c k p f v = record {
@@ -111,7 +111,7 @@ pair-keyed {K} {V} c d p h e k got made q =
     let same : spot_of d.contents p ≡ s = ap (λ x. spot_of x.contents p) made ∙ spot-with_write_at with_pair_key c.contents s k p in
     sym (entry-listed d.contents p q n (subst (λ (r : Place). slice_get (list_of d.contents r.bucket) r.slot ≡ Some n) (sym same) there))
 
--- what stands there then equals the old key, if the new one does
+-- if the old key equals k, the old key equals the key that stands at the place after k is written there
 pub alike-keyed : {K V S : Type 0} (same : K → K → Bool) (c : Cached (K × V) S) (p : Place) (h : IsPlace c.contents p) (e : K × V) (k : K) → slice_get (list_of c.contents (spot_of c.contents p).bucket) (spot_of c.contents p).slot ≡ Some e → same e.0 k ≡ true
     → (x : K × V) → slice_get (list_of (with_key_at c p k).contents (spot_of (with_key_at c p k).contents p).bucket) (spot_of (with_key_at c p k).contents p).slot ≡ Some x → same e.0 x.0 ≡ true
 alike-keyed {K} {V} same c p h e k got equal x now =
@@ -124,7 +124,7 @@ alike-keyed {K} {V} same c p h e k got equal x now =
     let is : n ≡ x = let z : Some n ≡ Some x = sym here ∙ now in cc in
     subst (λ (q : K × V). same e.0 q.0 ≡ true) is equal
 
--- what stands where the pair of k went has an equal key
+-- the pair at the place to which the pair of k was moved has a key that equals k
 pub last_alike : {K V S : Type 0} (hash : K → ℕ) (same : K → K → Bool) (c m : Cached (K × V) S) (k : K) (at : Place) (p : K × V) → IsLastAt hash same c k m at → slice_get (list_of m.contents (spot_of m.contents at).bucket) (spot_of m.contents at).slot ≡ Some p → same k p.0 ≡ true
 last_alike {K} {V} hash same c m k at p s got =
     let there = s.changes.lists.1 in
@@ -139,21 +139,21 @@ pub map-err : {A B : Type 0} (P Q : B → Type 0) (r : Result A B) → ((e : B) 
 map-err P Q (Ok a) f p = tt
 map-err P Q (Err e) f p = f e p
 
--- what is handed on isn't refused
+-- a result that is `Ok a` has no error, so any P holds of its error
 pub none-refused : {A B : Type 0} {a : A} (r : Result A B) → r ≡ Ok a → (P : B → Type 0) → IfErr r P
 none-refused r same P = subst (λ x. IfErr x P) (sym same) tt
 
 module _ {N K V S T : Type 0} {d : guard.Ghosts (MutBor (Cached (K × V) S)) (Cached (K × V) S)} {g : eq.Ghosts K} {h : hash.Ghosts K} {b : builder.Ghosts S T} {w : hasher.Ghosts T} where
-  -- a refused insertion leaves the cache of the vacant entry, so that of the entry
+  -- a refused insertion leaves the cache of the vacant entry, which is the cache of the entry
   pub refused-through : {A B : Type 0} (s : HeldEntry (MutBor (Cached (K × V) S)) N K V S T d g h b w) (e : HeldVacant (MutBor (Cached (K × V) S)) N K V S T d g h b w) (r : Result A B) (x : Cached (K × V) S) → s ≡ Vacant e → OnErr r (x ≡ e.guard.now) → OnErr r (x ≡ (entry_guard s).now)
   refused-through s e r x is left = subst (λ (y : HeldEntry (MutBor (Cached (K × V) S)) N K V S T d g h b w). OnErr r (x ≡ (entry_guard y).now)) (sym is) left
 
 module _ {G N K V S T : Type 0} {d : guard.Ghosts G (Cached (K × V) S)} {g : eq.Ghosts K} {h : hash.Ghosts K} {b : builder.Ghosts S T} {w : hasher.Ghosts T} where
-  -- what the guard showed at the place is the pair
+  -- if p stands at the entry's place in the contents behind the guard, p is the entry's pair
   pub pair-is : (o : HeldOccupied G N K V S T d g h b w) (m : Cached (K × V) S) (p : K × V) → m ≡ d.inner o.guard → slice_get (list_of m.contents (spot_of m.contents o.place).bucket) (spot_of m.contents o.place).slot ≡ Some p → p ≡ occupied_pair o
   pair-is o m p is got = entry-listed (d.inner o.guard).contents o.place o.within p (subst (λ (x : Cached (K × V) S). slice_get (list_of x.contents (spot_of x.contents o.place).bucket) (spot_of x.contents o.place).slot ≡ Some p) is got)
 
-  -- the entry of a key that was found stands at the pair that was moved
+  -- if the pair of k was found and moved, the entry of k stands at the moved pair
   pub refreshed_at : (same : K → K → Bool) (c : Cached (K × V) S) (k : K) (o : HeldOccupied G N K V S T d g h b w) → IsLastAt (key_hash b w h.hash_input c.contents) same c k (d.inner o.guard) o.place → RelocatesOne (key_hash b w h.hash_input c.contents k) c.contents (d.inner o.guard).contents → IsRefreshed same c k o
   refreshed_at same c k o s r = record {
     changes = subst (λ x. ChangesLists (Refreshes (list_number (key_hash b w h.hash_input c.contents) c.contents) same k x) c (d.inner o.guard)) (pair-is o (d.inner o.guard) s.pair refl s.here) s.changes;
@@ -162,7 +162,7 @@ module _ {G N K V S T : Type 0} {d : guard.Ghosts G (Cached (K × V) S)} {g : eq
     last = s.last;
   }
 
-  -- so it does once another key was put in there
+  -- if k is written over the key of the moved pair, the entry has k with the old value, and stands at the moved pair
   pub replaced-at : (same : K → K → Bool) (c m : Cached (K × V) S) (k : K) (o : HeldOccupied G N K V S T d g h b w) (s : IsLastAt (key_hash b w h.hash_input c.contents) same c k m o.place) → RelocatesOne (key_hash b w h.hash_input c.contents k) c.contents m.contents → d.inner o.guard ≡ with_key_at m o.place k
       → (occupied_pair o ≡ (k, s.pair.1)) × IsMoved same c k s.pair o
   replaced-at same c m k o s r made =
@@ -184,7 +184,7 @@ module _ {G N K V S T : Type 0} {d : guard.Ghosts G (Cached (K × V) S)} {g : eq
         },
       )
 
-  -- the same of the old key that was answered
+  -- if k is written over the key of the moved pair, the key that the call returns is the key that k replaced
   pub replaced_as : (same : K → K → Bool) (c m : Cached (K × V) S) (k old : K) (o : HeldOccupied G N K V S T d g h b w) → IsLastAt (key_hash b w h.hash_input c.contents) same c k m o.place → RelocatesOne (key_hash b w h.hash_input c.contents k) c.contents m.contents
       → (p : K × V) × (slice_get (list_of m.contents (spot_of m.contents o.place).bucket) (spot_of m.contents o.place).slot ≡ Some p) × (old ≡ p.0) → d.inner o.guard ≡ with_key_at m o.place k → IsReplacedBy same c k old o
   replaced_as same c m k old o s r (p, got, is) made =
@@ -193,7 +193,7 @@ module _ {G N K V S T : Type 0} {d : guard.Ghosts G (Cached (K × V) S)} {g : eq
       let pair : s.pair ≡ (old, s.pair.1) = ap (λ x. (x, s.pair.1)) (sym (is ∙ ap (λ q. q.0) shown)) in
       record { value = s.pair.1; pair = moved.0; moved = subst (λ q. IsMoved same c k q o) pair moved.1 }
 
-  -- a value written there later moves nothing further
+  -- a value that is written later at the moved pair moves no other pair
   pub moved-written : (same : K → K → Bool) (c : Cached (K × V) S) (k : K) (p : K × V) (o q : HeldOccupied G N K V S T d g h b w) (v : V) → IsMoved same c k p o → IsWritten o v q → ChangesLists (RefreshesAs (list_number (key_hash b w h.hash_input c.contents) c.contents) same k p ((occupied_pair o).0, v)) c (d.inner q.guard)
   unfolding bucket_count lists_of list_of
   moved-written same c k p o q v m e = record {
@@ -203,11 +203,11 @@ module _ {G N K V S T : Type 0} {d : guard.Ghosts G (Cached (K × V) S)} {g : eq
     maximum = e.changes.maximum ∙ m.changes.maximum;
   }
 
-  -- the place is one in what the guard then keeps
+  -- after a write through the guard, the place of the entry is still a place
   pub within-written : (o : HeldOccupied G N K V S T d g h b w) (m : Cached (K × V) S) (v : V) → m ≡ d.inner o.guard → IsPlace (d.inner (d.with_inner o.guard (with_value_at m o.place v))).contents o.place
   within-written o m v is = subst (λ c. IsPlace (d.inner (d.with_inner o.guard (with_value_at c o.place v))).contents o.place) (sym is) (still_within o v)
 
-  -- the entry is the same by whatever proof that its place is one
+  -- the entry after a write is equal to `with_value o v`, whichever proof it has that its place is a place
   pub written-same : (o : HeldOccupied G N K V S T d g h b w) (m : Cached (K × V) S) (v : V) → (is : m ≡ d.inner o.guard) → (p : IsPlace (d.inner (d.with_inner o.guard (with_value_at m o.place v))).contents o.place)
       → record { guard = d.with_inner o.guard (with_value_at m o.place v); place = o.place; rest = o.rest; of = o.of; within = p } ≡ with_value o v
   written-same o m v is =
@@ -217,7 +217,7 @@ module _ {G N K V S T : Type 0} {d : guard.Ghosts G (Cached (K × V) S)} {g : eq
   pub within-after : (o : HeldOccupied G N K V S T d g h b w) (m n : Cached (K × V) S) (v : V) → m ≡ d.inner o.guard → n ≡ with_value_at m o.place v → IsPlace (d.inner (d.with_inner o.guard n)).contents o.place
   within-after o m n v is made = subst (λ c. IsPlace (d.inner (d.with_inner o.guard c)).contents o.place) (sym made) (within-written o m v is)
 
-  -- what was written through the guard is written in the entry
+  -- a value that is written through the guard is written in the entry
   pub written-after : (o : HeldOccupied G N K V S T d g h b w) (m n : Cached (K × V) S) (v : V) → m ≡ d.inner o.guard → n ≡ with_value_at m o.place v → (p : IsPlace (d.inner (d.with_inner o.guard n)).contents o.place)
       → IsWritten o v (record { guard = d.with_inner o.guard n; place = o.place; rest = o.rest; of = o.of; within = p })
   written-after o m n v is made p =
@@ -236,7 +236,7 @@ module _ {G N K V S T : Type 0} {d : guard.Ghosts G (Cached (K × V) S)} {g : eq
   pub written-with : (o : HeldOccupied G N K V S T d g h b w) (v : V) → IsWritten o v (with_value o v)
   written-with o v = written-after o (d.inner o.guard) (written_cache o v) v refl refl (still_within o v)
 
-  -- what was put in through the guard stands at the entry
+  -- if a pair is put through the guard, the returned entry stands at that pair
   pub put-after : (same : K → K → Bool) (e : HeldVacant G N K V S T d g h b w) (m n : Cached (K × V) S) (v : V) (x : Option (K × V)) (o : HeldOccupied G N K V S T d g h b w) → o.guard ≡ d.with_inner e.guard n → o.rest ≡ e.rest → m ≡ d.inner e.guard
       → PutsNew (key_hash b w h.hash_input m.contents) same m (e.key, v) x n → RelocatesTwoWithin (key_hash b w h.hash_input m.contents e.key) m.contents n.contents → slice_get (list_of n.contents (spot_of n.contents o.place).bucket) (spot_of n.contents o.place).slot ≡ Some (e.key, v) → IsPut same e v x o
   put-after same e m n v x o guarded rests is step moved got =
@@ -249,11 +249,11 @@ module _ {G N K V S T : Type 0} {d : guard.Ghosts G (Cached (K × V) S)} {g : eq
         pair = sym (pair-is o n (e.key, v) (sym k) got);
       }
 
-  -- an entry that is made anew of its parts
+  -- an entry that is made again from its parts is equal to the entry
   pub same-entry : (o : HeldOccupied G N K V S T d g h b w) (p : IsPlace (d.inner o.guard).contents o.place) → record o { within = p } ≡ o
   same-entry o p = ap (λ r. record o { within = r }) (place-prop (d.inner o.guard).contents o.place p o.within)
 
-  -- so does the entry that is made of what was lent, once the pair was moved through the loan
+  -- if the pair of k was moved through the guard s, the entry of the guard that results stands at the moved pair
   pub refreshed-under : (same : K → K → Bool) (s : G) (m n : Cached (K × V) S) (k : K) (o : HeldOccupied G N K V S T d g h b w) → m ≡ d.inner s → o.guard ≡ d.with_inner s n → IsLastAt (key_hash b w h.hash_input m.contents) same m k n o.place → RelocatesOne (key_hash b w h.hash_input m.contents k) m.contents n.contents → IsRefreshed same (d.inner s) k o
   refreshed-under same s m n k o is guarded at r =
       let kept : d.inner o.guard ≡ n = ap d.inner guarded ∙ d.inner_law s n in
@@ -261,7 +261,7 @@ module _ {G N K V S T : Type 0} {d : guard.Ghosts G (Cached (K × V) S)} {g : eq
       let One : Cached (K × V) S → Cached (K × V) S → Type 0 = λ c x. RelocatesOne (key_hash b w h.hash_input c.contents k) c.contents x.contents in
       refreshed_at same (d.inner s) k o (subst (λ c. Last c (d.inner o.guard)) is (subst (Last m) (sym kept) at)) (subst (λ c. One c (d.inner o.guard)) is (subst (One m) (sym kept) r))
 
-  -- an occupied entry is handed on as it is
+  -- an occupied entry is returned unchanged
   module _ (same-key : K → K → Bool) (e : HeldEntry G N K V S T d g h b w) (o : HeldOccupied G N K V S T d g h b w) (r : Result (Option (K × V) × HeldOccupied G N K V S T d g h b w) (InsertError K V)) (is : e ≡ Occupied o) (same : r ≡ Ok (None, o)) where
     pub or-handed : (v : V) → IfOk r (λ x. OrPuts same-key e v x.0 x.1)
     or-handed v = subst (λ z. IfOk r (λ x. OrPuts same-key z v x.0 x.1)) (sym is) (subst (λ y. IfOk y (λ x. OrPuts same-key (Occupied o) v x.0 x.1)) (sym same) (refl, refl))
@@ -269,7 +269,7 @@ module _ {G N K V S T : Type 0} {d : guard.Ghosts G (Cached (K × V) S)} {g : eq
     pub some-handed : (P : K → V → Type 0) → IfOk r (λ x. OrPutsSome same-key e P x.0 x.1)
     some-handed P = subst (λ z. IfOk r (λ x. OrPutsSome same-key z P x.0 x.1)) (sym is) (subst (λ y. IfOk y (λ x. OrPutsSome same-key (Occupied o) P x.0 x.1)) (sym same) (refl, refl))
 
-  -- through a vacant one a value is put in
+  -- through a vacant entry, a value is put
   module _ (e : HeldEntry G N K V S T d g h b w) (x : HeldVacant G N K V S T d g h b w) (r : Result (Option (K × V) × HeldOccupied G N K V S T d g h b w) (InsertError K V)) (is : e ≡ Vacant x) where
     pub or-refused : (v : V) → IfErr r (λ i. (i ≡ Memory (x.key, v)) × (bucket_count (d.inner x.guard).contents ≡ 0)) → IfErr r (Refuses e v)
     or-refused v back = subst (λ z. IfErr r (Refuses z v)) (sym is) (map-err (λ i. (i ≡ Memory (x.key, v)) × (bucket_count (d.inner x.guard).contents ≡ 0)) (Refuses (Vacant x) v) r (λ i b. (b.1, b.0)) back)

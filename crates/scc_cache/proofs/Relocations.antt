@@ -22,7 +22,7 @@ use Rattle.scc_cache.specs.ListSteps.{Refreshes}
 use Rattle.scc_cache.specs.Relocations.{RelocatesNoneWithin, RelocatesOne, RelocatesTwoWithin}
 
 module _ {K V S : Type 0} (c : Cached (K × V) S) (p : Place) where
-  -- a write leaves the same buckets waiting
+  -- a write leaves the waiting buckets as they are
   pub waiting-written : (v : V) → waiting_of (with_value_at c p v).contents ≡ waiting_of c.contents
   unfolding writes.with_write_at_spot waiting_of
   waiting-written v = refl
@@ -32,7 +32,7 @@ module _ {K V S : Type 0} (c : Cached (K × V) S) (p : Place) where
   waiting-keyed k = refl
 
 module _ {E S : Type 0} (hash : E → ℕ) where
-  -- contents with the same entries, settings and number of buckets may narrow alike
+  -- if d has the entries, the settings and the number of buckets of b, and b may shrink to n, d may shrink to n
   narrow-same : (b d : Contents E S) (n : ℕ) → entries d ≡ entries b → settings_of d ≡ settings_of b → bucket_count d ≡ bucket_count b → MayShrinkWithin hash b n → MayShrinkWithin hash d n
   narrow-same b d n all settings count m = record {
     array = m.array;
@@ -40,7 +40,7 @@ module _ {E S : Type 0} (hash : E → ℕ) where
     short = rw (settings, all) m.short;
   }
 
-  -- a change that kept the array and what waits, with no resize
+  -- a change without a resize that kept the array and the waiting buckets relocates no bucket
   pub kept-none : (a b : Contents E S) → bucket_count b ≡ bucket_count a → waiting_of b ≡ waiting_of a → RelocatesNoneWithin hash a b
   kept-none a b count waiting = record { all = λ ne. absurd (ne count); less = λ e. omega (arith, pending-same a b waiting); waiting = λ e undue. waiting }
 
@@ -51,7 +51,7 @@ module _ {E S : Type 0} (hash : E → ℕ) where
     waiting = λ e undue. r.waiting (e ∙ sym count) undue ∙ waiting;
   }
 
-  -- a shrink that was tried after a change that kept the array and what waits
+  -- a change that kept the array and the waiting buckets relocates no bucket, if a shrink was tried after the change
   pub shrunk-none : (a b d : Contents E S) → bucket_count b ≡ bucket_count a → waiting_of b ≡ waiting_of a → ShrinksBounded hash b d → Spreads ((n : ℕ) × MayShrinkWithin hash b n) b d → RelocatesNoneWithin hash a d
   shrunk-none a b d count waiting shrinks s = record {
     all = λ ne. s.all (λ e. ne (e ∙ count));
@@ -65,24 +65,24 @@ module _ {E S : Type 0} (hash : E → ℕ) where
       waits (narrows small least down moved) f same undue = absurd (let z = small.fewer in omega arith)
 
 module _ {E S : Type 0} (h : ℕ) where
-  -- what waits after a get in a bucket that doesn't wait
+  -- a get in a bucket that doesn't wait leaves the waiting buckets as they are
   pub not_waiting-one : (c d : Contents E S) → waiting_of d ≡ waiting_of c → waits_at (waiting_of c) (bucket_number (settings_of c).skipped (bucket_count c) h) ≡ false → RelocatesOne h c d
   not_waiting-one c d same down =
       let i = bucket_number (settings_of c).skipped (bucket_count c) h in
       record { not_waiting = ap (λ w. waits_at w i) same ∙ down; targets = targets-same c d same ∙ sym (targets-without i c down) }
 
-  -- a write after it leaves that as it is
+  -- a write after the get leaves the waiting buckets as they are
   pub written-one : (c d w : Contents E S) → RelocatesOne h c d → waiting_of w ≡ waiting_of d → RelocatesOne h c w
   written-one c d w r same = record { not_waiting = ap (λ x. waits_at x (bucket_number (settings_of c).skipped (bucket_count c) h)) same ∙ r.not_waiting; targets = targets-same d w same ∙ r.targets }
 
-  -- and in one that took its pairs over first
+  -- after a get in a bucket that was relocated first, this bucket doesn't wait, and the other waiting buckets still do
   pub relocated-one : (c b d : Contents E S) (i : ℕ) → i ≡ bucket_number (settings_of c).skipped (bucket_count c) h → pending_targets b ≡ filter (λ t. not (t == i)) (pending_targets c) → waits_at (waiting_of b) i ≡ false → waiting_of d ≡ waiting_of b → RelocatesOne h c d
   relocated-one c b d i at targets down same = record {
     not_waiting = ap (λ j. waits_at (waiting_of d) j) (sym at) ∙ ap (λ w. waits_at w i) same ∙ down;
     targets = targets-same b d same ∙ targets ∙ ap (λ j. filter (λ t. not (t == j)) (pending_targets c)) at;
   }
 
--- what waits after a put: m is the cache once it grew where that was due, and i the bucket of the key
+-- the waiting buckets after a put: m is the cache after the growth, if one was due, and i is the bucket of the key
 module _ {E S : Type 0} (hash i : ℕ) (c m d : Contents E S) (at : i ≡ bucket_number (settings_of c).skipped (bucket_count m) hash) (count : bucket_count d ≡ bucket_count m) (some : i < bucket_count m) (lawful : IsLawful (bucket_count m)) where
   pub put-relocates : (bucket_count c ≡ 0 → waiting_of m ≡ []) → (0 < bucket_count c → bucket_count m ≡ bucket_count c → waiting_of m ≡ waiting_of c) → (0 < bucket_count c → bucket_count m ≢ bucket_count c → pending_of m ≡ bucket_count m)
       → waits_at (waiting_of d) i ≡ false → pending_targets d ≡ left_after i (pending_targets m) → (2 ≤ pending_of m → pending_of d + 2 ≡ pending_of m) → RelocatesTwoWithin hash c d
@@ -107,7 +107,7 @@ pub any-some : {X P : Type 0} (o : Option X) → P → OnSome o P
 any-some None p = tt
 any-some (Some x) p = p
 
--- what a get found in a bucket that took its pairs over first, seen from the cache before
+-- the result of a get in a bucket that was relocated first: a is the cache before the relocation, b the cache after it
 module _ {K V S : Type 0} (hash : Settings S → K → ℕ) (eq : K → K → Bool) (a b d : Cached (K × V) S) (k : K) (lists : lists_of b.contents ≡ lists_of a.contents) (settings : settings_of b.contents ≡ settings_of a.contents) (refused : refused_of b.contents ≡ refused_of a.contents) (maximum : b.maximum ≡ a.maximum) where
   changes-from : (p : K × V) → ChangesLists (Refreshes (list_number (hash (settings_of b.contents)) b.contents) eq k p) b d → ChangesLists (Refreshes (list_number (hash (settings_of a.contents)) a.contents) eq k p) a d
   changes-from p c = record {

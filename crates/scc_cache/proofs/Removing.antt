@@ -20,7 +20,7 @@ set-twice [] (suc i) x y = refl
 set-twice (z ∷ xs) zero x y = refl
 set-twice (z ∷ xs) (suc i) x y = ap (λ w. z ∷ w) (set-twice xs i x y)
 
--- what is written goes where its place is emptied
+-- if the element at an index is removed, a write at this index before the removal makes no difference
 remove-written : {E X : Type 0} (put : E → X → E) (es : List E) (i : ℕ) (w : X) → remove (write_at put es i w) i ≡ remove es i
 remove-written put [] i w = refl
 remove-written put (e ∷ es) zero w = refl
@@ -30,7 +30,7 @@ module _ {K V S : Type 0} {hash : K → ℕ} {eq : K → K → Bool} (c : Cached
   pub found-pair : (x : K × V) → slice_get (list_of c.contents (spot_of c.contents p).bucket) (spot_of c.contents p).slot ≡ Some x → x ≡ f.pair
   found-pair x got = let s : Some x ≡ Some f.pair = sym got ∙ f.here in cc
 
-  -- the pair that goes has what was written
+  -- the removed pair has the written value
   pub removed-pair : (w : V) (x : K × V) → slice_get (list_of (with_value_at c p w).contents (spot_of (with_value_at c p w).contents p).bucket) (spot_of (with_value_at c p w).contents p).slot ≡ Some x → x ≡ (f.pair.0, w)
   removed-pair w x got =
       let d = (with_value_at c p w).contents in
@@ -40,7 +40,7 @@ module _ {K V S : Type 0} {hash : K → ℕ} {eq : K → K → Bool} (c : Cached
       let s : Some x ≡ Some (f.pair.0, w) = sym there ∙ here in
       cc
 
--- a removal of a pair that was written is one of the pair
+-- a removal of the pair of k after a write of its value is a removal of the pair of k
 pub takes-written : {K V S : Type 0} (hash : Settings S → K → ℕ) (eq : K → K → Bool) (c : Cached (K × V) S) (k : K) (p : Place) (f : IsFound (hash (settings_of c.contents)) eq c.contents k p) (w : V) (d : Cached (K × V) S)
     → TakesAt (hash (settings_of (with_value_at c p w).contents)) (with_value_at c p w) p d → TakesThen (hash (settings_of c.contents)) eq c k f.pair d
 unfolding bucket_count lists_of list_of settings_of refused_of with_write_at_spot

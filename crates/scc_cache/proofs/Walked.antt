@@ -1,4 +1,4 @@
--- The lists of a cache, seen as its pairs in a row.
+-- The lists of a cache, joined to one list of its pairs.
 use Rattle.std.proofs.Common.{◌≡◌, ◌==◌, ◌≢◌, ℕ, zero, suc, ◌+◌, ◌<◌, true, false, List, [], ◌∷◌, ◌++◌, length, Some, refl, sym, ap, ◌∙◌, subst, arith, rules, eq-eqb}
 use Rattle.std.specs.List.{filter, flat_map, slice_get, slice_index_or}
 use Rattle.std.proofs.lemmas.List.{append-nil}
@@ -62,7 +62,7 @@ module _ {E : Type 0} (number : E → ℕ) where
       ∙ ap (λ z. z ++ filter (λ e. number e == i) (flat_map (λ l. l) ls)) (filter-other i (b + 0) x (omega arith) (λ j d got. o 0 j d got))
       ∙ flat-own i (suc b) k ls (own-tail b x ls o) (omega arith) (omega arith)
 
--- what of all entries belongs to a list is that list
+-- the entries whose hashes lead to bucket i are list i
 pub listed-bound : {E S : Type 0} (hash : E → ℕ) (c : Contents E S) → IsListed hash c → (i : ℕ) → i < bucket_count c → bound_for hash (settings_of c).skipped (bucket_count c) i (entries c) ≡ list_of c i
 unfolding list_of bucket_count entries
 listed-bound hash c h i l =
@@ -70,11 +70,11 @@ listed-bound hash c h i l =
     flat-own (λ e. bucket_number (settings_of c).skipped (length c.lists) (hash e)) i 0 i c.lists (λ k j e got. let q : 0 + k ≡ k = omega arith in h.routed k j e got ∙ sym q) z l
 
 module _ {K V S : Type 0} (hash : K → ℕ) where
-  -- the pairs in a row are those of the lists
+  -- the joined list has the pairs of all lists, each list in its order
   pub goes-over : (c : Contents (K × V) S) → IsListed (λ p. hash p.0) c → GoesOver hash c (entries c)
   goes-over c h = record { same = IsPermutation-refl (entries c); order = listed-bound (λ p. hash p.0) c h }
 
-  -- what a walk in the order of the pairs left
+  -- if a walk in the order of the pairs left the pairs es, d is the cache that the walk leaves
   pub leaves-pairs : (c d : Cached (K × V) S) (es : List (K × V)) → IsListed (λ p. hash p.0) d.contents → HoldsExactly c.contents es d.contents → refused_of d.contents ≡ refused_of c.contents → d.maximum ≡ c.maximum → LeavesPairs hash c es d
   leaves-pairs c d es h held refused maximum = record {
     buckets = held.buckets;
@@ -84,7 +84,7 @@ module _ {K V S : Type 0} (hash : K → ℕ) where
     maximum = maximum;
   }
 
--- what a call at a place left
+-- d is the cache after a call at a place
 pub record Stepped {K V S : Type 0} (c : Cached (K × V) S) (p : Place) (q : K × V) (w : V) (d : Cached (K × V) S) : Type 0 where
   pub now : Visited c.contents (spot_of c.contents p) q w d.contents
   pub refused : refused_of d.contents ≡ refused_of c.contents
@@ -102,7 +102,7 @@ visits c p q w d within got new = record {
   waiting = ap (λ x. x.contents.waiting) new;
 }
 
--- lists are lawful by a hasher, and so by that of a cache with the same settings
+-- if lists are lawful by the hasher of c, they are lawful by the hasher of a cache with the settings of c
 pub listed-same : {K V S : Type 0} (hash : Settings S → K → ℕ) (c d : Contents (K × V) S) → settings_of c ≡ settings_of d → IsListed (λ p. hash (settings_of c) p.0) c → IsListed (λ p. hash (settings_of d) p.0) c
 listed-same hash c d same h = subst (λ s. IsListed (λ p. hash s p.0) c) same h
 

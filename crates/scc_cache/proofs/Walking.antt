@@ -11,7 +11,7 @@ use Rattle.scc_common.specs.Steps.{HoldsExactly}
 use Rattle.scc_buckets.proofs.Standing.{index-below}
 use Rattle.scc_buckets.specs.declared.place.Place.{Place}
 
--- lists that hold nothing together are empty
+-- if lists hold no element together, each list is empty
 empty-lists : {X : Type 0} (ls ms : List (List X)) → flat_map (λ l. l) ms ≡ [] → length ms ≡ length ls → ms ≡ map (λ _. []) ls
 empty-lists [] [] none e = refl
 empty-lists [] (m ∷ ms) none e = absurd (omega arith)

@@ -23,14 +23,14 @@ by_same i j f g = elim (dec_lt i j) [
   | no l ↦ elim (dec_lt j i) [ yes m ↦ g (λ e. absurd (omega arith)) | no m ↦ f (omega arith) ]
 ]
 
--- a write is a new element in the place of the old one
+-- a write replaces the old element by the new element
 pub write-set : {E X : Type 0} (put : E → X → E) (es : List E) (i : ℕ) (w : X) (e : E) → slice_get es i ≡ Some e → write_at put es i w ≡ set es i (put e w)
 write-set put [] zero w e got = refl
 write-set put [] (suc i) w e got = refl
 write-set put (x ∷ es) zero w e got = let s : x ≡ e = cc in ap (λ y. put y w ∷ es) s
 write-set put (x ∷ es) (suc i) w e got = ap (λ l. x ∷ l) (write-set put es i w e got)
 
--- what stands in a list after a write stood there before, or was written
+-- an element of a list after a write was there before the write, or is the written element
 pub written-from : {E X : Type 0} (put : E → X → E) (es : List E) (i j : ℕ) (w : X) (e : E) → slice_get (write_at put es i w) j ≡ Some e → (o : E) × (slice_get es j ≡ Some o) × ((e ≡ o) ⊎ ((e ≡ put o w) × (j ≡ i)))
 written-from put [] i j w e got = absurd (none-of j e got)
   where
@@ -44,7 +44,7 @@ written-from put (x ∷ es) (suc i) (suc j) w e got =
     let r = written-from put es i j w e got in
     (r.0, r.1, elim r.2 [ inl s ↦ inl s | inr s ↦ inr (s.0, ap suc s.1) ])
 
--- a write that keeps what `key` tells keeps it in all lists
+-- if a write keeps the `key` of each element, it keeps the keys of all lists
 keys-list : {E X Y : Type 0} (put : E → X → E) (key : E → Y) → ((e : E) (w : X) → key (put e w) ≡ key e) → (es : List E) (i : ℕ) (w : X) → map key (write_at put es i w) ≡ map key es
 keys-list put key h [] i w = refl
 keys-list put key h (e ∷ es) zero w = ap (λ y. y ∷ map key es) (h e w)
@@ -110,7 +110,7 @@ module _ {K V S : Type 0} (eq : K → K → Bool) (hash : K → ℕ) (c : Cached
   unfolding entries with_write_at_spot list_of
   value-unique v = subst (λ ks. IsDistinct eq ks) (sym (keys-lists with_pair_value (λ (q : K × V). q.0) (λ e w. refl) c.contents.lists (spot_of c.contents p).bucket (spot_of c.contents p).slot v)) h.unique
 
-  -- a cache with a value written is one
+  -- after a write of a value, a cache still meets `IsCacheState`
   pub value-state : (v : V) → IsCacheState eq hash (with_value_at c p v)
   value-state v = record {
     lists = listed-written with_pair_value c.contents (spot_of c.contents p) within v (λ q. hash q.0) (λ e got. refl) h.lists;
@@ -122,7 +122,7 @@ module _ {K V S : Type 0} (eq : K → K → Bool) (hash : K → ℕ) (c : Cached
     minimum = rw (written-settings with_pair_value c.contents (spot_of c.contents p) within v) h.minimum;
   }
 
-  -- so is one with a key in the place of its equal
+  -- after a write of a key over an equal key, a cache still meets `IsCacheState`
   pub key-state : (k : K) → ((q : K × V) → slice_get (list_of c.contents (spot_of c.contents p).bucket) (spot_of c.contents p).slot ≡ Some q → hash k ≡ hash q.0) → IsUnique eq (with_write_at_spot with_pair_key c.contents (spot_of c.contents p) k) → IsCacheState eq hash (with_key_at c p k)
   key-state k same unique = record {
     lists = listed-written with_pair_key c.contents (spot_of c.contents p) within k (λ q. hash q.0) same h.lists;
@@ -134,7 +134,7 @@ module _ {K V S : Type 0} (eq : K → K → Bool) (hash : K → ℕ) (c : Cached
     minimum = rw (written-settings with_pair_key c.contents (spot_of c.contents p) within k) h.minimum;
   }
 
--- the same, where the hash is that of the cache's own hasher
+-- `value-state` and `key-state` for the hash of the cache's own hasher
 module _ {K V S : Type 0} (eq : K → K → Bool) (hash : Settings S → K → ℕ) (c : Cached (K × V) S) (p : Place) (within : places.IsPlace c.contents p) (h : IsCacheState eq (hash (settings_of c.contents)) c) where
   pub value-state-by : (v : V) → IsCacheState eq (hash (settings_of (with_value_at c p v).contents)) (with_value_at c p v)
   value-state-by v = rw (written-settings with_pair_value c.contents (spot_of c.contents p) within v) (value-state eq (hash (settings_of c.contents)) c p within h v)

@@ -14,7 +14,7 @@ use Rattle.std.proofs.lemmas.List.Sorted.{IsPermutation-refl, IsPermutation-sym,
 use Rattle.std.proofs.lemmas.Map.Keys.{IsDistinct-head, IsDistinct-tail}
 
 module _ {K V : Type 0} {eq : K → K → Bool} (laws : IsEquivalence eq) where
-  -- the pair of k, once w is its value
+  -- after the value of k is set to w, a look-up of k finds its stored key with w, and other look-ups find what they found
   pub find-written : (es : List (K × V)) (k q : K) (p : K × V) (w : V) → find eq es k ≡ Some p → find eq (set_value (eq k) es w) q ≡ cond (eq q k) (Some (p.0, w)) (find eq es q)
   find-written [] k q p w f = absurd (let h : None ≡ Some p = f in cc)
   find-written (x ∷ es) k q p w f = by_answer (eq k x.0)
@@ -37,15 +37,15 @@ module _ {K V : Type 0} {eq : K → K → Bool} (laws : IsEquivalence eq) where
       (λ z. cond-false (Some x) (lookup_entry (eq q) (set_value (eq k) es w)) z ∙ rest ∙ ap (cond (eq q k) (Some (p.0, w))) (sym (cond-false (Some x) (lookup_entry (eq q) es) z))))
 
   module _ {S : Type 0} (c d : Contents (K × V) S) where
-    -- what look-ups find once a value is set: the stored key with it
+    -- after a step that sets the value of k, a look-up of k finds the stored key with the new value
     pub finds-set_value : (k : K) (p : K × V) (w : V) → find eq (entries c) k ≡ Some p → HoldsExactly c (set_value (eq k) (entries c) w) d → FindsInstead eq (entries c) k (Some (p.0, w)) (entries d)
     finds-set_value k p w f h = record { finds = λ q. rw h.exact (find-written (entries c) k q p w f) }
 
-    -- what they find once a pair is added
+    -- after a step that adds a pair, a look-up of its key finds the pair
     pub finds-inserted : (p : K × V) → Holds c (p ∷ entries c) d → IsUnique eq d → FindsInstead eq (entries c) p.0 (Some p) (entries d)
     finds-inserted p h u = finds-added laws (entries c) (entries d) p h.same u
 
-    -- what they find once the pair of k is gone
+    -- after a step that removes the pair of k, a look-up of k finds nothing
     pub finds-without : (k : K) → Holds c (without eq (entries c) k) d → IsUnique eq c → IsUnique eq d → FindsInstead eq (entries c) k None (entries d)
     finds-without k h u v = record {
       finds = λ q.
@@ -53,12 +53,12 @@ module _ {K V : Type 0} {eq : K → K → Bool} (laws : IsEquivalence eq) where
           ∙ find-without laws (entries c) k q u;
     }
 
-    -- look-ups find the same after a refused call
+    -- after a refused call, look-ups find what they found before the call
     pub finds-rearranged : Rests c d → IsUnique eq d → (q : K) → find eq (entries d) q ≡ find eq (entries c) q
     finds-rearranged (inl h) u q = ap (λ es. find eq es q) h.exact
     finds-rearranged (inr h) u q = find-IsPermutation laws (entries c) (entries d) q h.1.same (distinct-IsPermutation laws (entries d) (entries c) (IsPermutation-sym (entries c) (entries d) h.1.same) u)
 
-    -- where nothing changed, look-ups find what they found
+    -- if nothing changed, look-ups find what they found before
     pub finds-unchanged : HoldsExactly c (entries c) d → (q : K) → find eq (entries d) q ≡ find eq (entries c) q
     finds-unchanged h q = ap (λ es. find eq es q) h.exact
 
@@ -70,7 +70,7 @@ module _ {K V : Type 0} {eq : K → K → Bool} (laws : IsEquivalence eq) where
       apart-none (eq q) xs (along (λ w h. sym (laws.congr x.0 q w near) ∙ h) (keys_of xs) (IsDistinct-head eq x.0 (keys_of xs) u)) ∙ sym (cond-true None (find eq (x ∷ xs) q) y))
       (λ y. sym (cond-false (Some x) (find eq xs q) y) ∙ sym (cond-false None (find eq (x ∷ xs) q) y))
 
-  -- pairs with distinct keys are a rearrangement of others where every look-up finds the same in both
+  -- if two lists have distinct keys, and each look-up finds the same pair in both, one list is a rearrangement of the other
   pub same-finds : (xs ys : List (K × V)) → IsDistinct eq (keys_of xs) → IsDistinct eq (keys_of ys) → ((q : K) → find eq ys q ≡ find eq xs q) → IsPermutation xs ys
   same-finds [] [] u v f = IsPermutation-refl []
   same-finds [] (y ∷ ys) u v f = absurd (let h : Some y ≡ None = sym (cond-true (Some y) (find eq ys y.0) (laws.refl y.0)) ∙ f y.0 in cc)
@@ -84,7 +84,7 @@ module _ {K V : Type 0} {eq : K → K → Bool} (laws : IsEquivalence eq) where
       IsPermutation-trans (x ∷ xs) (x ∷ remove ys at.0) ys (IsPermutation-cons x xs (remove ys at.0) inner)
       (IsPermutation-sym ys (x ∷ remove ys at.0) (IsPermutation-remove ys at.0 x (place-below ys at.0 x at.1) (sym (get-read ys at.0 x at.1))))
 
-  -- equal keys are found alike
+  -- if q equals k, a look-up of q finds what a look-up of k finds
   pub find-equal : (es : List (K × V)) (q k : K) → eq q k ≡ true → find eq es q ≡ find eq es k
   find-equal [] q k y = refl
   find-equal (x ∷ es) q k y = (λ i. cond (laws.congr q k x.0 y i) (Some x) (find-equal es q k y i))

@@ -1,4 +1,4 @@
--- Insertions that were not refused for want of memory, and what look-ups find after them.
+-- Insertions that were not refused for memory, and what look-ups find after them.
 use Rattle.std.proofs.Common.{◌≡◌, ◌∙◌, Bool, true, false, cond, List, [], ◌∷◌, Option, None, Some, Result, Ok, Err, refl, sym, ap, subst}
 use Rattle.std.specs.Cmp.{IsEquivalence}
 use Rattle.std.specs.List.{IsDistinct}
@@ -53,7 +53,7 @@ module _ {K V S : Type 0} {eq : K → K → Bool} (laws : IsEquivalence eq) wher
   collected-settings c [] d s = sym (ap settings_of s)
   collected-settings c (p ∷ ps) d s = collected-settings s.0 ps d s.2 ∙ insert-settings c p s.1.0 s.0 s.1.1 s.1.2
 
-  -- and keep the keys distinct
+  -- insertions keep the keys distinct
   pub collected-distinct : (c : Contents (K × V) S) (ps : List (K × V)) (d : Contents (K × V) S) → InsertsAll eq c ps d → IsUnique eq c → IsUnique eq d
   collected-distinct c [] d s u = subst (λ z. IsUnique eq z) s u
   collected-distinct c (p ∷ ps) d s u = collected-distinct s.0 ps d s.2 (insert-distinct c p s.1.0 s.0 s.1.1 s.1.2 u)
@@ -64,11 +64,11 @@ module _ {K V S : Type 0} {eq : K → K → Bool} (laws : IsEquivalence eq) wher
       let v = insert-distinct c p s.1.0 s.0 s.1.1 s.1.2 u in
       finds-along s.0 ps d s.2 v q ∙ ap (λ o. option_or o (find eq ps q)) (insert-finds c p s.1.0 s.0 s.1.1 s.1.2 v q) ∙ or-cond (eq q p.0) p (find eq (entries c) q) (find eq ps q)
 
-  -- what they make of an empty index
+  -- after insertions into an empty index, a look-up finds the first inserted pair whose key equals the searched key
   pub collected-finds : (c : Contents (K × V) S) (ps : List (K × V)) (d : Contents (K × V) S) → InsertsAll eq c ps d → IsUnique eq c → entries c ≡ [] → FindsFirst eq ps (entries d)
   collected-finds c ps d s u e = record { finds = λ k. finds-along c ps d s u k ∙ ap (λ es. option_or (find eq es k) (find eq ps k)) e }
 
--- no pair, no two equal keys
+-- if there are no pairs, no two keys are equal
 pub none-unique : {K V S : Type 0} (eq : K → K → Bool) (c : Contents (K × V) S) → entries c ≡ [] → IsUnique eq c
 unfolding IsDistinct
 none-unique {K} {V} eq c e = subst (λ (es : List (K × V)). IsDistinct eq (keys_of es)) (sym e) tt

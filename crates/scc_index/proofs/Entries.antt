@@ -1,4 +1,4 @@
--- What an entry shows, under any guard.
+-- Lemmas about an entry, whatever its guard is.
 use Rattle.std.proofs.Common.{◌≡◌, Bool, true, Some, Result, Ok, Err, suc, take, drop, refl, sym, ap, subst, ◌∙◌}
 use Rattle.std.specs.Prelude.{IfOk, IfErr, ⊤}
 use Rattle.std.specs.Result.{OnErr}
@@ -44,11 +44,11 @@ any-err (Ok a) = tt
 any-err (Err e) = tt
 
 module _ {G N K V S T : Type 0} {d : guard.Ghosts G (Contents (K × V) S)} {g : eq.Ghosts K} {h : hash.Ghosts K} {b : builder.Ghosts S T} {w : hasher.Ghosts T} where
-  -- what the guard showed at the place is the pair
+  -- if p stands at the entry's place in the contents behind the guard, p is the entry's pair
   pub pair-is : (o : HeldOccupied G N K V S T d g h b w) (m : Contents (K × V) S) (p : K × V) → m ≡ d.inner o.guard → slice_get (entries m) (index_of m o.place) ≡ Some p → p ≡ occupied_pair o
   pair-is o m p is got = sym (entry_of-is (d.inner o.guard) o.place o.within p (subst (λ (c : Contents (K × V) S). slice_get (entries c) (index_of c o.place) ≡ Some p) is got))
 
-  -- the entry that a search found is that of the key
+  -- if a search for k found the place of an entry, the entry is the entry of k
   pub occupied-at : {same : K → K → Bool} (laws : IsEquivalence same) (k : K) (o : HeldOccupied G N K V S T d g h b w) → IsDistinct same (keys_of (entries (d.inner o.guard))) → IsFoundAt (λ e. same k e.0) (d.inner o.guard) o.place
       → IsOccupiedAt same (d.inner o.guard) k o
   unfolding spots.front_of_spot spots.back_of_spot
@@ -65,13 +65,13 @@ module _ {G N K V S T : Type 0} {d : guard.Ghosts G (Contents (K × V) S)} {g : 
         removes = sym (without-at laws k (entries c) (index_of c o.place) u f);
       }
 
-  -- a place stays one in what the guard keeps once a version was put there
+  -- after a version is written at a place through the guard, the place is still a place
   pub within-after : (o : HeldOccupied G N K V S T d g h b w) (m n : Contents (K × V) S) (e : K × V) → m ≡ d.inner o.guard → n ≡ with_write_at put_whole m o.place e → IsPlace (d.inner (d.with_inner o.guard n)) o.place
   within-after o m n e is made =
       let P : Contents (K × V) S → Type 0 = λ c. IsPlace c o.place in
       subst P (sym (d.inner_law o.guard n)) (subst P (sym made) (IsPlace-with_write_at put_whole m o.place e (subst P (sym is) o.within)))
 
-  -- the version that was put in through the guard stands in the entry
+  -- if a version is written through the guard, the entry is updated to that version
   pub updated-after : (C : K → K → Type 0) {same : K → K → Bool} (laws : IsEquivalence same) (o : HeldOccupied G N K V S T d g h b w) (m n : Contents (K × V) S) (e : K × V) → m ≡ d.inner o.guard → n ≡ with_write_at put_whole m o.place e → C (occupied_pair o).0 e.0 → same e.0 (occupied_pair o).0 ≡ true
       → IsDistinct same (keys_of (entries m)) → (p : IsPlace (d.inner (d.with_inner o.guard n)) o.place) → IsUpdated C same o e.1 (record { guard = d.with_inner o.guard n; place = o.place; rest = o.rest; of = o.of; within = p })
   updated-after C laws o m n e is made cloned equal u p =
@@ -87,11 +87,11 @@ module _ {G N K V S T : Type 0} {d : guard.Ghosts G (Contents (K × V) S)} {g : 
         finds = finds-replaced laws (front_of (d.inner o.guard) o.place) (back_of (d.inner o.guard) o.place) (occupied_pair o) e (entries (d.inner o.guard)) (entries (d.inner (d.with_inner o.guard n))) split.splits at.contents.exact equal (rw is at u);
       }
 
-  -- the same buckets wait once a version was put there
+  -- a write of a version through the guard leaves the waiting buckets as they are
   pub waiting-after : (o : HeldOccupied G N K V S T d g h b w) (m n : Contents (K × V) S) (e : K × V) → m ≡ d.inner o.guard → n ≡ with_write_at put_whole m o.place e → waiting_of (d.inner (d.with_inner o.guard n)) ≡ waiting_of (d.inner o.guard)
   waiting-after o m n e is made = ap waiting_of (d.inner_law o.guard n ∙ made) ∙ waiting-write put_whole m o.place e ∙ ap waiting_of is
 
-  -- what was put in through the guard stands at the entry
+  -- if a pair is inserted through the guard, the returned entry stands at that pair
   pub inserted-after : (e : HeldVacant G N K V S T d g h b w) (m n : Contents (K × V) S) (v : V) (o : HeldOccupied G N K V S T d g h b w) → o.guard ≡ d.with_inner e.guard n → o.rest ≡ e.rest → m ≡ d.inner e.guard → IsInsertedAt m (e.key, v) n o.place → IsInserted e v o
   inserted-after e m n v o guarded rests is i =
       let k : d.inner o.guard ≡ n = ap d.inner guarded ∙ d.inner_law e.guard n in
@@ -101,17 +101,17 @@ module _ {G N K V S T : Type 0} {d : guard.Ghosts G (Contents (K × V) S)} {g : 
         at = put-there (d.inner e.guard) (e.key, v) (d.inner o.guard) o.place o.within (subst (λ c. IsInsertedAt c (e.key, v) (d.inner o.guard) o.place) is (subst (λ c. IsInsertedAt m (e.key, v) c o.place) (sym k) i));
       }
 
-  -- an entry that is made anew of its parts
+  -- an entry that is made again from its parts is equal to the entry
   pub same-entry : (o : HeldOccupied G N K V S T d g h b w) (p : IsPlace (d.inner o.guard) o.place) → record o { within = p } ≡ o
   same-entry o p = ap (λ r. record o { within = r }) (place-prop (d.inner o.guard) o.place p o.within)
 
-  -- what an insertion through the entry ensures of the array, whatever is put in
+  -- what an insertion through the entry ensures of the array, whichever value is inserted
   pub record Ends (e : HeldEntry G N K V S T d g h b w) (r : Result (HeldOccupied G N K V S T d g h b w) (InsertError K V)) : Type 0 where
     pub vacant : OnErr r (IsVacant e)
     pub growth : IfOk r (GrowsThrough (key_hash b w h.hash_input (d.inner (entry_guard e))) e)
     pub relocates : IfOk r (RelocatesThrough (key_hash b w h.hash_input (d.inner (entry_guard e))) e)
 
-  -- an occupied entry is handed on as it is
+  -- an occupied entry is returned unchanged
   module _ (e : HeldEntry G N K V S T d g h b w) (o : HeldOccupied G N K V S T d g h b w) (r : Result (HeldOccupied G N K V S T d g h b w) (InsertError K V)) (is : e ≡ Occupied o) (same : r ≡ Ok o) where
     pub ends-handed : Ends e r
     ends-handed = subst (λ z. Ends z r) (sym is) (subst (Ends (Occupied o)) (sym same) (record { vacant = tt; growth = tt; relocates = refl }))
@@ -128,7 +128,7 @@ module _ {G N K V S T : Type 0} {d : guard.Ghosts G (Contents (K × V) S)} {g : 
     pub still-unique : (same-key : K → K → Bool) → IsUnique same-key (d.inner o.guard) → IfOk r (λ x. IsUnique same-key (d.inner x.guard))
     still-unique same-key u = subst (λ x. IfOk x (λ y. IsUnique same-key (d.inner y.guard))) (sym same) u
 
-  -- through a vacant one a value is put in
+  -- through a vacant entry, a value is inserted
   module _ (e : HeldEntry G N K V S T d g h b w) (x : HeldVacant G N K V S T d g h b w) (r : Result (HeldOccupied G N K V S T d g h b w) (InsertError K V)) (is : e ≡ Vacant x) where
     pub ends-put : IfOk r (λ o. IsGrownFor (key_hash b w h.hash_input (d.inner x.guard)) (d.inner x.guard) x.key (d.inner o.guard)) → IfOk r (λ o. Relocates (d.inner x.guard) (d.inner o.guard)) → IfOk r (λ o. RelocatesTwo (key_hash b w h.hash_input (d.inner x.guard) x.key) (d.inner x.guard) (d.inner o.guard)) → Ends e r
     ends-put growth moves two = subst (λ z. Ends z r) (sym is) (record { vacant = any-err r; growth = growth; relocates = both-ok _ _ r moves two })

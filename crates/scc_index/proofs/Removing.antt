@@ -1,4 +1,4 @@
--- A removal by key, seen in the entries of an index.
+-- A removal by key, as a change of the entries of an index.
 use Rattle.std.proofs.Common.{Bool, true, false, None, Some, refl, sym, subst, rules}
 use Rattle.std.specs.Cmp.{IsEquivalence}
 use Rattle.scc_common.specs.Contents.{Contents, entries, IsUniqueBy}
@@ -10,7 +10,7 @@ use Rattle.scc_table.specs.Places.{index_of}
 use Rattle.scc_table.specs.Removals.{RemovesFirst}
 
 module _ {K V S : Type 0} {eq : K → K → Bool} (laws : IsEquivalence eq) (k : K) (c d : Contents (K × V) S) (unique : IsUniqueBy eq (λ (e : K × V). e.0) c) where
-  -- where a version was taken
+  -- if a version was removed, the contract of a removal that returns true holds
   pub removed-one : (x : K × V) → RemovesFirst eq (λ (e : K × V). e.0) (λ (e : K × V). eq k e.0) c d (Some x) → RemovesByRule eq (Removes eq c k true d) c k true d
   removed-one x (q, found, out) =
       let es = entries c in
@@ -27,7 +27,7 @@ module _ {K V S : Type 0} {eq : K → K → Bool} (laws : IsEquivalence eq) (k :
         unique = out.unique;
       }
 
-  -- where no key equals k
+  -- if no key equals k, the contract of a removal that returns false holds
   pub removed-none : RemovesFirst eq (λ (e : K × V). e.0) (λ (e : K × V). eq k e.0) c d None → RemovesByRule eq (Removes eq c k false d) c k false d
   removed-none (missed, stays) = subst (λ (z : Contents (K × V) S). RemovesByRule eq (Removes eq c k false z) c k false z) (sym stays)
       record {

@@ -1,4 +1,4 @@
--- Look-ups once a pair was replaced by one with an equal key.
+-- Look-ups after a pair is replaced by a pair with an equal key.
 use Rattle.std.proofs.Common.{◌≡◌, ◌∙◌, Bool, true, false, cond, List, [], ◌∷◌, ◌++◌, Some, sym, ap, subst}
 use Rattle.std.specs.Cmp.{IsEquivalence}
 use Rattle.std.specs.List.{IsDistinct}
@@ -6,7 +6,7 @@ use Rattle.std.specs.Map.{keys_of, lookup_entry}
 use Rattle.scc_common.specs.Pairs.{find, FindsInstead}
 use Rattle.scc_buckets.proofs.PairSplits.{by_answer, cond-true, cond-false, find-split, front_apart}
 
--- pairs that don't pass may stand for one another
+-- if neither p nor q passes the test, a look-up in the list with q finds what it finds in the list with p
 pass-over : {K V : Type 0} (t : K → Bool) (front back : List (K × V)) (p q : K × V) → t p.0 ≡ false → t q.0 ≡ false → lookup_entry t (front ++ q ∷ back) ≡ lookup_entry t (front ++ p ∷ back)
 pass-over t [] back p q y z = cond-false (Some q) (lookup_entry t back) z ∙ sym (cond-false (Some p) (lookup_entry t back) y)
 pass-over t (x ∷ front) back p q y z = ap (cond (t x.0) (Some x)) (pass-over t front back p q y z)

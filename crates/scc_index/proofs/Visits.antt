@@ -1,4 +1,4 @@
--- A pair that was visited in a walk: it stays, or is taken out.
+-- A pair that a walk visits: the pair stays, or the walk removes it.
 use Rattle.std.proofs.Common.{◌≡◌, suc, ◌<◌, ◌-◌, List, [], ◌∷◌, ◌++◌, length, take, drop, Bool, true, false, Option, None, Some, MatchOption, IfSome, sym, ap, ◌∙◌, arith, subst, append_assoc}
 use Rattle.std.specs.List.{slice_get, remove}
 use Rattle.scc_common.specs.Contents.{Contents, entries}
@@ -21,7 +21,7 @@ module _ {K V S : Type 0} (m : Contents (K × V) S) (p : Place) (q : K × V) (wi
     took-count : suc (length (entries d)) ≡ length (entries m)
     took-count = ap (λ z. suc (length z)) out.exact ∙ shorter (entries m) (index_of m p) (index-below m (spot_of m p) within)
 
-    -- where the walk goes on once the pair is out
+    -- after the pair is removed, the walk goes on at the index of the removed pair
     pub took-next : (o : Option Place) → MatchOption o (suc (index_of m p) ≡ length (entries m)) (StandsAt d (index_of m p)) → (reached d o ≡ index_of m p) × IfSome o (IsPlace d)
     took-next None e = (let l : suc (length (entries d)) ≡ length (entries m) = took-count in omega arith, tt)
     took-next (Some x) s = (s.index, s.within)
@@ -37,7 +37,7 @@ module _ {K V S : Type 0} (m : Contents (K × V) S) (p : Place) (q : K × V) (wi
 
   module _ {F : Type 0} {T : F → K × V → Bool → F → Type 0} (first : F) (all : List (K × V)) (f f' : F)
       (calls : (stay : List (K × V)) (last : F) → Retains T f (drop (index_of m p) (entries m)) stay last → Retains T first all (take (index_of m p) (entries m) ++ stay) last) where
-    -- a run from the next pair on gives a run of all, where the closure kept this one
+    -- if the closure kept this pair, a walk from the next pair on extends to a walk over all pairs
     pub retains-kept : T f q true f' → (o : Option Place) → reached m o ≡ suc (index_of m p) → (stay : List (K × V)) (last : F) → Retains T f' (drop (reached m o) (entries m)) stay last → Retains T first all (take (reached m o) (entries m) ++ stay) last
     retains-kept t o e stay last r =
         let rest : Retains T f' (drop (suc (index_of m p)) (entries m)) stay last = subst (λ z. Retains T f' z stay last) (ap (λ i. drop i (entries m)) e) r in
@@ -46,7 +46,7 @@ module _ {K V S : Type 0} (m : Contents (K × V) S) (p : Place) (q : K × V) (wi
         sym (append_assoc (take (index_of m p) (entries m)) (q ∷ []) stay) ∙ ap (λ z. z ++ stay) (sym (take-more (entries m) (index_of m p) q got) ∙ ap (λ i. take i (entries m)) (sym e)) in
         subst (λ z. Retains T first all z last) front (calls (q ∷ stay) last run)
 
-    -- and where the pair is out
+    -- if the closure removed this pair, a walk from the next pair on extends to a walk over all pairs
     pub retains-removed : T f q false f' → (d : Contents (K × V) S) → HoldsExactly m (remove (entries m) (index_of m p)) d → (o : Option Place) → reached d o ≡ index_of m p → (stay : List (K × V)) (last : F)
         → Retains T f' (drop (reached d o) (entries d)) stay last → Retains T first all (take (reached d o) (entries d) ++ stay) last
     retains-removed t d out o e stay last r =
@@ -55,7 +55,7 @@ module _ {K V S : Type 0} (m : Contents (K × V) S) (p : Place) (q : K × V) (wi
         let front : take (index_of m p) (entries m) ++ stay ≡ take (reached d o) (entries d) ++ stay = ap (λ z. z ++ stay) (sym (took-before d out) ∙ ap (λ i. take i (entries d)) (sym e)) in
         subst (λ z. Retains T first all z last) front (calls stay last run)
 
-  -- what holds in turn from the place on
+  -- if Q holds in turn from the place on, Q holds at the pair of the place
   module _ {F : Type 0} {Step : F → K × V → F → Type 0} {Q : F → K × V → Type 0} {f : F} (h : HoldsInTurn Step Q f (drop (index_of m p) (entries m))) where
     pub turn-here : Q f q
     turn-here = turn-first Step Q (subst (HoldsInTurn Step Q f) here h)
@@ -63,10 +63,10 @@ module _ {K V S : Type 0} (m : Contents (K × V) S) (p : Place) (q : K × V) (wi
     turn-next : {f' : F} → Step f q f' → HoldsInTurn Step Q f' (drop (suc (index_of m p)) (entries m))
     turn-next t = turn-others Step Q (subst (HoldsInTurn Step Q f) here h) t
 
-    -- after a step it holds from the next pair on
+    -- after a step that kept the pair, Q holds in turn from the next pair on
     pub turn-kept : {f' : F} → Step f q f' → (o : Option Place) → reached m o ≡ suc (index_of m p) → HoldsInTurn Step Q f' (drop (reached m o) (entries m))
     turn-kept {f'} t o e = subst (HoldsInTurn Step Q f') (sym (ap (λ i. drop i (entries m)) e)) (turn-next t)
 
-    -- and so where the pair is out
+    -- after a step that removed the pair, Q holds in turn from the next pair on
     pub turn-removed : {f' : F} → Step f q f' → (d : Contents (K × V) S) → HoldsExactly m (remove (entries m) (index_of m p)) d → (o : Option Place) → reached d o ≡ index_of m p → HoldsInTurn Step Q f' (drop (reached d o) (entries d))
     turn-removed {f'} t d out o e = subst (HoldsInTurn Step Q f') (sym (ap (λ i. drop i (entries d)) e ∙ took-after d out)) (turn-next t)

@@ -1,4 +1,4 @@
--- What a caller cites of a map: look-ups after a step.
+-- Lemmas for the callers of a map: what look-ups find after a step.
 use Rattle.std.proofs.Common.{◌≡◌, Bool, true, false, cond, List, [], ◌∷◌, Option, None, Some, refl, sym, ap, subst, ◌∙◌, inl, inr}
 use Rattle.std.specs.Borrow.{MutBor}
 use Rattle.std.specs.Cmp.{IsEquivalence}
@@ -31,7 +31,7 @@ use Rattle.std.proofs.lemmas.List.Sorted.{IsPermutation-refl, IsPermutation-sym,
 use Rattle.std.proofs.lemmas.Map.Keys.{IsDistinct-head, IsDistinct-tail}
 
 module _ {K V : Type 0} {eq : K → K → Bool} (laws : IsEquivalence eq) where
-  -- the pair of k, once w is its value
+  -- after the value of k is set to w, a look-up of k finds its stored key with w, and other look-ups find what they found
   find-written : (es : List (K × V)) (k q : K) (p : K × V) (w : V) → find eq es k ≡ Some p → find eq (set_value (eq k) es w) q ≡ cond (eq q k) (Some (p.0, w)) (find eq es q)
   find-written [] k q p w f = absurd (let h : None ≡ Some p = f in cc)
   find-written (x ∷ es) k q p w f = by_answer (eq k x.0)
@@ -54,15 +54,15 @@ module _ {K V : Type 0} {eq : K → K → Bool} (laws : IsEquivalence eq) where
       (λ z. cond-false (Some x) (lookup_entry (eq q) (set_value (eq k) es w)) z ∙ rest ∙ ap (cond (eq q k) (Some (p.0, w))) (sym (cond-false (Some x) (lookup_entry (eq q) es) z))))
 
   module _ {S : Type 0} (c d : Contents (K × V) S) where
-    -- what look-ups find once a value is set: the stored key with it
+    -- after a step that sets the value of k, a look-up of k finds the stored key with the new value
     pub finds-set_value : (k : K) (p : K × V) (w : V) → find eq (entries c) k ≡ Some p → HoldsExactly c (set_value (eq k) (entries c) w) d → FindsInstead eq (entries c) k (Some (p.0, w)) (entries d)
     finds-set_value k p w f h = record { finds = λ q. rw h.exact (find-written (entries c) k q p w f) }
 
-    -- what they find once a pair is added
+    -- after a step that adds a pair, a look-up of its key finds the pair
     pub finds-inserted : (p : K × V) → Holds c (p ∷ entries c) d → IsUnique eq d → FindsInstead eq (entries c) p.0 (Some p) (entries d)
     finds-inserted p h u = finds-added laws (entries c) (entries d) p h.same u
 
-    -- what they find once the pair of k is gone
+    -- after a step that removes the pair of k, a look-up of k finds nothing
     pub finds-without : (k : K) → Holds c (without eq (entries c) k) d → IsUnique eq c → IsUnique eq d → FindsInstead eq (entries c) k None (entries d)
     finds-without k h u v = record {
       finds = λ q.
@@ -70,12 +70,12 @@ module _ {K V : Type 0} {eq : K → K → Bool} (laws : IsEquivalence eq) where
           ∙ find-without laws (entries c) k q u;
     }
 
-    -- look-ups find the same after a refused call
+    -- after a refused call, look-ups find what they found before the call
     pub finds-rearranged : Rests c d → IsUnique eq d → (q : K) → find eq (entries d) q ≡ find eq (entries c) q
     finds-rearranged (inl h) u q = ap (λ es. find eq es q) h.exact
     finds-rearranged (inr h) u q = find-IsPermutation laws (entries c) (entries d) q h.1.same (distinct-IsPermutation laws (entries d) (entries c) (IsPermutation-sym (entries c) (entries d) h.1.same) u)
 
-    -- where nothing changed, look-ups find what they found
+    -- if nothing changed, look-ups find what they found before
     pub finds-unchanged : HoldsExactly c (entries c) d → (q : K) → find eq (entries d) q ≡ find eq (entries c) q
     finds-unchanged h q = ap (λ es. find eq es q) h.exact
 
@@ -87,7 +87,7 @@ module _ {K V : Type 0} {eq : K → K → Bool} (laws : IsEquivalence eq) where
       apart-none (eq q) xs (along (λ w h. sym (laws.congr x.0 q w near) ∙ h) (keys_of xs) (IsDistinct-head eq x.0 (keys_of xs) u)) ∙ sym (cond-true None (find eq (x ∷ xs) q) y))
       (λ y. sym (cond-false (Some x) (find eq xs q) y) ∙ sym (cond-false None (find eq (x ∷ xs) q) y))
 
-  -- pairs with distinct keys are a rearrangement of others where every look-up finds the same in both
+  -- if two lists have distinct keys, and each look-up finds the same pair in both, one list is a rearrangement of the other
   pub same-finds : (xs ys : List (K × V)) → IsDistinct eq (keys_of xs) → IsDistinct eq (keys_of ys) → ((q : K) → find eq ys q ≡ find eq xs q) → IsPermutation xs ys
   same-finds [] [] u v f = IsPermutation-refl []
   same-finds [] (y ∷ ys) u v f = absurd (let h : Some y ≡ None = sym (cond-true (Some y) (find eq ys y.0) (laws.refl y.0)) ∙ f y.0 in cc)
@@ -101,12 +101,12 @@ module _ {K V : Type 0} {eq : K → K → Bool} (laws : IsEquivalence eq) where
       IsPermutation-trans (x ∷ xs) (x ∷ remove ys at.0) ys (IsPermutation-cons x xs (remove ys at.0) inner)
       (IsPermutation-sym ys (x ∷ remove ys at.0) (IsPermutation-remove ys at.0 x (place-below ys at.0 x at.1) (sym (get-read ys at.0 x at.1))))
 
-  -- equal keys are found alike
+  -- if q equals k, a look-up of q finds what a look-up of k finds
   pub find-equal : (es : List (K × V)) (q k : K) → eq q k ≡ true → find eq es q ≡ find eq es k
   find-equal [] q k y = refl
   find-equal (x ∷ es) q k y = (λ i. cond (laws.congr q k x.0 y i) (Some x) (find-equal es q k y i))
 
-  -- a pair that was put in under a new key and then taken out leaves the old pairs in some order
+  -- if a pair is inserted under a new key and then removed, the old pairs are left in some order
   pub inserted-removed : {S : Type 0} (c d e : Contents (K × V) S) (p : K × V) (r : Option (K × V)) → find eq (entries c) p.0 ≡ None → Holds c (p ∷ entries c) d → IsUnique eq d → Removes eq d p.0 r e → IsPermutation (entries c) (entries e)
   inserted-removed c d e p r none h u = by r
     where
@@ -139,14 +139,14 @@ module _ {K V : Type 0} {eq : K → K → Bool} (laws : IsEquivalence eq) where
       by (Some q) s = IsPermutation-trans cs (without eq ds p.0) (entries e) left s.1.same
 
 module _ {G N K V S T : Type 0} {keep : guard.Ghosts G (Contents (K × V) S)} {g : equality.Ghosts K} {h : hash.Ghosts K} {b : builder.Ghosts S T} {w : hasher.Ghosts T} {eq : K → K → Bool} (laws : IsEquivalence eq) (c : Contents (K × V) S) (k : K) where
-  -- what look-ups find once an occupied entry was written
+  -- after a write through an occupied entry, a look-up of k finds the entry's key with the written value
   pub finds-written : (o d : HeldOccupied G N K V S T keep g h b w) (v : V) → IsOccupiedAt eq c k o → IsWritten o v d → FindsInstead eq (entries c) k (Some ((occupied_pair o).0, v)) (entries (keep.inner d.guard))
   finds-written o d v at written = record {
     finds = λ q.
         ap (λ es. find eq es q) (written.at.contents.exact ∙ at.writes v) ∙ find-written laws (entries c) k q (occupied_pair o) v at.found;
   }
 
-  -- what they find once a value was put in through a vacant one
+  -- after an insertion through a vacant entry, a look-up of k finds k with the inserted value
   pub finds-put : (e : HeldVacant G N K V S T keep g h b w) (o : HeldOccupied G N K V S T keep g h b w) (v : V) → IsVacantAt eq c k e → IsInserted e v o → IsUnique eq (keep.inner o.guard) → FindsInstead eq (entries c) k (Some (k, v)) (entries (keep.inner o.guard))
   finds-put e o v at put u = record {
     finds = λ q.
@@ -154,7 +154,7 @@ module _ {G N K V S T : Type 0} {keep : guard.Ghosts G (Contents (K × V) S)} {g
         ∙ (λ i. cond (eq q (at.key i)) (Some (at.key i, v)) (find eq (entries (at.contents i)) q));
   }
 
-  -- what they find of an occupied entry that was let go
+  -- after an occupied entry is released, a look-up of k finds the pair of the entry
   finds-held : (o : HeldOccupied G N K V S T keep g h b w) → IsOccupiedAt eq c k o → FindsInstead eq (entries c) k (Some (occupied_pair o)) (entries (keep.inner o.guard))
   finds-held o at = record {
     finds = λ q. ap (λ d. find eq (entries d) q) at.contents ∙ by_answer (eq q k)
@@ -162,18 +162,18 @@ module _ {G N K V S T : Type 0} {keep : guard.Ghosts G (Contents (K × V) S)} {g
         (λ y. sym (cond-false (Some (occupied_pair o)) (find eq (entries c) q) y));
   }
 
-  -- what they find after `or_insert`: the pair of its entry
+  -- after `or_insert`, a look-up of k finds the pair of the returned entry
   pub finds-or_insert : (e : HeldEntry G N K V S T keep g h b w) (v : V) (o : HeldOccupied G N K V S T keep g h b w) → IsEntryOf eq c k e → OrInserts e v o → IsUnique eq (keep.inner o.guard) → FindsInstead eq (entries c) k (Some (occupied_pair o)) (entries (keep.inner o.guard))
   finds-or_insert (Occupied p) v o at is u = subst (λ q. FindsInstead eq (entries c) k (Some (occupied_pair q)) (entries (keep.inner q.guard))) (sym is) (finds-held p at)
   finds-or_insert (Vacant e) v o at is u = subst (λ q. FindsInstead eq (entries c) k (Some q) (entries (keep.inner o.guard))) (ap (λ x. (x, v)) (sym at.key) ∙ sym is.at.here) (finds-put e o v at is u)
 
   module _ {F : Type 0} (f : Once F (MutBor V × Unit {0}) (Unit {0} × (MutBor V × Unit {0}))) (x : F) where
-    -- the pair of the entry after `and_modify` and `or_insert`
+    -- q is the pair of the entry after `and_modify` and `or_insert`
     abbrev pub ModifiedOr : HeldEntry G N K V S T keep g h b w → V → K × V → Type 0
     ModifiedOr (Occupied p) v q = (q.0 ≡ (occupied_pair p).0) × FnOnceReturnsAtMut f x (occupied_pair p).1 tt q.1
     ModifiedOr (Vacant e) v q = q ≡ (k, v)
 
-    -- what look-ups find after `and_modify` and `or_insert`: the pair of the entry
+    -- after `and_modify` and `or_insert`, a look-up of k finds the pair of the returned entry
     pub finds-modify_or_insert : (e e2 : HeldEntry G N K V S T keep g h b w) (v : V) (o : HeldOccupied G N K V S T keep g h b w) → IsEntryOf eq c k e → Modifies f x e e2 → OrInserts e2 v o → IsUnique eq (keep.inner o.guard)
         → ModifiedOr e v (occupied_pair o) × FindsInstead eq (entries c) k (Some (occupied_pair o)) (entries (keep.inner o.guard))
     finds-modify_or_insert (Occupied p) (Occupied d) v o at is ins u =
@@ -188,12 +188,12 @@ module _ {G N K V S T : Type 0} {keep : guard.Ghosts G (Contents (K × V) S)} {g
     finds-modify_or_insert (Occupied p) (Vacant d) v o at is ins u = absurd is
     finds-modify_or_insert (Vacant e) (Occupied d) v o at is ins u = absurd is
 
--- look-ups find the same in a rearrangement
+-- a look-up finds in a rearrangement of a list what it finds in the list
 pub find-rearranged : {K V : Type 0} {eq : K → K → Bool} (laws : IsEquivalence eq) (xs ys : List (K × V)) (q : K) → IsPermutation xs ys → IsDistinct eq (keys_of xs) → find eq ys q ≡ find eq xs q
 find-rearranged laws xs ys q same u = find-IsPermutation laws xs ys q same u
 
 module _ {G N K V S T : Type 0} {keep : guard.Ghosts G (Contents (K × V) S)} {g : equality.Ghosts K} {h : hash.Ghosts K} {b : builder.Ghosts S T} {w : hasher.Ghosts T} {eq : K → K → Bool} (laws : IsEquivalence eq) where
-  -- an entry is that of its own key, whichever call it came from
+  -- an occupied entry is the entry of its own key, whichever call returned it
   pub occupied-of-unique : (o : HeldOccupied G N K V S T keep g h b w) → IsUnique eq (keep.inner o.guard) → IsOccupiedAt eq (keep.inner o.guard) (occupied_pair o).0 o
   occupied-of-unique o u =
       let c : Contents (K × V) S = keep.inner o.guard in

@@ -12,7 +12,7 @@ use Rattle.scc_common.specs.Pairs.{find, IsUnique}
 use Rattle.scc_map.specs.Collections.{FindsClones}
 use Rattle.scc_buckets.proofs.Lookups.{find-IsPermutation, distinct-IsPermutation}
 
--- as many clones as entries
+-- the number of clones is equal to the number of entries
 pub as-many-clones : {E S : Type 0} (C : E → E → Type 0) (B : S → S → Type 0) (c d : Contents E S) → HasClones C B c d → length (entries d) ≡ length (entries c)
 as-many-clones C B c d h = length_permutation h.copies (entries d) h.same ∙ sym (length_all_zip C (entries c) h.copies h.cloned)
 
@@ -20,7 +20,7 @@ module _ {K V : Type 0} {eq : K → K → Bool} (laws : IsEquivalence eq) (C : K
   abbrev IsCloneOf : K × V → K × V → Type 0
   IsCloneOf p q = C p.0 q.0 × D p.1 q.1
 
-  -- where clones of keys equal them
+  -- if a clone of a key equals the key, a look-up finds a clone of the pair that it finds among the cloned pairs
   zip-finds : (es fs : List (K × V)) → AllZip IsCloneOf es fs → (k : K) → MatchOption (find eq es k) (find eq fs k ≡ None) (λ p. IsSomeAnd (find eq fs k) (IsCloneOf p))
   zip-finds [] [] z k = refl
   zip-finds [] (y ∷ fs) z k = absurd z

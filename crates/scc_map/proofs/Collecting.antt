@@ -14,13 +14,13 @@ use Rattle.scc_map.proofs.CallerLemmas.{finds-inserted, finds-set_value, find-eq
 use Rattle.scc_buckets.proofs.Lookups.{distinct-IsPermutation}
 use Rattle.scc_buckets.proofs.PairSplits.{by_answer, cond-true, cond-false, distinct-added}
 
--- which hash decides about memory is no matter then
+-- the step of a successful upsert doesn't depend on the hash: only a refusal for memory depends on it
 pub upsert-any_hash : {K V S : Type 0} (eq : K → K → Bool) (h i : K → ℕ) (c : Contents (K × V) S) (p : K × V) (r : Option V) (d : Contents (K × V) S) → Upserts eq h c p (Ok r) d → Upserts eq i c p (Ok r) d
 upsert-any_hash eq h i c p None d s = s
 upsert-any_hash eq h i c p (Some v) d s = s
 
 module _ {K V : Type 0} where
-  -- what a look-up finds once the pair was upserted, by whether it is of the same key
+  -- what a look-up finds after p is upserted: true says that the searched key equals the key of p
   abbrev stored : Bool → K × V → Option (K × V) → Option (K × V)
   stored true p None = Some p
   stored true p (Some q) = Some (q.0, p.1)
@@ -78,7 +78,7 @@ module _ {K V S : Type 0} {eq : K → K → Bool} (laws : IsEquivalence eq) (h :
   collected-settings c [] d s = sym (ap settings_of s)
   collected-settings c (p ∷ ps) d s = collected-settings s.0 ps d s.2 ∙ upsert-settings c p s.1.0 s.0 s.1.1
 
-  -- and keep the keys distinct
+  -- upserts keep the keys distinct
   pub collected-distinct : (c : Contents (K × V) S) (ps : List (K × V)) (d : Contents (K × V) S) → UpsertsAll eq h c ps d → IsUnique eq c → IsUnique eq d
   collected-distinct c [] d s u = subst (λ z. IsUnique eq z) s u
   collected-distinct c (p ∷ ps) d s u = collected-distinct s.0 ps d s.2 (upsert-distinct c p s.1.0 s.0 s.1.1 u)
@@ -89,7 +89,7 @@ module _ {K V S : Type 0} {eq : K → K → Bool} (laws : IsEquivalence eq) (h :
       let v = upsert-distinct c p s.1.0 s.0 s.1.1 u in
       finds-along s.0 ps d s.2 v q ∙ ap (λ o. fold (λ o p. stored (eq q p.0) p o) o ps) (upsert-finds c p s.1.0 s.0 s.1.1 v q)
 
-  -- what they make of an empty map
+  -- after upserts into an empty map, a look-up finds the first upserted key with the last upserted value
   pub collected-finds : (c : Contents (K × V) S) (ps : List (K × V)) (d : Contents (K × V) S) → UpsertsAll eq h c ps d → IsUnique eq c → entries c ≡ [] → FindsItems eq ps (entries d)
   collected-finds c ps d s u e = record {
     finds = λ k.
@@ -97,7 +97,7 @@ module _ {K V S : Type 0} {eq : K → K → Bool} (laws : IsEquivalence eq) (h :
         ∙ ap (key_and_value (find eq ps k)) (or-none (find eq (reverse ps) k));
   }
 
--- no pair, no two equal keys
+-- if there are no pairs, no two keys are equal
 pub none-unique : {K V S : Type 0} (eq : K → K → Bool) (c : Contents (K × V) S) → entries c ≡ [] → IsUnique eq c
 unfolding IsDistinct
 none-unique {K} {V} eq c e = subst (λ (es : List (K × V)). IsDistinct eq (keys_of es)) (sym e) tt

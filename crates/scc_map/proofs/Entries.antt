@@ -1,4 +1,4 @@
--- What an entry shows, under any guard.
+-- Lemmas about an entry, whatever its guard is.
 use Rattle.std.proofs.Common.{◌≡◌, Bool, Some, Result, Ok, Err, refl, sym, ap, subst, ◌∙◌}
 use Rattle.std.specs.Prelude.{IfOk, IfErr}
 use Rattle.std.specs.Cmp.{IsEquivalence}
@@ -26,16 +26,16 @@ use Rattle.scc_map.specs.declared.held.HeldOccupied.{HeldOccupied}
 use Rattle.scc_map.specs.declared.held.HeldEntry.{HeldEntry}
 use Rattle.scc_map.specs.declared.held.HeldVacant.{HeldVacant}
 
--- the same buckets wait once a value was written
+-- a write of a value leaves the waiting buckets as they are
 pub waiting-put : {K V S : Type 0} (m : Contents (K × V) S) (p : Place) (v : V) (n : Contents (K × V) S) → n ≡ with_write_at with_pair_value m p v → waiting_of n ≡ waiting_of m
 waiting-put m p v n made = ap waiting_of made ∙ waiting-write with_pair_value m p v
 
 module _ {G N K V S T : Type 0} {d : guard.Ghosts G (Contents (K × V) S)} {g : eq.Ghosts K} {h : hash.Ghosts K} {b : builder.Ghosts S T} {w : hasher.Ghosts T} where
-  -- what the guard showed at the place is the pair
+  -- if p stands at the entry's place in the contents behind the guard, p is the entry's pair
   pub pair-is : (o : HeldOccupied G N K V S T d g h b w) (m : Contents (K × V) S) (p : K × V) → m ≡ d.inner o.guard → slice_get (entries m) (index_of m o.place) ≡ Some p → p ≡ occupied_pair o
   pair-is o m p is got = sym (entry_of-is (d.inner o.guard) o.place o.within p (subst (λ (c : Contents (K × V) S). slice_get (entries c) (index_of c o.place) ≡ Some p) is got))
 
-  -- an entry at the place of a key is that of the key
+  -- if an occupied entry stands at the place of k, it is the entry of k
   pub occupied-by : {same : K → K → Bool} (laws : IsEquivalence same) (k : K) (o : HeldOccupied G N K V S T d g h b w) → IsDistinct same (keys_of (entries (d.inner o.guard))) → IsPlaceOf same (entries (d.inner o.guard)) k (index_of (d.inner o.guard) o.place)
       → IsOccupiedAt same (d.inner o.guard) k o
   unfolding spots.front_of_spot spots.back_of_spot
@@ -50,16 +50,16 @@ module _ {G N K V S T : Type 0} {d : guard.Ghosts G (Contents (K × V) S)} {g : 
         removes = sym (without-at laws k (entries c) (index_of c o.place) u f);
       }
 
-  -- the entry that a search found is that of the key
+  -- if a search for k found the place of an entry, the entry is the entry of k
   pub occupied-at : {same : K → K → Bool} (laws : IsEquivalence same) (k : K) (o : HeldOccupied G N K V S T d g h b w) → IsDistinct same (keys_of (entries (d.inner o.guard))) → IsFoundAt (λ e. same k e.0) (d.inner o.guard) o.place
       → IsOccupiedAt same (d.inner o.guard) k o
   occupied-at {same = same} laws k o u found = occupied-by laws k o u (place-found same (d.inner o.guard) k o.place found)
 
-  -- the place is one in what the guard then keeps
+  -- after a write through the guard, the place of the entry is still a place
   pub within-written : (o : HeldOccupied G N K V S T d g h b w) (m : Contents (K × V) S) (v : V) → m ≡ d.inner o.guard → IsPlace (d.inner (d.with_inner o.guard (with_write_at with_pair_value m o.place v))) o.place
   within-written o m v is = subst (λ c. IsPlace (d.inner (d.with_inner o.guard (with_write_at with_pair_value c o.place v))) o.place) (sym is) (still_within o v)
 
-  -- the entry is the same by whatever proof that its place is one
+  -- the entry after a write is equal to `with_value o v`, whichever proof it has that its place is a place
   pub written-same : (o : HeldOccupied G N K V S T d g h b w) (m : Contents (K × V) S) (v : V) → (is : m ≡ d.inner o.guard) → (p : IsPlace (d.inner (d.with_inner o.guard (with_write_at with_pair_value m o.place v))) o.place)
       → record { guard = d.with_inner o.guard (with_write_at with_pair_value m o.place v); place = o.place; rest = o.rest; of = o.of; within = p } ≡ with_value o v
   written-same o m v is =
@@ -69,7 +69,7 @@ module _ {G N K V S T : Type 0} {d : guard.Ghosts G (Contents (K × V) S)} {g : 
   pub within-after : (o : HeldOccupied G N K V S T d g h b w) (m n : Contents (K × V) S) (v : V) → m ≡ d.inner o.guard → n ≡ with_write_at with_pair_value m o.place v → IsPlace (d.inner (d.with_inner o.guard n)) o.place
   within-after o m n v is made = subst (λ c. IsPlace (d.inner (d.with_inner o.guard c)) o.place) (sym made) (within-written o m v is)
 
-  -- what was written through the guard is written in the entry
+  -- a value that is written through the guard is written in the entry
   pub written-after : (o : HeldOccupied G N K V S T d g h b w) (m n : Contents (K × V) S) (v : V) → m ≡ d.inner o.guard → n ≡ with_write_at with_pair_value m o.place v → (p : IsPlace (d.inner (d.with_inner o.guard n)) o.place)
       → IsWritten o v (record { guard = d.with_inner o.guard n; place = o.place; rest = o.rest; of = o.of; within = p })
   written-after o m n v is made p = record {
@@ -81,11 +81,11 @@ module _ {G N K V S T : Type 0} {d : guard.Ghosts G (Contents (K × V) S)} {g : 
   pub written-with : (o : HeldOccupied G N K V S T d g h b w) (v : V) → IsWritten o v (with_value o v)
   written-with o v = written-after o (d.inner o.guard) (written_map o v) v refl refl (still_within o v)
 
-  -- the same buckets wait in what a guard keeps once a value was written
+  -- a write of a value through the guard leaves the waiting buckets as they are
   pub waiting-after : (o : HeldOccupied G N K V S T d g h b w) (m n : Contents (K × V) S) (v : V) → m ≡ d.inner o.guard → n ≡ with_write_at with_pair_value m o.place v → waiting_of (d.inner (d.with_inner o.guard n)) ≡ waiting_of (d.inner o.guard)
   waiting-after o m n v is made = ap waiting_of (d.inner_law o.guard n ∙ made) ∙ waiting-write with_pair_value m o.place v ∙ ap waiting_of is
 
-  -- what was put in through the guard stands at the entry
+  -- if a pair is inserted through the guard, the returned entry stands at that pair
   pub inserted-after : (e : HeldVacant G N K V S T d g h b w) (m n : Contents (K × V) S) (v : V) (o : HeldOccupied G N K V S T d g h b w) → o.guard ≡ d.with_inner e.guard n → o.rest ≡ e.rest → m ≡ d.inner e.guard → IsInsertedAt m (e.key, v) n o.place → IsInserted e v o
   inserted-after e m n v o guarded rests is i =
       let k : d.inner o.guard ≡ n = ap d.inner guarded ∙ d.inner_law e.guard n in
@@ -95,23 +95,23 @@ module _ {G N K V S T : Type 0} {d : guard.Ghosts G (Contents (K × V) S)} {g : 
         at = put-there (d.inner e.guard) (e.key, v) (d.inner o.guard) o.place o.within (subst (λ c. IsInsertedAt c (e.key, v) (d.inner o.guard) o.place) is (subst (λ c. IsInsertedAt m (e.key, v) c o.place) (sym k) i));
       }
 
-  -- an entry that is made anew of its parts
+  -- an entry that is made again from its parts is equal to the entry
   pub same-entry : (o : HeldOccupied G N K V S T d g h b w) (p : IsPlace (d.inner o.guard) o.place) → record o { within = p } ≡ o
   same-entry o p = ap (λ r. record o { within = r }) (place-prop (d.inner o.guard) o.place p o.within)
 
-  -- what an insertion put in, said with a weaker word
+  -- if P implies Q, an insertion of some value with P is an insertion of some value with Q
   pub inserts-some : {X : Type 0} {P Q : K → V → Type 0} (e : HeldEntry G N K V S T d g h b w) (r : Result (HeldOccupied G N K V S T d g h b w) X) → IfOk r (OrInsertsSome e P) → ((k : K) (v : V) → P k v → Q k v) → IfOk r (OrInsertsSome e Q)
   inserts-some (Occupied p) (Ok o) i f = i
   inserts-some (Vacant e) (Ok o) i f = (i.0, f e.key i.0 i.1, i.2)
   inserts-some e (Err x) i f = tt
 
-  -- and where one value alone may be put in
+  -- if x is the only value with P, an insertion of some value with P is an insertion of x
   pub inserts-this : {X : Type 0} {P : K → V → Type 0} {x : V} (e : HeldEntry G N K V S T d g h b w) (r : Result (HeldOccupied G N K V S T d g h b w) X) → IfOk r (OrInsertsSome e P) → ((k : K) (v : V) → P k v → v ≡ x) → IfOk r (OrInserts e x)
   inserts-this (Occupied p) (Ok o) i f = i
   inserts-this (Vacant e) (Ok o) i f = subst (λ v. IsInserted e v o) (f e.key i.0 i.1) i.2
   inserts-this e (Err x) i f = tt
 
-  -- the same of what a refusal gives back
+  -- if P implies Q, a refusal that returns some value with P is a refusal that returns some value with Q
   pub refuses-some : {A : Type 0} {P Q : V → Type 0} (e : HeldEntry G N K V S T d g h b w) (r : Result A (InsertError K V)) → IfErr r (λ y. (v : V) × P v × (y ≡ Memory (entry_key e, v))) → ((v : V) → P v → Q v) → IfErr r (λ y. (v : V) × Q v × (y ≡ Memory (entry_key e, v)))
   refuses-some e (Ok a) i f = tt
   refuses-some e (Err y) i f = (i.0, f i.0 i.1, i.2)

@@ -1,4 +1,4 @@
--- Walks whose closure only tests: what stays is a filter, and what look-ups find then.
+-- Walks whose closure only tests: the pairs that stay are a filter of the pairs. What look-ups find after such a walk.
 use Rattle.std.proofs.Common.{◌≡◌, Bool, true, false, cond, not, List, [], ◌∷◌, ◌++◌, Option, None, Some, Result, Ok, Err, refl, sym, ap, subst, ◌∙◌, append-nil}
 use Rattle.std.specs.Cmp.{IsEquivalence}
 use Rattle.std.specs.List.{filter, IsDistinct, AllByRecursion}
@@ -32,7 +32,7 @@ module _ {F K V : Type 0} (T : F → K × V → Bool → V → F → Type 0) (te
       let s = said g p false w g' e t in
       walked s.2 rest ∙ sym (cond-false (p ∷ filter test es) (filter test es) (sym s.0))
 
-  -- what a closure that only tests keeps
+  -- if the closure only tests, the pairs that stay are the pairs that pass the test
   pub retains-filter : (es stay : List (K × V)) (last : F) → Retains T f es stay last → stay ≡ filter test es
   retains-filter es stay last r = walked refl r
 
@@ -56,7 +56,7 @@ on_ok : {A E P Q : Type 0} (r : Result A E) → (P → Q) → OnOk r P → OnOk 
 on_ok (Ok x) h p = h p
 on_ok (Err x) h p = tt
 
--- the pairs that a walk took all pass, and the others stay; where it went through, just those that fail
+-- all pairs that a walk took pass, and the others stay. If the walk went through, just the pairs that fail stay
 pub record Sorts {K V E : Type 0} (test : K × V → Bool) (es stay more : List (K × V)) (r : Result Bool E) : Type 0 where
   pub all : IsPermutation es (stay ++ more)
   pub taken : AllByRecursion (λ p. test p ≡ true) more
@@ -90,7 +90,7 @@ module _ {F K V : Type 0} (T : F → K × V → Verdict → V → F → Type 0) 
   sorted e (walks.kept_last {f = g} {f' = g'} {p = p} {w = w} t) = absurd (stops (test p) (told g p KeepStop w g' e t).0)
   sorted e (walks.took_last {f = g} {f' = g'} {p = p} {w = w} t) = absurd (stops_taking (test p) (told g p TakeStop w g' e t).0)
 
-  -- what a closure that only tests takes
+  -- if the closure only tests, the walk takes only pairs that pass the test
   pub takes-sort : (es stay more : List (K × V)) (r : Result Bool WalkError) (last : F) → Takes T f es stay more r last → Sorts test es stay more r
   takes-sort es stay more r last t = sorted refl t
 
@@ -101,7 +101,7 @@ module _ {K V : Type 0} where
   passing test (Some p) = cond (test p) (Some p) None
 
 module _ {K V : Type 0} {eq : K → K → Bool} (laws : IsEquivalence eq) (test : K × V → Bool) where
-  -- a look-up in a filter
+  -- a look-up in a filter finds the pair that it finds in the list, if that pair passes
   pub find-filter : (es : List (K × V)) (q : K) → IsDistinct eq (keys_of es) → find eq (filter test es) q ≡ passing test (find eq es q)
   find-filter [] q u = refl
   find-filter (x ∷ es) q u =
@@ -120,7 +120,7 @@ module _ {K V : Type 0} {eq : K → K → Bool} (laws : IsEquivalence eq) (test 
       (λ z. ap (λ l. find eq l q) (cond-true (x ∷ filter test es) (filter test es) z) ∙ cond-false (Some x) (find eq (filter test es) q) y ∙ inner ∙ sym (ap (passing test) past))
       (λ z. ap (λ l. find eq l q) (cond-false (x ∷ filter test es) (filter test es) z) ∙ inner ∙ sym (ap (passing test) past)))
 
-  -- what look-ups find once just the pairs that pass stay
+  -- if just the pairs that pass stay, a look-up finds the pair that it found before, if that pair passes
   pub finds-filtered : {S : Type 0} (c d : Contents (K × V) S) (es stay : List (K × V)) → IsPermutation (entries c) es → stay ≡ filter test es → Holds c stay d → IsUnique eq c → IsUnique eq d → (q : K) → find eq (entries d) q ≡ passing test (find eq (entries c) q)
   finds-filtered c d es stay p e h u v q =
       find-IsPermutation laws stay (entries d) q h.same (distinct-IsPermutation laws (entries d) stay (IsPermutation-sym stay (entries d) h.same) v)

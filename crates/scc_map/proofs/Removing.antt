@@ -1,4 +1,4 @@
--- A removal by key, seen in the pairs of a map.
+-- A removal by key, as a change of the pairs of a map.
 use Rattle.std.proofs.Common.{Bool, Option, None, Some, refl, sym, subst, ◌∙◌, rules}
 use Rattle.std.specs.Cmp.{IsEquivalence}
 use Rattle.scc_common.specs.Contents.{Contents, entries, IsUniqueBy}

@@ -1,4 +1,4 @@
--- What a call's step says of its answer alone, whatever map it was made on.
+-- Facts about a call's reply that follow from its step, whatever the map holds.
 use Rattle.std.proofs.Common.{◌≡◌, ◌⊎◌, ℕ, Bool, true, false, Option, None, Some, Result, Ok, Err, inl, inr, sym, ap, subst}
 use Rattle.std.specs.Prelude.{IfErr, IfSome}
 use Rattle.std.specs.Borrow.{MutBor}

@@ -1,4 +1,4 @@
--- What a call with a closure at the pair of a key leaves of a map.
+-- The map after a call that runs a closure at the pair of a key.
 use Rattle.std.proofs.Common.{◌≡◌, Bool, true, Option, Some, None, refl, sym, ap, subst, ◌∙◌}
 use Rattle.std.specs.Borrow.{Bor, MutBor}
 use Rattle.std.specs.Cmp.{IsEquivalence}

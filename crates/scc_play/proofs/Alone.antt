@@ -23,7 +23,7 @@ use Rattle.scc_play.specs.Endings.{all_calls}
 use Rattle.scc_play.specs.Played.{IsMadeBy, IsPlayed, Machine}
 
 module _ {A R K : Type 0} (counted : R → Option ℕ) (count : ℕ → R) where
-  -- what a call became on one stripe is one record, of that call and with the reply that is told
+  -- a call on one stripe has one receipt, which has this call and the reply that the worker is told
   one : (key_of : A → Option K) (key : Option K) (call : A) (here : List (Receipt A R)) (reply : R) → IsAnsweredBy key_of counted count key 1 call here reply
       → (r : Receipt A R) × (here ≡ r ∷ []) × (r.call ≡ call) × (reply ≡ r.reply)
   one key_of (Some k) call here reply a = (receipt a.0 a.1 call reply, a.2, refl, refl)
@@ -63,13 +63,13 @@ module _ {S A R K : Type 0} (moves : S → A → R → S → Type 0) (resizes : 
       let counted : calls_in h + 1 ≡ length (c ∷ calls) = let e = rest.2 in omega (arith, e) in
       rw b.5 (answer moved rest.0, ap suc rest.1, counted)
 
--- a list of one
+-- a list of length 1 has one element
 single : {X : Type 0} (xs : List X) → length xs ≡ 1 → (x : X) × (xs ≡ x ∷ [])
 single [] e = absurd (omega (arith, e))
 single (x ∷ []) e = (x, refl)
 single (x ∷ y ∷ more) e = absurd (let z : suc (suc (length more)) ≡ 1 = e in omega (arith, z))
 
--- a merge of one list is that list
+-- a merge of one list is the list
 merged : {X : Type 0} (h : List X) (entries : List (ℕ × X)) → Merge (h ∷ []) entries → entries ≡ map (λ x. (0, x)) h
 merged h [] m = let e : h ≡ [] = m.0 in rw e refl
 merged {X} h ((zero, x) ∷ entries) m =
@@ -79,13 +79,13 @@ merged {X} h ((zero, x) ∷ entries) m =
 merged h ((suc i, x) ∷ entries) m = absurd (let z : None ≡ Some (x ∷ m.0) = m.1 in cc z)
 
 module _ {S A R C : Type 0} (moves : S → A → R → S → Type 0) (resizes : S → ℕ → S → Type 0) (state : C → S) where
-  -- the replays of one history
+  -- the replays of one history are one replay
   replayed : (s : S) (h : List (Step A R)) (ends : List C) → Replays moves resizes (s ∷ []) (h ∷ []) (map state ends) → (e : C) × (ends ≡ e ∷ []) × Replay moves resizes s h (state e)
   replayed s h [] r = absurd r
   replayed s h (e ∷ []) r = (e, refl, r.0)
   replayed s h (e ∷ f ∷ more) r = absurd r.1
 
--- where all calls are of one worker, its calls are all
+-- if all calls are by one worker, the calls of this worker are all calls
 all_one : {A : Type 0} (calls : List (WorkerCall A)) → AllByRecursion (λ c. c.worker < 1) calls → calls_by 0 calls ≡ all_calls calls
 all_one [] a = refl
 all_one (c ∷ calls) a =
@@ -94,7 +94,7 @@ all_one (c ∷ calls) a =
     rw (z, rest) refl
 
 module _ {C H S W A R K X : Type 0} (machine : Machine C H S W A R K X) where
-  -- what one worker did on one stripe is a run of all calls, with its text
+  -- if one worker played on one stripe, the text is the output of a run of all calls
   pub one-output : (items : S → List X) → ((e : C) → items (machine.state e) ≡ machine.shown e) → (route : ℕ → K → ℕ) (request : Request H) (calls : List (WorkerCall A)) (text : List ℕ) → AllByRecursion (λ c. c.worker < 1) calls
       → (p : IsPlayed machine route request 1 1 calls text)
       → IsOutput (machine.moves p.setting) (machine.resizes p.setting) (machine.empty 0) items machine.order machine.reply machine.content (all_calls calls) text

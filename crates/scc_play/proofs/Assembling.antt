@@ -21,7 +21,7 @@ use Rattle.scc_play.specs.Played.{IsMadeBy, IsPlayed, Machine}
 use Rattle.scc_play.specs.Telling.{AreTold}
 use Rattle.scc_play.proofs.Telling.{answered-from, told-length}
 
--- as many empty parts as there are numbers, all of which are 0
+-- if all numbers are 0, the parts are equal empty parts, one for each number
 all-empty : {S : Type 0} (empty : ℕ → S) (opened : List ℕ) → AllByRecursion (λ n. n ≡ 0) opened → map empty opened ≡ replicate (length opened) (empty 0)
 all-empty empty [] h = refl
 all-empty empty (n ∷ opened) h =

@@ -10,7 +10,7 @@ use Rattle.scc_play.specs.Endings.{WritesAnswer, AnswersBy, Ends, finish_text}
 use Rattle.scc_play.specs.declared.ends.End.{End}
 use Rattle.scc_play.specs.declared.ends.End.TheVariants.{Played, Unfinished, Differs}
 
--- a text that answers what was read, and was written whole where no stream failed
+-- the text answers the script that was read, and if no stream failed, the whole text was written
 pub ends_read : (known old new : Option (List ℕ)) (items text : List ℕ) (status result : ℕ) → IfSome known (λ xs. items ≡ xs) → WritesAnswer (script_of items) status text → (result ≡ status) ⊎ (result ≡ 4) → (result ≢ 4 → Appends old new text)
     → IfSome known (λ script. Ends old new (script_of script) result)
 ends_read None old new items text status result e a s w = tt
@@ -28,7 +28,7 @@ by-end (Played shown) {alone} {among} workers stripes p one status text m = inl 
 by-end (Unfinished cause) workers stripes p one status text m = inr (inl (cause, m.0, m.1))
 by-end Differs workers stripes p one status text m = inr (inr m)
 
--- the same of an answer that may be refused
+-- the lemma `by-end` for a result that may be an error
 pub by-ends : {T E : Type 0} (end : End) {alone among : List ℕ → Type 0} (workers stripes : ℕ) (status : T → ℕ) (text : T → List ℕ) (result : Result T E) → IfPlayed end among
     → ((t : List ℕ) → among t → workers ≡ 1 → stripes ≡ 1 → ∥ alone t ∥₁)
     → IfOk result (λ a. MatchEnd end (λ t. (status a ≡ 0) × (text a ≡ t)) (λ cause. (status a ≡ 5) × (text a ≡ finish_text cause)) ((status a ≡ 6) × (text a ≡ [])))

@@ -1,4 +1,4 @@
--- What was played by one meaning of the calls was played by another that each step has too.
+-- If each step under one meaning of the calls is a step under another, a script played by the first is played by the other.
 use Rattle.std.proofs.Common.{ℕ, List}
 use Rattle.std.proofs.Math.Logic.{∥∥₁_map}
 use Rattle.scc_calls.proofs.Exact.{merged-as, replays-as}

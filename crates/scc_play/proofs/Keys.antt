@@ -28,7 +28,7 @@ module _ {C S W A R X : Type 0} (machine : (ℕ → ℕ) → Machine C Same S W 
       let is : request_of 0 256 h stripes ≡ a.0 = some-is (request_of 0 256 h stripes) a.0 a.1 in
       subst P own (subst Q (sym is) a.2))
 
--- a fact of the output that follows from another
+-- if P implies Q, and P holds of the text of a run that was played, Q holds of the text
 pub if-played : {E : Type 0} {P Q : List ℕ → Type 0} (r : Result End E) → IfOk r (λ e. IfPlayed e P) → ((text : List ℕ) → P text → Q text) → IfOk r (λ e. IfPlayed e Q)
 if-played (Ok (Played text)) p f = f _ p
 if-played (Ok (Unfinished cause)) p f = tt

@@ -7,7 +7,7 @@ use Rattle.std.proofs.lemmas.List.Concat.{flat_map-cons}
 use Rattle.std.proofs.lemmas.List.Sorted.{IsPermutation-append_left, IsPermutation-append_right, IsPermutation-trans}
 
 module _ {C X : Type 0} (shown : C → List X) where
-  -- the first part goes behind what is there
+  -- the contents of the first part that is left are appended to the items so far
   pub taken-more : (all : List X) (left : List C) (part : C) (rest : List C) (old new more : List X) → left ≡ part ∷ rest → IsPermutation all (old ++ flat_map shown left) → new ≡ old ++ more → IsPermutation (shown part) more
       → IsPermutation all (new ++ flat_map shown rest)
   taken-more all left part rest old new more first before added here =
@@ -19,7 +19,7 @@ module _ {C X : Type 0} (shown : C → List X) where
       let moved : old ++ (more ++ rs) ≡ new ++ rs = sym (append_assoc old more rs) ∙ ap (λ l. l ++ rs) (sym added) in
       subst (P all) moved (IsPermutation-trans all (old ++ (shown part ++ rs)) (old ++ (more ++ rs)) start step)
 
-  -- no part is left
+  -- if no part is left, the items so far are all items
   pub taken-all : (all : List X) (left : List C) (items : List X) → left ≡ [] → IsPermutation all (items ++ flat_map shown left) → IsPermutation all items
   taken-all all left items none before =
       let P : List X → Type 0 = IsPermutation all in

@@ -1,4 +1,4 @@
--- The text of one worker on one stripe is that of a run of the script's calls, of each kind.
+-- For each kind, the text of one worker on one stripe is the text of a run of the script's calls.
 use Rattle.std.proofs.Common.{◌≡◌, ℕ, ◌*◌, ◌/◌, ◌%◌, ◌^◌, ◌<◌, ◌≤◌, max, List, [], refl, sym, ap, subst, arith}
 use Rattle.std.specs.Prelude.{nat_eq}
 use Rattle.std.specs.Int.{IsPowerOfTwo}
@@ -24,11 +24,11 @@ use Rattle.scc_play.specs.Kinds.{MapPlayed, SetPlayed, IndexPlayed, CachePlayed,
 use Rattle.scc_play.proofs.Alone.{one-output}
 
 module _ {A : Type 0} (calls : List (WorkerCall A)) where
-  -- of one worker, all calls are its own
+  -- if there is one worker, all calls are by this worker
   owned : (workers : ℕ) → AllByRecursion (λ c. c.worker < workers) calls → workers ≡ 1 → AllByRecursion (λ c. c.worker < 1) calls
   owned workers own w = subst (λ n. AllByRecursion (λ c. c.worker < n) calls) w own
 
-  -- a fact of so many workers and stripes, where both are one
+  -- if there are one worker and one stripe, a fact about the numbers of workers and stripes holds of 1 and 1
   at-one : (P : ℕ → ℕ → Type 0) (workers stripes : ℕ) → P workers stripes → workers ≡ 1 → stripes ≡ 1 → P 1 1
   at-one P workers stripes p w s = subst (P 1) s (subst (λ n. P n stripes) w p)
 
@@ -47,13 +47,13 @@ index-alone workers stripes calls own text played w s =
     ∥∥₁_map (at-one calls (λ m n. IndexPlayed m n calls text) workers stripes played w s) (λ p.
     (p.setting, one-output (index_machine own_hash) (λ t. t.0) (λ e. refl) (route_by own_hash) (script_request 1) calls text (owned calls workers own w) p))
 
--- the number of a key's list goes by the low 64 bits
+-- the number of a key's list depends only on the low 64 bits of the key
 own-number : (n k : ℕ) → bucket_number 0 n (own_hash k) ≡ key_number n k
 own-number n k =
     let low : ((k % 2 ^ 64) * 2 ^ 0) % 2 ^ 64 ≡ (k * 2 ^ 0) % 2 ^ 64 = omega arith in
     ap (λ h. h * n / 2 ^ 64) low
 
--- the maximum of 256 slots
+-- if m is 0, the maximum for 256 slots is 256
 the-maximum : (m n : ℕ) → m ≡ 0 → IsArraySize (max (share_among 256 1) m) n → n ≡ 256
 the-maximum m n z a =
     let b : IsArraySize 256 n = subst (λ k. IsArraySize (max (share_among 256 1) k) n) z a in
@@ -62,7 +62,7 @@ the-maximum m n z a =
     let high : n ≤ 256 = b.fewest 256 p (omega arith) (omega arith) in
     omega (arith, low, high)
 
--- a part that is made for the request of a script's cache has that script's setting
+-- a part that is made for the request of a script's cache has the setting of the script
 setting-is : (g : Setting Same) → IsMadeFor (cache_machine own_hash).limits (script_request 1) g → g ≡ script_setting
 setting-is g made =
     let hasher = made.hasher in

@@ -1,4 +1,4 @@
--- What workers were told, beside the call records of their numbers.
+-- The replies that workers were told, and the call records of their numbers.
 use Rattle.std.proofs.Common.{◌≡◌, ℕ, zero, suc, ◌+◌, ◌<◌, ◌≤◌, List, [], ◌∷◌, Bool, true, length, map, drop, Option, None, Some, get_or, refl, sym, subst, ap, ◌∙◌, arith}
 use Rattle.std.specs.Prelude.{slice_get}
 use Rattle.std.proofs.lemmas.List.{drop_more, drop_all}
@@ -20,7 +20,7 @@ module _ {A R : Type 0} (eq : A → A → Bool) (req : R → R → Bool) (exact 
       let t = s.1 in
       λ i. record { stripe = n i; stamp = t i; call = c i; reply = r i }
 
-  -- lists that match place by place are the same
+  -- if two lists match at each index, they are equal
   pub same-receipts : (xs ys : List (Receipt A R)) → Matches eq req xs ys → xs ≡ ys
   same-receipts [] [] m = refl
   same-receipts [] (y ∷ ys) m = absurd (m 0)
@@ -38,7 +38,8 @@ module _ {A R : Type 0} (eq : A → A → Bool) (req : R → R → Bool) (exact 
         subst (λ l. AreAnswered key_of counted count stripes (calls_by n calls) (records n) l) here
         (subst (λ l. AreAnswered key_of counted count stripes (calls_by n calls) l (replies v)) same answered)
 
-    -- where the receipts of each pass are the records of its number, the records of each number answer the calls of the worker with that number
+    -- if the receipts of each pass are the records of its number,
+    -- the records of each number answer the calls of the worker with this number
     pub answered-from : (n : ℕ) (passes : List Q) (all : List V) → AreTold key_of counted count stripes calls number receipts replies n passes all
         → ((k : ℕ) (p : Q) → slice_get passes k ≡ Some p → Matches eq req (receipts p) (records (number p)))
         → (worker : ℕ) (rs : List R) → slice_get (map replies all) worker ≡ Some rs → AreAnswered key_of counted count stripes (calls_by (n + worker) calls) (records (n + worker)) rs
@@ -55,18 +56,18 @@ module _ {A R : Type 0} (eq : A → A → Bool) (req : R → R → Bool) (exact 
         (answered-from (n + 1) passes all t.2 (λ k q e. m (suc k) q e) w rs at)
 
 module _ {A R K Q V : Type 0} (key_of : A → Option K) (counted : R → Option ℕ) (count : ℕ → R) (stripes : ℕ) (calls : List (WorkerCall A)) (number : Q → ℕ) (receipts : Q → List (Receipt A R)) (replies : V → List R) where
-  -- one pass more at the front
+  -- if pass i is told its replies, and the passes after it are told theirs, the passes from i on are told theirs
   pub one-told : (passes : List Q) (i : ℕ) (p : Q) (v : V) (more : List V) → i < length passes → get_or passes i p ≡ p → number p ≡ i → AreAnswered key_of counted count stripes (calls_by i calls) (receipts p) (replies v)
       → AreTold key_of counted count stripes calls number receipts replies (i + 1) (drop (i + 1) passes) more → AreTold key_of counted count stripes calls number receipts replies i (drop i passes) (v ∷ more)
   one-told passes i p v more within at named answered others =
       let first : drop i passes ≡ p ∷ drop (i + 1) passes = drop_more passes i p within ∙ ap (λ c. c ∷ drop (i + 1) passes) at in
       subst (λ l. AreTold key_of counted count stripes calls number receipts replies i l (v ∷ more)) (sym first) (named, answered, others)
 
-  -- no pass is left
+  -- if no pass is left, nothing is told
   pub none-told : (passes : List Q) (i : ℕ) → length passes ≤ i → AreTold key_of counted count stripes calls number receipts replies i (drop i passes) []
   none-told passes i end = subst (λ l. AreTold key_of counted count stripes calls number receipts replies i l []) (sym (drop_all i passes end)) tt
 
-  -- as many were told as there are passes
+  -- the number of workers that were told is equal to the number of passes
   pub told-length : (n : ℕ) (passes : List Q) (all : List V) → AreTold key_of counted count stripes calls number receipts replies n passes all → length all ≡ length passes
   told-length n [] [] t = refl
   told-length n [] (v ∷ all) t = absurd t

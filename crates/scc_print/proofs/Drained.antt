@@ -11,14 +11,14 @@ none-kept : {X : Type 0} (es : List X) → filter (λ x. not true) es ≡ []
 none-kept [] = refl
 none-kept (x ∷ es) = none-kept es
 
--- where it went through, what was taken are all pairs
+-- if the walk went through, the taken pairs are all pairs
 pub drained : {K V E : Type 0} (cs es stay more : List (K × V)) (r : Result Bool E) → is_err r ≡ false → IsPermutation cs es → Sorts (λ p. true) es stay more r → IsPermutation cs more
 drained cs es stay more (Ok b) ok same s =
     let none : stay ≡ [] = s.left ∙ none-kept es in
     IsPermutation-trans cs es more same (subst (λ l. IsPermutation es (l ++ more)) none s.all)
 drained cs es stay more (Err e) ok same s = absurd (let h : true ≡ false = ok in cc)
 
--- the contents of all lists
+-- the entries are the contents of all lists
 pub all-entries : {E S : Type 0} (c : Contents E S) → entries c ≡ flat_map (λ l. l) (lists_of c)
 unfolding entries lists_of
 all-entries c = refl

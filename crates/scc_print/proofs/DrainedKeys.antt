@@ -16,6 +16,6 @@ module _ {F K : Type 0} (T : F → K → Verdict → F → Type 0) (says : (f : 
   taken ok (walks.kept_last {f = f} {f' = f'} {q = q} t) = absurd (let h : KeepStop ≡ Take = says f q KeepStop f' t in cc)
   taken ok (walks.took_last {f = f} {f' = f'} {q = q} t) = absurd (let h : TakeStop ≡ Take = says f q TakeStop f' t in cc)
 
-  -- where it went through, what was taken are all keys
+  -- if the walk went through, the taken keys are all keys
   pub all-taken : (f : F) (ks stay more : List K) (r : Result Bool WalkError) (last : F) → is_err r ≡ false → Takes T f ks stay more r last → more ≡ ks
   all-taken f ks stay more r last ok t = taken ok t

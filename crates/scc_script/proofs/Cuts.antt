@@ -14,14 +14,14 @@ without_end-one : (part : List ℕ) → 0 < length part → without_end (part �
 without_end-one [] h = absurd (omega arith)
 without_end-one (b ∷ bs) h = refl
 
--- a line that ends with a line feed
+-- if a line feed ends the first line, the lines are the first line and the lines of the rest
 pub lines_cut : (text line rest : List ℕ) → parts 10 text ≡ line ∷ parts 10 rest → lines_of text ≡ strip_carriage_return line ∷ lines_of rest
 unfolding lines_of
 lines_cut text line rest e =
     ap (λ ps. map strip_carriage_return (without_end ps)) e
     ∙ ap (map strip_carriage_return) (without_end-cons line (parts 10 rest) (parts_some 10 rest))
 
--- a line that ends with the text
+-- if the end of the text ends the first line, the first line is the only line
 pub lines_last : (text rest : List ℕ) → 0 < length text → parts 10 text ≡ text ∷ [] → rest ≡ [] → lines_of text ≡ strip_carriage_return text ∷ lines_of rest
 unfolding lines_of
 lines_last text rest h e n =
@@ -29,7 +29,7 @@ lines_last text rest h e n =
     ∙ ap (map strip_carriage_return) (without_end-one text h)
     ∙ ap (λ r. strip_carriage_return text ∷ lines_of r) (sym n)
 
--- nothing is left behind the end
+-- no byte is left after the end of a text
 pub nothing_left : (s : List ℕ) → take (length s - length s) (drop (length s) s) ≡ []
 nothing_left s = grind (arith, common_steps)
 

@@ -15,6 +15,6 @@ none_from_fields : (kind workers stripes : List ℕ) (more : List (List ℕ)) �
 none_from_fields kind workers stripes [] h = absurd (omega arith)
 none_from_fields kind workers stripes (extra ∷ more) h = refl
 
--- a header with a fourth field is none
+-- a line with a fourth field is no header
 pub no_fourth_field : (kind workers stripes rest : List ℕ) → header_of_fields (kind ∷ workers ∷ stripes ∷ parts 32 rest) ≡ None
 no_fourth_field kind workers stripes rest = none_from_fields kind workers stripes (parts 32 rest) (parts_some 32 rest)

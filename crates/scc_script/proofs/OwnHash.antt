@@ -6,7 +6,7 @@ use Rattle.std.proofs.lemmas.Nat.{from_le_bytes-to_le_bytes_8}
 use Rattle.scc_script.specs.Hashes.{same_write}
 use mir.Syntax.{w64}
 
--- the eight bytes of a number are those of its lowest 64 bits
+-- the eight bytes of a number are the eight bytes of its lowest 64 bits
 low-bytes : (k : ℕ) → to_le_bytes w64 k ≡ to_le_bytes w64 (k % 2 ^ 64)
 low-bytes k =
     let r : ℕ = k % 2 ^ 64 in

@@ -20,10 +20,10 @@ parts_cut b s i l e h =
     let within : position_or_len (λ x. x == b) s < length s = omega arith in
     rw at at (slice_split_first (λ x. x == b) s 0 within)
 
--- each text has a part
+-- each text has at least one part
 pub parts_some : (b : ℕ) (s : List ℕ) → 0 < length (parts b s)
 parts_some b s = omega (arith, length-slice_split (λ x. x == b) s)
 
--- all of what is left
+-- if all bytes that are left are taken, none is dropped
 pub take-rest : (s : List ℕ) (i : ℕ) → take (length s - i) (drop i s) ≡ drop i s
 take-rest s i = grind (arith, common_steps)

@@ -34,13 +34,13 @@ module _ {K : Type 0} {eq : K → K → Bool} (laws : IsEquivalence eq) where
   find-alike [] q k y = refl
   find-alike (x ∷ ks) q k y = λ i. cond (laws.congr q k x y i) (Some x) (find-alike ks q k y i)
 
-  -- a key was put in that was not there
+  -- if k was missing and was inserted, a look-up finds a key of `first`, or else a key of `done ++ k ∷ []`
   pub finds-new : (first mid last done : List K) (k q : K) → find eq mid q ≡ option_or (find eq first q) (find eq done q) → find eq last q ≡ cond (eq q k) (Some k) (find eq mid q) → find eq mid k ≡ None
       → find eq last q ≡ option_or (find eq first q) (find eq (done ++ k ∷ []) q)
   finds-new first mid last done k q e f n =
       new-key (eq q k) k (find eq first q) (find eq done q) (find eq mid q) (find eq last q) e f (λ y. find-alike mid q k y ∙ n) ∙ ap (λ z. option_or (find eq first q) z) (sym (find-last (eq q) done k))
 
-  -- a key came that equals one that is there
+  -- if k equals a key that is there, a look-up still finds a key of `first`, or else a key of `done ++ k ∷ []`
   pub finds-old : (first mid last done : List K) (k q : K) → find eq mid q ≡ option_or (find eq first q) (find eq done q) → last ≡ mid → IsSome (find eq mid k) → find eq last q ≡ option_or (find eq first q) (find eq (done ++ k ∷ []) q)
   finds-old first mid last done k q e same n =
       ap (λ ks. find eq ks q) same ∙ old-key (eq q k) k (find eq first q) (find eq done q) (find eq mid q) e (λ y. subst IsSome (sym (find-alike mid q k y)) n) ∙ ap (λ z. option_or (find eq first q) z) (sym (find-last (eq q) done k))

@@ -33,7 +33,7 @@ module _ {K S : Type 0} (c : Contents (K × Unit {0}) S) where
   abbrev key_of : K × Unit {0} → K
   key_of p = p.0
 
-  -- the key at a place is that of the pair there
+  -- the key at a place of the set is the key of the pair at the place of the map
   pub get-key : (place : Place) (p : K × Unit {0}) → slice_get (entries c) (index_of c place) ≡ Some p → slice_get (entries (of_map c)) (index_of (of_map c) place) ≡ Some p.0
   get-key place p h = rw (index_of-mapped key_of c place, entries-mapped key_of c) (get-map key_of (entries c) (index_of c place) ∙ ap (λ o. option_map key_of o) h)
 
@@ -60,7 +60,7 @@ module _ {K S : Type 0} (c : Contents (K × Unit {0}) S) where
   follows-taken place d None h = rw (index_of-mapped key_of c place, length-mapped key_of c) h
   follows-taken place d (Some q) h = rw (index_of-mapped key_of c place) (StandsAt-mapped key_of d (index_of c place) q h)
 
--- a closure that declined the keys before a place declined its front
+-- a closure that declined the keys before a place declined the front of the place
 pub declines-front : {F K S : Type 0} {T : F → K → Bool → F → Type 0} {f t : F} (c : Contents K S) (place : Place) → Declines T f (take (index_of c place) (entries c)) t → Declines T f (front_of c place) t
 unfolding spots.front_of_spot
 declines-front c place h = h

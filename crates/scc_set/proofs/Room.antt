@@ -1,4 +1,4 @@
--- What the map's words of room say of pairs, the set's say of keys.
+-- The map's words about room say of pairs what the set's words say of keys.
 use Rattle.std.proofs.Common.{◌≡◌, ◌⊎◌, ℕ, inl, inr, map, true, sym, ap, subst, ◌∙◌}
 use Rattle.std.specs.Hash.{HashWrites}
 use Rattle.std.specs.declared.hash.Hasher as hasher
@@ -15,12 +15,12 @@ pub lists-keys : {K S : Type 0} (c d : Contents (K × Unit {0}) S) → lists_of 
 unfolding mapped lists_of
 lists-keys c d e = ap (λ ls. map (λ l. map (λ p. p.0) l) ls) e
 
--- where the map's mark is up, the set's is
+-- the set's mark is up only if it was up before or the note is up, because this holds of the map's mark
 pub marked-keys : {K S : Type 0} (c d : Contents (K × Unit {0}) S) → ((refused_of d).1 ≡ true → ((refused_of c).1 ≡ true) ⊎ ((refused_of d).0 ≡ true)) → (refused_of (of_map d)).1 ≡ true → ((refused_of (of_map c)).1 ≡ true) ⊎ ((refused_of (of_map d)).0 ≡ true)
 marked-keys c d h = rw ((shows c).refused, (shows d).refused) h
 
 module _ {K S : Type 0} (hash : K → ℕ) (k : K) where
-  -- all is made in the set that is made in the map
+  -- if an insertion is prepared in the map, it is prepared in the set
   ready-keys : (c : Contents (K × Unit {0}) S) → IsPreparedFor hash (λ p. p.0) c k → IsPreparedFor hash (λ q. q) (of_map c) k
   ready-keys c h =
       let s = shows c in (
@@ -31,7 +31,7 @@ module _ {K S : Type 0} (hash : K → ℕ) (k : K) where
         ],
       )
 
-  -- and in the map what is made in the set
+  -- if an insertion is prepared in the set, it is prepared in the map
   pub ready-pairs : (c : Contents (K × Unit {0}) S) → IsPreparedFor hash (λ q. q) (of_map c) k → IsPreparedFor hash (λ (p : K × Unit {0}). p.0) c k
   ready-pairs c h =
       let s = shows c in (
@@ -42,7 +42,7 @@ module _ {K S : Type 0} (hash : K → ℕ) (k : K) where
         ],
       )
 
-  -- room that was made in the map was made in the set
+  -- a preparation in the map is a preparation in the set
   pub room-keys : (c d : Contents (K × Unit {0}) S) → Prepares hash (λ p. p.0) c (hash k) d → Prepares hash (λ q. q) (of_map c) (hash k) (of_map d)
   room-keys c d h =
       let f : K × Unit {0} → K = λ p. p.0 in
@@ -58,7 +58,7 @@ module _ {K S : Type 0} (hash : K → ℕ) (k : K) where
         same = λ some e. let r = h.same (rw s.buckets at some) (sym t.buckets ∙ e ∙ s.buckets) in (lists-keys c d r.0, waiting-keys c d r.1);
       }
 
-  -- a growth is due in the set where it is in the map
+  -- if a growth is due in the map, it is due in the set
   due-keys : (c : Contents (K × Unit {0}) S) → IsGrowthDue hash (λ (p : K × Unit {0}). p.0) c (hash k) → IsGrowthDue hash (λ q. q) (of_map c) (hash k)
   due-keys c h =
       let s = shows c in
@@ -70,7 +70,7 @@ module _ {K S : Type 0} (hash : K → ℕ) (k : K) where
         below = rw s.buckets h.below;
       }
 
-  -- and in the map where it is in the set
+  -- if a growth is due in the set, it is due in the map
   due-pairs : (c : Contents (K × Unit {0}) S) → IsGrowthDue hash (λ q. q) (of_map c) (hash k) → IsGrowthDue hash (λ (p : K × Unit {0}). p.0) c (hash k)
   due-pairs c h =
       let s = shows c in
@@ -82,7 +82,7 @@ module _ {K S : Type 0} (hash : K → ℕ) (k : K) where
         below = rw s.buckets at h.below;
       }
 
-  -- note and mark become in the set what they become in the map
+  -- the set's note and mark change as the map's note and mark change
   pub marks-keys : (c d : Contents (K × Unit {0}) S) → MarksPreparation hash (λ (p : K × Unit {0}). p.0) c (hash k) d → MarksPreparation hash (λ q. q) (of_map c) (hash k) (of_map d)
   marks-keys c d h =
       let s = shows c in

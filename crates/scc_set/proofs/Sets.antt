@@ -1,4 +1,4 @@
--- What the map's words say of pairs, the set's say of keys.
+-- The map's words say of pairs what the set's words say of keys.
 use Rattle.std.proofs.Common.{◌≡◌, ◌≢◌, ℕ, Bool, true, false, cond, List, [], ◌∷◌, length, Option, None, Some, Ok, Err, IsSome, refl, sym, ap, subst, ◌∙◌}
 use Rattle.std.specs.Prelude.{Result, IfErr, IfNone, IfOk, OnErr, OnOk, OnSome, IsOk, IsSomeAnd}
 use Rattle.std.specs.Borrow.{Bor, MutBor}
@@ -31,7 +31,7 @@ use Rattle.scc_common.specs.Closures.{AnswersAt}
 use Rattle.scc_set.specs.Keys.{find, without, with_key, of_map, FindsInstead, IsUnique, HasRoom}
 use Rattle.scc_set.specs.SetSteps.{Inserts, Removes, Reads, RemovedIf, RemovesIf, key_answer}
 
--- the key of a pair, where there is one
+-- the key of a pair, if there is a pair
 abbrev pub key_alone : {K : Type 0} → Option (K × Unit {0}) → Option K
 key_alone o = option_map (λ p. p.0) o
 
@@ -64,7 +64,7 @@ key-cond : {K : Type 0} (b : Bool) (o p : Option (K × Unit {0})) → key_alone 
 key-cond true o p = refl
 key-cond false o p = refl
 
--- what holds at an answer of the map holds at the set's
+-- if P implies Q, and P holds if the map's call succeeds, Q holds if the set's call succeeds
 pub on-answer : {K R P Q : Type 0} (r : Result R (InsertError K (Unit {0}))) → (P → Q) → OnOk r P → OnOk (key_answer r) Q
 on-answer (Ok x) f h = f h
 on-answer (Err (Exists p)) f h = tt
@@ -88,7 +88,7 @@ on-no_key None f h = f h
 on-no_key (Some p) f h = tt
 
 module _ {K S : Type 0} (eq : K → K → Bool) where
-  -- a look-up in the set answers the key of the pair
+  -- a look-up in the set finds the key of the pair that the look-up in the map finds
   pub found : (c : Contents (K × Unit {0}) S) (k : K) → find eq (entries (of_map c)) k ≡ key_alone (find_pair eq (entries c) k)
   found c k = ap (λ ks. find eq ks k) (entries-mapped (λ p. p.0) c) ∙ find-keys (eq k) (entries c)
 
@@ -138,7 +138,7 @@ module _ {K S : Type 0} (eq : K → K → Bool) where
     Inserts-keys c k (Err (Exists q)) d h = (ap (λ p. p.0) h.0, is-found c k h.1, IsUnchanged-mapped (λ p. p.0) c d h.2)
     Inserts-keys c k (Err (Memory q)) d h = (ap (λ p. p.0) h.0, found-none c k h.1, Rests-mapped (λ p. p.0) c d h.2, λ r. h.3 (roomy c k r))
 
--- a hash under the set's hasher is one under the map's
+-- a hash by the set's hasher is equal to the hash by the map's hasher
 pub hash-same : {K S T : Type 0} (build : builder.Ghosts S T) (feed : hasher.Ghosts T) (input : K → HashWrites) (c : Contents (K × Unit {0}) S) → key_hash build feed input (of_map c) ≡ key_hash build feed input c
 unfolding mapped settings_of
 hash-same build feed input c = refl
@@ -165,7 +165,7 @@ pub smaller-keys : {K S : Type 0} (c d : Contents (K × Unit {0}) S)
     → bucket_count (of_map d) ≢ bucket_count (of_map c) → IsSmaller (minimum_of (of_map c)) (length (entries (of_map d))) (bucket_count (of_map c)) (bucket_count (of_map d))
 smaller-keys {K} c d h = let f : K × Unit {0} → K = λ p. p.0 in rw (bucket_count-mapped f c, bucket_count-mapped f d, settings_of-mapped f c, length-mapped f d) h
 
--- how a set shows the map behind it
+-- how the set s shows the map c behind it
 pub record Shows {K S : Type 0} (c : Contents (K × Unit {0}) S) (s : Contents K S) : Type 0 where
   pub keys : entries s ≡ keys_of (entries c)
   pub length : length (entries s) ≡ length (entries c)
@@ -178,11 +178,11 @@ pub record Shows {K S : Type 0} (c : Contents (K × Unit {0}) S) (s : Contents K
 pub shows : {K S : Type 0} (c : Contents (K × Unit {0}) S) → Shows c (of_map c)
 shows {K} c = let f : K × Unit {0} → K = λ p. p.0 in record { keys = entries-mapped f c; length = length-mapped f c; buckets = bucket_count-mapped f c; settings = settings_of-mapped f c; refused = refused_of-mapped f c; pending = pending_of-mapped f c; waiting = waiting_of-mapped f c }
 
--- the note of refused memory stays in the set where it stays in the map
+-- if the note of refused memory stays in the map, it stays in the set
 pub noted-keys : {K S : Type 0} (c d : Contents (K × Unit {0}) S) → refused_of d ≡ refused_of c → refused_of (of_map d) ≡ refused_of (of_map c)
 noted-keys c d h = (shows d).refused ∙ h ∙ sym (shows c).refused
 
--- and so do the buckets that wait
+-- if the waiting buckets stay in the map, they stay in the set
 pub waiting-keys : {K S : Type 0} (c d : Contents (K × Unit {0}) S) → waiting_of d ≡ waiting_of c → waiting_of (of_map d) ≡ waiting_of (of_map c)
 waiting-keys {K} c d h = let f : K × Unit {0} → K = λ p. p.0 in waiting_of-mapped f d ∙ h ∙ sym (waiting_of-mapped f c)
 
@@ -198,7 +198,7 @@ module _ {C F K R : Type 0} (gm : Once C (Bor K × (Bor (Unit {0}) × Unit {0}))
   answered p None h = h
   answered p (Some r) h = answers-key p r h
 
-  -- an answer on the pair is one on its key
+  -- an answer of the map's closure on a pair is an answer of the set's closure on the key of the pair
   pub Reads-keys : (o : Option (K × Unit {0})) (r : Option R) → closures.Reads gm m o r → Reads gf f (key_alone o) r
   Reads-keys None r h = h
   Reads-keys (Some p) r h = answered p r h
@@ -232,7 +232,7 @@ module _ {K S : Type 0} where
   ReleasesOrRefuses-keys n c (Ok u) d h = (rw (settings_of-mapped (λ (p : K × Unit {0}). p.0) c) h.0, Releases-mapped (λ p. p.0) n c d h.1)
   ReleasesOrRefuses-keys n c (Err x) d h = (h.0, rw (settings_of-mapped (λ (p : K × Unit {0}). p.0) c) h.1, IsUnchanged-mapped (λ p. p.0) c d h.2)
 
--- a set without keys shows a map without pairs
+-- if a set has no keys, the map behind it has no pairs
 pub none-shown : {K : Type 0} (es : List (K × Unit {0})) → keys_of es ≡ [] → es ≡ []
 none-shown [] h = refl
 none-shown (e ∷ es) h = absurd (let n : e.0 ∷ keys_of es ≡ [] = h in cc)
@@ -253,7 +253,7 @@ pub on-ok : {A E P Q : Type 0} (r : Result A E) → (P → Q) → OnOk r P → O
 on-ok (Ok x) f h = f h
 on-ok (Err e) f h = tt
 
--- a bucket's number is that of the map behind
+-- the number of a key's bucket in the set is equal to the number of its bucket in the map behind the set
 pub bucket-same : {K S T : Type 0} (build : builder.Ghosts S T) (feed : hasher.Ghosts T) (input : K → HashWrites) (c : Contents (K × Unit {0}) S) (k : K)
     → bucket_of (key_hash build feed input (of_map c)) (of_map c) k ≡ bucket_of (key_hash build feed input c) c k
 bucket-same {K} build feed input c k = rw (settings_of-mapped (λ (p : K × Unit {0}). p.0) c, bucket_count-mapped (λ (p : K × Unit {0}). p.0) c)
@@ -263,7 +263,7 @@ module _ {K : Type 0} {eq : K → K → Bool} (laws : IsEquivalence eq) where
   by-bool true p q = p refl
   by-bool false p q = q refl
 
-  -- a look-up where k took the place of the key that equals it
+  -- after k replaces the key that equals it, a look-up of k finds k, and other look-ups find what they found
   pub find-swapped : (ks : List K) (k old q : K) → find eq ks k ≡ Some old → find eq (with_key eq ks k) q ≡ cond (eq q k) (Some k) (find eq ks q)
   find-swapped [] k old q h = absurd (let n : None ≡ Some old = h in cc)
   find-swapped (x ∷ ks) k old q h = by-bool (eq k x)
@@ -291,7 +291,7 @@ module _ {K S : Type 0} {eq : K → K → Bool} (laws : IsEquivalence eq) (c : C
   missing-keys (Ok old) h = tt
   missing-keys (Err q) h = (h.0, found-none eq c k h.1, ap of_map h.2)
 
--- a clone of the pair's key is one of the set's
+-- a clone of the key of the map's pair is a clone of the set's key
 copied-alone : {K : Type 0} (copy : K → K → Type 0) (o : Option (K × Unit {0})) (w : Option K) → IsCopied (λ p l. copy p.0 l) o w → IsCopied copy (key_alone o) w
 copied-alone copy None None h = h
 copied-alone copy (Some p) (Some l) h = h

@@ -19,7 +19,7 @@ use Rattle.scc_map.specs.Sinks.{with_units}
 use Rattle.scc_set.specs.Keys.{of_map}
 use Rattle.scc_set.specs.SetWalks.{CallableWhile, Walks, walked, stopped, went_on, Declines, declined_none, declined, Retains, retained, stayed, went, Takes, ended, refused, kept, took, kept_last, took_last}
 
--- an order of the pairs is one of the keys
+-- an order of the map's pairs is an order of the set's keys
 pub ordered-keys : {K S : Type 0} (c : Contents (K × Unit {0}) S) (es : List (K × Unit {0})) → IsPermutation (entries c) es → IsPermutation (entries (of_map c)) (keys_of es)
 ordered-keys {K} c es p = let f : K × Unit {0} → K = λ e. e.0 in rw (entries-mapped f c) (IsPermutation-map f (entries c) es p)
 
@@ -42,7 +42,7 @@ module _ {C F K : Type 0} (gm : Mut C (Bor K × (Bor (Unit {0}) × Unit {0})) Bo
   takes-key : (s : C) (p : K × Unit {0}) → TakesAt gf (of s) p.0 → TakesOn gm s p
   takes-key s p h = λ key value e. may s key value (subst (λ (q : K × Unit {0}). TakesAt gf (of s) q.0) (sym e) h)
 
-  -- a closure that may be called on the keys in turn may be so on the pairs
+  -- if the set's closure may be called on the keys in turn, the map's closure may be called on the pairs in turn
   pub callable-keys : (on : Bool) (s : C) (es : List (K × Unit {0})) → CallableWhile gf (λ a. a ≡ on) (of s) (keys_of es) → pairs.CallableWhile gm on s es
   callable-keys on s es h = in-turn of (λ s p t. CalledOn gm s p on t) (λ s q t. (r : Bool) × (r ≡ on) × CalledAt gf s q r t) (λ s p t c. (on, refl, on-key s p on t c)) (TakesOn gm) (TakesAt gf) takes-key s es h
 
@@ -52,7 +52,7 @@ module _ {C F K : Type 0} (gm : Mut C (Bor K × (Bor (Unit {0}) × Unit {0})) Bo
   Walks-keys s es b t (pairs.went_on {f' = f'} {p = p} {es = rest} c w) = went_on (on-key s p true f' c) (Walks-keys f' rest b t w)
 
 module _ {F K : Type 0} {T : F → K → Bool → F → Type 0} where
-  -- one key more
+  -- a closure that declined some keys and then one more key declined all these keys
   pub declines-more : (ks : List K) {f f' f'' : F} {q : K} → Declines T f ks f' → T f' q false f'' → Declines T f (ks ++ q ∷ []) f''
   declines-more [] declined_none t = declined t declined_none
   declines-more (x ∷ ks) (declined s d) t = declined s (declines-more ks d t)
@@ -88,7 +88,7 @@ units-back : {K : Type 0} (ks : List K) → keys_of (with_units ks) ≡ ks
 units-back [] = refl
 units-back (k ∷ ks) = ap (λ l. k ∷ l) (units-back ks)
 
--- pairs that were put at the end of a list of keys are their keys there
+-- if pairs are put at the end of a list of keys, the keys of the pairs are at the end of the list
 pub taken-keys : {K : Type 0} (old new : List K) (more : List (K × Unit {0})) → with_units new ≡ with_units old ++ more → new ≡ old ++ keys_of more
 taken-keys {K} old new more h =
     sym (units-back new) ∙ ap keys_of h ∙ map-append (λ (p : K × Unit {0}). p.0) (with_units old) more ∙ ap (λ l. l ++ keys_of more) (units-back old)

@@ -1,4 +1,4 @@
--- What a replacement says of its keys, whatever the stripe held.
+-- Facts about the keys of a replacement, whatever the stripe held.
 use Rattle.std.proofs.Common.{◌≡◌, Bool, ap}
 use Rattle.std.specs.declared.cmp.PartialEq as eq
 use Rattle.std.specs.declared.hash.Hash as hash

@@ -1,4 +1,4 @@
--- A walk that keeps some and goes on over one list after another, with the closure that was left.
+-- A walk that keeps some pairs, over one list after another: each list is walked with the closure that the list before left.
 use Rattle.std.proofs.Common.{List, [], ◌∷◌, ◌++◌, Bool, refl}
 use Rattle.std.specs.Borrow.{Bor}
 use Rattle.std.specs.Fn.{Mut}
@@ -14,12 +14,12 @@ module _ {F K V : Type 0} where
   retains-join (retained.kept t x) y = retained.kept t (retains-join x y)
   retains-join (retained.removed t x) y = retained.removed t (retains-join x y)
 
-  -- a closure that may always be called may be called after the walk
+  -- if a closure may always be called, it may always be called after the walk
   pub retains-always : (g : Mut F (Bor K × (Bor V × Unit {0})) Bool) {f last : F} {es stay : List (K × V)} → Retains (CalledOn g) f es stay last → always_mut g f → always_mut g last
   retains-always g retained.ended h = h
   retains-always g (retained.kept t x) h = retains-always g x (mut_next g _ _ _ _ _ t.called refl h)
   retains-always g (retained.removed t x) h = retains-always g x (mut_next g _ _ _ _ _ t.called refl h)
 
-  -- and on all pairs
+  -- if a closure may always be called, it may be called on all pairs
   pub callable-always : (g : Mut F (Bor K × (Bor V × Unit {0})) Bool) (f : F) (es : List (K × V)) → always_mut g f → CallableOnAll g f es
   callable-always g = turn-always _ _ (always_mut g) (λ f f' p t h. mut_next g _ _ _ _ _ t.1.called refl h) (λ f p h key value shows. (h.at ((key, (value, tt)) ∷ [])).0)

@@ -1,4 +1,4 @@
--- What an owned call's step says of its answer alone.
+-- Facts about an owned call's reply that follow from its step.
 use Rattle.std.proofs.Common.{◌≡◌, ◌⊎◌, List, Bool, true, false, IsTrue, Option, None, Some, Result, Ok, Err, MatchOption, inl, inr, sym, ap, subst, ◌∙◌}
 use Rattle.std.specs.Prelude.{IfErr, IfOk, IfSome}
 use Rattle.std.specs.Borrow.{Bor}
@@ -24,7 +24,7 @@ module _ {A K V : Type 0} (eq : K → K → Bool) (pair : A → K × V) (es : Li
   peeked None h = tt
   peeked (Some a) h = find-key eq es k (pair a) h
 
-  -- what is handed out for a key has an equal key
+  -- a pair that is returned for k has a key that equals k
   pub peeks-key : {E : Type 0} (r : Result (Option A) E) → IfOk r (λ o. MatchOption o (find eq es k ≡ None) (λ a. find eq es k ≡ Some (pair a))) → IfOk r (λ o. IfSome o (λ a. HasKey eq k (pair a)))
   peeks-key (Err e) h = tt
   peeks-key (Ok o) h = peeked o h
@@ -34,6 +34,6 @@ module _ {F K V S : Type 0} (eq : K → K → Bool) (g : Once F (Bor V × Unit {
   answered None h t = absurd (let e : true ≡ false = sym t ∙ h.0 in cc)
   answered (Some p) h t = (p.1, subst (FnOnceReturnsAt g f p.1) t h.0)
 
-  -- where a removal was made, the closure answered true on some value
+  -- if a removal was made, the closure returned true on some value
   pub removes-passed : RemovesIf g f eq c k r d (find eq (entries c) k) → IsTrue r → PassesOn g f
   removes-passed = answered (find eq (entries c) k)

@@ -1,4 +1,4 @@
--- Walks over pairs with unit values, of a closure that may always be called, as walks over their keys.
+-- Walks over pairs with unit values as walks over their keys, for a closure that may always be called.
 use Rattle.std.proofs.Common.{◌≡◌, Bool, true, false, List, [], ◌∷◌, refl, subst}
 use Rattle.std.specs.Borrow.{Bor, MutBor}
 use Rattle.std.specs.Fn.{Mut, Once, Called, CalledAt, TakesAt, FnOnceReturnsAt, FnOnceReturnsAtMut}
@@ -10,11 +10,11 @@ use Rattle.scc_common.specs.Replies as replies
 use Rattle.scc_shared_set.specs.Answers.{ReadsEqual}
 use Rattle.scc_set.specs.SetWalks.{Declines, declined_none, declined, PassesAt}
 
--- a closure that may always be called may be so at a key
+-- a closure that may always be called may be called at a key
 pub always-takes : {F K R : Type 0} (g : Mut F (Bor K × Unit {0}) R) (f : F) (k : K) → always_mut g f → TakesAt g f k
 always-takes g f k h = λ y e. (h.at ((y, tt) ∷ [])).0
 
--- and after the call
+-- a closure that may always be called may always be called after a call
 pub always-after : {F K R : Type 0} (g : Mut F (Bor K × Unit {0}) R) (f : F) (k : K) (r : R) (f' : F) → CalledAt g f k r f' → always_mut g f → always_mut g f'
 always-after g f k r f' c h = mut_next g _ _ _ _ _ c.called refl h
 
@@ -30,7 +30,7 @@ module _ {C F K : Type 0} (gm : Mut C (Bor K × (Bor (Unit {0}) × Unit {0})) Bo
   pub PassesAt-keys : (s : C) (es : List (K × Unit {0})) (p : K × Unit {0}) → writes.PassesAt (CalledOn gm) s es p → PassesAt (CalledAt gf) (of s) (keys_of es) p.0
   PassesAt-keys s es p x = record { before = of x.before; last = of x.last; declines = Declines-keys s es x.before x.declines; passes = at-key x.before p true x.last x.passes }
 
--- an answer at a pair with an equal key is one at that key
+-- an answer of the map's closure at a pair with an equal key is an answer of the set's closure at that key
 pub reads-key : {C F K R : Type 0} (gm : Once C (Bor K × (Bor (Unit {0}) × Unit {0})) R) (m : C) (gf : Once F (Bor K × Unit {0}) R) (f : F)
     (one : (key : Bor K) (value : Bor (Unit {0})) (r : R) → gm.post m (key, (value, tt)) r → FnOnceReturnsAt gf f key.now r)
     (eq : K → K → Bool) (k : K) (r : R) → replies.ReadsEqual eq gm m k r → ReadsEqual eq gf f k r

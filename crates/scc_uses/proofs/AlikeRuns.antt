@@ -1,4 +1,4 @@
--- Two runs of the same calls, where alike states give alike replies.
+-- Two runs of one list of calls, if alike states give alike replies.
 use Rattle.std.proofs.Common.{◌≡◌, ◌∙◌, ℕ, Bool, true, List, [], ◌∷◌, length, Option, None, Some, refl, sym, subst, arith, inl, inr}
 use Rattle.std.specs.Cmp.{IsEquivalence, IsPartialEquivalence}
 use Rattle.scc_calls.specs.Copies.{Alike}
@@ -8,7 +8,7 @@ use Rattle.scc_calls.specs.declared.replies.Reply.TheVariants.{Inserted, Exists,
 use Rattle.scc_uses.specs.Alikeness.{AgreeAlong, Both, PairsAlike, RepliesAlike}
 
 module _ {S R : Type 0} (Like : S → S → Type 0) (like : R → R → Type 0) where
-  -- the replies agree as far as both go, and where they are as many the ends are alike
+  -- the replies agree as far as both lists go. If the lists are equally long, the end states are alike
   abbrev pub Agrees : List R → List R → S → S → Type 0
   Agrees made others u v = AgreeAlong like made others × (length others ≡ length made → Like u v)
 
@@ -52,7 +52,7 @@ module _ {X : Type 0} (like : X → X → Type 0) where
   both-trans f None (Some b) q h i = absurd h
   both-trans f (Some a) None q h i = absurd h
 
-  -- the same is related where each is related to itself
+  -- if each element is like itself, two options that are equal are alike
   pub both-same : ((a : X) → like a a) → (o p : Option X) → o ≡ p → Both like o p
   both-same f o p e = subst (Both like o) e (both-refl f o)
 
@@ -131,7 +131,7 @@ module _ {K V : Type 0} {keys : K → K → Bool} {values : V → V → Bool} (l
   replies-trans (Count l) (Count m) s h i = absurd i
   replies-trans q r s h i = absurd h
 
-  -- where equal replies are alike, so are a reply and one that stands for it
+  -- if equal replies are alike, a reply is like each reply that may stand for it
   pub replies-given : (replies : Reply K V → Reply K V → Bool) → ((a b : Reply K V) → replies a b ≡ true → RepliesAlike keys values a b) → (a b : Reply K V) → Alike replies a b → RepliesAlike keys values a b
   replies-given replies like a b (inl same) = subst (RepliesAlike keys values a) (sym same) (replies-refl a)
   replies-given replies like a b (inr e) = like a b e

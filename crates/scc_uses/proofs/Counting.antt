@@ -1,4 +1,4 @@
--- What the entry of a word holds once it was counted.
+-- The entry of a word after the word is counted.
 use Rattle.std.proofs.Common.{◌≡◌, ℕ, suc, ◌^◌, ◌-◌, min, sym, ap, ◌∙◌, nat_eq, MutBor}
 use Rattle.std.specs.Cmp.{nat_eq_equiv}
 use Rattle.std.specs.Fn.{Once, FnOnceReturnsAtMut}

@@ -1,4 +1,4 @@
--- From what look-ups of a map find to when sessions end.
+-- From the look-ups of a map to the ends of sessions.
 use Rattle.std.proofs.Common.{◌≡◌, ◌≤◌, ◌<◌, ℕ, Bool, true, false, cond, max, Option, None, Some, Result, Ok, Err, refl, sym, ap, subst, ◌∙◌, nat_eq, arith, Bor, MutBor}
 use Rattle.std.specs.Cmp.{nat_eq_equiv}
 use Rattle.std.specs.Fn.{Once, FnOnceReturnsAtMut}
@@ -21,12 +21,12 @@ module _ {S : Type 0} (c d : Contents (ℕ × ℕ) S) where
   pick true o r = refl
   pick false o r = refl
 
-  -- a look-up that finds something else at one number
+  -- if look-ups find something else at one number, the end of that number alone is set
   pub sets : (id : ℕ) (there : Option (ℕ × ℕ)) → FindsInstead nat_eq (entries c) id there (entries d) → Sets c id (option_map (λ p. p.1) there) d
   unfolding end_of
   sets id there f = record { ends = λ q. ap (option_map (λ p. p.1)) (f.finds q) ∙ pick (nat_eq q id) there (find nat_eq (entries c) q) }
 
-  -- look-ups that find the same
+  -- if look-ups find what they found before, the ends of sessions are as before
   pub as-before : ((q : ℕ) → find nat_eq (entries d) q ≡ find nat_eq (entries c) q) → IsAsBefore c d
   unfolding end_of
   as-before f = record { ends = λ q. ap (option_map (λ p. p.1)) (f q) }

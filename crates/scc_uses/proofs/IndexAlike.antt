@@ -1,4 +1,5 @@
--- What a call of an index answers and leaves, up to equality of keys and values: equal calls where look-ups find alike values answer alike, and leave alike values.
+-- The reply of a call of an index and the values that it leaves, up to equality of keys and values.
+-- If look-ups find alike values, equal calls return alike replies and leave alike values.
 use Rattle.std.proofs.Common.{◌≡◌, ◌∙◌, ℕ, Bool, true, List, length, Option, None, Some, refl, sym, subst, inl, inr}
 use Rattle.std.specs.Cmp.{IsEquivalence, IsPartialEquivalence}
 use Rattle.std.specs.Map.{lookup}
@@ -119,7 +120,7 @@ module _ {K V H I : Type 0} {eq : K → K → Bool} {values : V → V → Bool} 
         },
       )
 
-  -- two runs of the same calls from alike values, each with its own hasher, sizes and resizes
+  -- two runs of one list of calls from alike values agree, each with its own hasher, sizes and resizes
   pub index-runs-alike : {clone : K → K → Type 0} {s t u v : State (K × V)} {list : List (IndexCall K V)} {made others : List (Reply K V)}
       → AreAlike eq values s t → IsRun (Means calls replies (IndexMoves eq clone)) (ResizesTo g) s list made u → IsRun (Means calls replies (IndexMoves eq clone)) (ResizesTo h) t list others v
       → Agrees (AreAlike eq values) (RepliesAlike eq values) made others u v

@@ -1,4 +1,4 @@
--- What the entry of an index holds once a word was counted.
+-- The entry of an index after a word is counted.
 use Rattle.std.proofs.Common.{◌≡◌, ℕ, suc, ◌^◌, ◌-◌, min, Some, cond, sym, ap, subst, ◌∙◌, nat_eq}
 use Rattle.std.specs.Cmp.{nat_eq_equiv}
 use Rattle.std.specs.declared.cmp.PartialEq as equality
@@ -17,19 +17,19 @@ use Rattle.scc_uses.specs.Counts.{one_more}
 use borrow.Author.Tests.{eqb-true}
 
 module _ {G N S T : Type 0} {keep : guard.Ghosts G (Contents (ℕ × ℕ) S)} {g : equality.Ghosts ℕ} {h : hash.Ghosts ℕ} {b : builder.Ghosts S T} {w : hasher.Ghosts T} where
-  -- the entry d is e, with one more where that is occupied
+  -- the entry d is e, and if e is occupied, the count of d is one more than the count of e
   abbrev pub CountsUp : (ℕ → ℕ → Type 0) → HeldEntry G N ℕ ℕ S T keep g h b w → HeldEntry G N ℕ ℕ S T keep g h b w → Type 0
   CountsUp C (Occupied p) (Occupied d) = (n : ℕ) × (n ≡ min (suc (occupied_pair p).1) (2 ^ 64 - 1)) × IsUpdated C nat_eq p n d
   CountsUp C (Vacant e) (Vacant d) = d ≡ e
   CountsUp C e d = ⊥
 
-  -- an occupied entry came back as it was, with one more than it has
+  -- an occupied entry is returned unchanged, with a number that is one more than its count
   abbrev pub KeepsCount : HeldEntry G N ℕ ℕ S T keep g h b w → HeldEntry G N ℕ ℕ S T keep g h b w × ℕ → Type 0
   KeepsCount (Occupied p) r = (r.0 ≡ Occupied p) × (r.1 ≡ min (suc (occupied_pair p).1) (2 ^ 64 - 1))
   KeepsCount (Vacant e) r = ⊥
 
   module _ (c : Contents (ℕ × ℕ) S) (k : ℕ) where
-    -- what look-ups find once the word is counted
+    -- after the word k is counted, a look-up of k finds one more than before
     pub counted : (C : ℕ → ℕ → Type 0) (e d : HeldEntry G N ℕ ℕ S T keep g h b w) (o : HeldOccupied G N ℕ ℕ S T keep g h b w) → IsEntryOf nat_eq c k e → CountsUp C e d → OrInserts d 1 o → IsUnique nat_eq (keep.inner o.guard)
         → FindsInstead nat_eq (entries c) k (Some (k, one_more (find nat_eq (entries c) k))) (entries (keep.inner o.guard))
     counted C (Occupied p) (Occupied d) o at up ins u =

@@ -1,4 +1,5 @@
--- What a call of an index answers is settled by the values that look-ups find: neither hashes nor the number of buckets matter, nor which of two equal keys is stored.
+-- The values that look-ups find decide the reply of a call of an index: neither hashes nor the number of buckets matter,
+-- nor which of two equal keys is stored.
 use Rattle.std.proofs.Common.{◌≡◌, ◌∙◌, ℕ, Bool, true, false, cond, List, [], ◌∷◌, ◌++◌, length, Option, None, Some, refl, sym, ap, arith}
 use Rattle.std.specs.Cmp.{IsEquivalence}
 use Rattle.std.specs.List.{IsDistinct, remove}
@@ -33,7 +34,7 @@ is_some-map f None = refl
 is_some-map f (Some x) = refl
 
 module _ {K V : Type 0} where
-  -- the value of a pair that was found
+  -- the value of a found pair, if there is one
   abbrev pub value : Option (K × V) → Option V
   value o = option_map (λ p. p.1) o
 
@@ -51,19 +52,19 @@ module _ {K V : Type 0} where
   found-some t es w f = some-of (lookup_entry t es) (sym (is_some-map (λ p. p.1) (lookup_entry t es)) ∙ ap is_some (sym (found-value t es) ∙ f))
 
 module _ {K V : Type 0} (eq : K → K → Bool) where
-  -- the values that look-ups find, from the pairs that they find
+  -- if the pairs that look-ups find change at k alone, the values that look-ups find change at k alone
   pub instead : (old new : List (K × V)) (k : K) (there : Option (K × V)) → ((q : K) → find eq new q ≡ cond (eq q k) there (find eq old q)) → (q : K) → lookup (eq q) new ≡ cond (eq q k) (value there) (lookup (eq q) old)
   instead old new k there f q = found-value (eq q) new ∙ ap value (f q) ∙ value-cond (eq q k) there (find eq old q) ∙ ap (cond (eq q k) (value there)) (sym (found-value (eq q) old))
 
 module _ {K V : Type 0} {eq : K → K → Bool} (laws : IsEquivalence eq) where
-  -- the values of the other keys
+  -- after the pair of k is removed, a look-up of k finds no value, and other look-ups find the values that they found
   pub others : (es : List (K × V)) (k q : K) → IsDistinct eq (keys_of es) → lookup (eq q) (without eq es k) ≡ cond (eq q k) None (lookup (eq q) es)
   others es k q d = instead eq es (without eq es k) k None (λ q. find-without laws es k q d) q
 
   pub tail-value : (x : K × V) (xs : List (K × V)) (q : K) → IsDistinct eq (keys_of (x ∷ xs)) → lookup (eq q) xs ≡ cond (eq q x.0) None (lookup (eq q) (x ∷ xs))
   tail-value x xs q d = ap (lookup (eq q)) (sym (cond-true xs (x ∷ without eq xs x.0) (laws.refl x.0))) ∙ others (x ∷ xs) x.0 q d
 
-  -- pairs with distinct keys are as many as others in which look-ups find the same values
+  -- if two lists have distinct keys, and look-ups find the same values in both, the lists are equally long
   pub same-count : (xs ys : List (K × V)) → IsDistinct eq (keys_of xs) → IsDistinct eq (keys_of ys) → ((q : K) → lookup (eq q) ys ≡ lookup (eq q) xs) → length ys ≡ length xs
   same-count [] [] u v f = refl
   same-count [] (y ∷ ys) u v f = absurd (let h : Some y.1 ≡ None = sym (cond-true (Some y.1) (lookup (eq y.0) ys) (laws.refl y.0)) ∙ f y.0 in cc)
@@ -77,11 +78,11 @@ module _ {K V : Type 0} {eq : K → K → Bool} (laws : IsEquivalence eq) where
       (λ q. ap (lookup (eq q)) (sym rest) ∙ others ys x.0 q v ∙ ap (cond (eq q x.0) None) (f q) ∙ sym (tail-value x xs q u)) in
       omega (arith, inner, length-remove ys at.0 (place-below ys at.0 p.0 at.1))
 
-  -- the same pairs in another order
+  -- a look-up finds the same value in the pairs and in a rearrangement of the pairs
   pub rearranged-values : (es ds : List (K × V)) (q : K) → IsPermutation es ds → IsDistinct eq (keys_of es) → lookup (eq q) ds ≡ lookup (eq q) es
   rearranged-values es ds q perm d = found-value (eq q) ds ∙ ap value (find-IsPermutation laws es ds q perm d) ∙ sym (found-value (eq q) es)
 
-  -- a key in the place of its equal changes no value that a look-up finds
+  -- if a key replaces an equal key, look-ups find the values that they found
   pub value-set_key : (k q : K) (es : List (K × V)) → lookup (eq q) (set_key (eq k) es k) ≡ lookup (eq q) es
   value-set_key k q [] = refl
   value-set_key k q (x ∷ es) = by_answer (eq k x.0)
@@ -101,7 +102,7 @@ module _ {K V : Type 0} (eq : K → K → Bool) where
   abbrev pub there : List (K × V) → IndexCall K V → Option V
   there es call = value-if es (index_key call)
 
-  -- what the call answers where the key has that value, and there are so many pairs
+  -- the reply of the call if its key has this value, or none, and there are n pairs
   abbrev pub answered : Option V → ℕ → IndexCall K V → Reply K V
   answered None n (Insert k v) = Inserted
   answered (Some w) n (Insert k v) = Exists k v
@@ -112,7 +113,7 @@ module _ {K V : Type 0} (eq : K → K → Bool) where
   answered o n Clear = Cleared
   answered o n Len = Count n
 
-  -- the value that it leaves at q, where there was b
+  -- the value that the call leaves at q, if the value at q was b
   abbrev pub left : Option V → Option V → K → IndexCall K V → Option V
   left None b q (Insert k v) = cond (eq q k) (Some v) b
   left (Some w) b q (Insert k v) = b
@@ -129,7 +130,7 @@ module _ {K V : Type 0} {eq : K → K → Bool} (laws : IsEquivalence eq) where
   pub kept : (s t : State (K × V)) → t ≡ s → (q : K) → lookup (eq q) t.0 ≡ lookup (eq q) s.0
   kept s t e q = ap (λ (z : State (K × V)). lookup (eq q) z.0) e
 
-  -- a move answers and leaves just that
+  -- a move returns this reply and leaves these values
   pub not_waiting : (clone : K → K → Type 0) (s : State (K × V)) (call : IndexCall K V) (reply : Reply K V) (t : State (K × V)) → IsDistinct eq (keys_of s.0) → IsDistinct eq (keys_of t.0) → IndexMoves eq clone s call reply t
       → (o : Option V) × (there eq s.0 call ≡ o) × (reply ≡ answered eq o (length s.0) call) × ((q : K) → lookup (eq q) t.0 ≡ left eq o (lookup (eq q) s.0) q call)
   not_waiting clone s (Insert k v) Inserted t d e m =
@@ -175,7 +176,7 @@ module _ {K V : Type 0} {eq : K → K → Bool} (laws : IsEquivalence eq) where
   keeps-distinct clone s t call reply d m = absurd m
 
 module _ {K V : Type 0} (eq : K → K → Bool) where
-  -- look-ups find the same values, and no two keys of either are equal
+  -- look-ups find the same values in both states, and no two keys of one state are equal
   pub record IsAlike (s t : State (K × V)) : Type 0 where
     pub first : IsDistinct eq (keys_of s.0)
     pub second : IsDistinct eq (keys_of t.0)
@@ -186,7 +187,7 @@ module _ {K V : Type 0} {eq : K → K → Bool} (laws : IsEquivalence eq) where
   there-alike s t None l = refl
   there-alike s t (Some k) l = l.values k
 
-  -- the same call where look-ups find the same values gives the same reply, and leaves the same values
+  -- if look-ups find the same values in two states, a call returns the same reply in both and leaves the same values
   moves-alike : (clone : K → K → Type 0) (s t u v : State (K × V)) (call : IndexCall K V) (q r : Reply K V) → IsAlike eq s t → IndexMoves eq clone s call q u → IndexMoves eq clone t call r v → (q ≡ r) × IsAlike eq u v
   moves-alike clone s t u v call q r l m n =
       let d = keeps-distinct laws clone s u call q l.first m in
@@ -204,7 +205,7 @@ module _ {K V : Type 0} {eq : K → K → Bool} (laws : IsEquivalence eq) where
       )
 
 module _ {K V H I : Type 0} {eq : K → K → Bool} {clone : K → K → Type 0} (laws : IsEquivalence eq) (g : Setting H) (h : Setting I) where
-  -- two runs of the same calls from the same values, each with its own hasher, sizes and resizes, agree
+  -- two runs of one list of calls from the same values agree, each with its own hasher, sizes and resizes
   index-runs-agree : {s t u v : State (K × V)} {calls : List (IndexCall K V)} {made others : List (Reply K V)}
       → IsAlike eq s t → IsRun (IndexMoves eq clone) (ResizesTo g) s calls made u → IsRun (IndexMoves eq clone) (ResizesTo h) t calls others v → Agrees (IsAlike eq) made others u v
   index-runs-agree l a b =
@@ -216,10 +217,10 @@ module _ {K V H I : Type 0} {eq : K → K → Bool} {clone : K → K → Type 0}
 
   module _ {s t u v : State (K × V)} {calls : List (IndexCall K V)} {made others : List (Reply K V)} (l : IsAlike eq s t)
       (a : IsRun (IndexMoves eq clone) (ResizesTo g) s calls made u) (b : IsRun (IndexMoves eq clone) (ResizesTo h) t calls others v) (all : length made ≡ length calls) where
-    -- two runs that answer every call
+    -- if both runs answer every call, they return equal replies, and their end states are alike
     pub index-runs-same : length others ≡ length calls → (made ≡ others) × IsAlike eq u v
     index-runs-same too = equally-many (IsAlike eq) made others u v (index-runs-agree l a b) (all ∙ sym too)
 
-    -- a run that answers every call, and one that may have stopped
+    -- if one run answers every call, a run that may have stopped returns the first replies of that run
     pub index-runs-first : (rest : List (Reply K V)) × (made ≡ others ++ rest)
     index-runs-first = first-replies (IsAlike eq) made others u v (index-runs-agree l a b) (omega (arith, all, no-more b))

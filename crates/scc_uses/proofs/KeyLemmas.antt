@@ -55,12 +55,12 @@ module _ {K : Type 0} {eq : K → K → Bool} (laws : IsEquivalence eq) where
       let same = find-IsPermutation laws (with_units ks) (with_units ls) k (to-units ks ls p) (units-distinct eq ks d) in
       sym (paired-back (find eq ls k)) ∙ ap (option_map (λ p. p.0)) (sym (find-units (eq k) ls) ∙ same ∙ find-units (eq k) ks) ∙ paired-back (find eq ks k)
 
-  -- equal keys are looked up alike
+  -- if q equals k, a look-up of q finds what a look-up of k finds
   pub find-alike : (ks : List K) (q k : K) → eq q k ≡ true → find eq ks q ≡ find eq ks k
   find-alike [] q k y = refl
   find-alike (x ∷ ks) q k y = λ i. cond (laws.congr q k x y i) (Some x) (find-alike ks q k y i)
 
-  -- a look-up in a filter by a test that equal keys pass alike
+  -- if equal keys pass the test alike, a look-up of q in the filter finds what it finds in the list, if q passes
   pub find-filter : (test : K → Bool) → ((a b : K) → eq a b ≡ true → test a ≡ test b) → (ks : List K) (q : K) → find eq (filter test ks) q ≡ cond (test q) (find eq ks q) None
   find-filter test alike [] q = elim (test q) as (λ y. find eq [] q ≡ cond y (find eq [] q) None) [ true ↦ refl | false ↦ refl ]
   find-filter test alike (x ∷ ks) q =
@@ -90,12 +90,12 @@ module _ {F K : Type 0} (T : F → K → Bool → F → Type 0) (test : K → Bo
       let s = said g k false g' e t in
       walked s.1 rest ∙ sym (cond-false (k ∷ filter test ks) (filter test ks) (sym s.0))
 
-  -- what a closure that only tests keeps
+  -- if the closure only tests, the keys that stay are the keys that pass the test
   pub retains-filter : (ks stay : List K) (last : F) → Retains T f ks stay last → stay ≡ filter test ks
   retains-filter ks stay last r = walked refl r
 
 module _ {K : Type 0} (eq : K → K → Bool) where
-  -- a look-up finds just the members
+  -- a look-up of q finds a key just if q is a member
   pub is-there : (ks : List K) (q : K) → is_some (find eq ks q) ≡ is_member eq ks q
   is-there [] q = refl
   is-there (x ∷ ks) q = elim (eq q x) as (λ y. is_some (cond y (Some x) (find eq ks q)) ≡ (y || is_member eq ks q)) [ true ↦ refl | false ↦ is-there ks q ]
@@ -112,7 +112,7 @@ module _ {K : Type 0} (eq : K → K → Bool) where
   put-there false k None = refl
   put-there false k (Some x) = refl
 
-  -- the members once a key was put in
+  -- after k was put in, the members are the members of `done ++ k ∷ []`
   pub one-more : (old new done : List K) (k : K) → ((q : K) → is_member eq old q ≡ is_member eq done q) → FindsInstead eq old k (Some k) new → (q : K) → is_member eq new q ≡ is_member eq (done ++ k ∷ []) q
   one-more old new done k same f q =
       sym (is-there new q) ∙ ap is_some (f.finds q) ∙ put-there (eq q k) k (find eq old q) ∙ ap (λ b. b || (eq q k || false)) (is-there old q ∙ same q) ∙ sym (list_any-append (eq q) done (k ∷ []))
@@ -126,7 +126,7 @@ or-same false true h = h refl
 or-same false false h = refl
 
 module _ {K : Type 0} {eq : K → K → Bool} (laws : IsEquivalence eq) where
-  -- the members where a key came that is one of them
+  -- if k is a member already, the members are the members of `done ++ k ∷ []`
   pub no-more : (list done : List K) (k : K) → ((q : K) → is_member eq list q ≡ is_member eq done q) → is_member eq done k ≡ true → (q : K) → is_member eq list q ≡ is_member eq (done ++ k ∷ []) q
   no-more list done k same here q =
       same q ∙ or-same (is_member eq done q) (eq q k) (λ y. list_any_congr laws q k done y ∙ here) ∙ sym (list_any-append (eq q) done (k ∷ []))
@@ -140,7 +140,7 @@ alike-answers true b f g = sym (f refl)
 alike-answers false true f g = g refl
 alike-answers false false f g = refl
 
--- the answer that is not that of a look-up
+-- if `had` says whether o is there, and b is the opposite of `had`, b says whether o is missing
 pub turned : {X : Type 0} (b had : Bool) (o : Option X) → b ≡ not had → IsTrue had ↔ IsSome o → b ≡ not (is_some o)
 turned b had o e h = e ∙ ap not (alike-answers had (is_some o) h.0 h.1)
 
@@ -155,7 +155,7 @@ module _ {K S T : Type 0} {eq : K → K → Bool} (laws : IsEquivalence eq) (c d
   lacks-alike : (a b : K) → eq a b ≡ true → lacks a ≡ lacks b
   lacks-alike a b y = ap (λ o. not (is_some o)) (find-alike laws (entries e) a b y)
 
-  -- what look-ups find once just the keys that are not in e stay
+  -- if just the keys that are not in e stay, a look-up finds what it found before, if the key is not in e
   pub finds-difference : (ks stay : List K) → IsPermutation (entries c) ks → stay ≡ filter lacks ks → Holds c stay d → IsUnique eq c → IsUnique eq d → (q : K) → find eq (entries d) q ≡ cond (is_some (find eq (entries e) q)) None (find eq (entries c) q)
   finds-difference ks stay p same h u v q =
       not-first (is_some (find eq (entries e) q)) (find eq (entries c) q) (find eq (entries d) q)

@@ -1,4 +1,5 @@
--- What a call of a map answers and leaves is settled by the values that look-ups find, up to equality of keys and values: equal calls where look-ups find alike values answer alike, and leave alike values.
+-- The values that look-ups find decide the reply of a call of a map and the values that it leaves,
+-- up to equality of keys and values. If look-ups find alike values, equal calls return alike replies and leave alike values.
 use Rattle.std.proofs.Common.{◌≡◌, ◌∙◌, ℕ, Bool, true, false, cond, List, [], ◌∷◌, length, Option, None, Some, refl, sym, ap, subst, arith, inl, inr}
 use Rattle.std.specs.Cmp.{IsEquivalence, IsPartialEquivalence}
 use Rattle.std.specs.List.{IsDistinct, remove}
@@ -26,7 +27,7 @@ use Rattle.scc_uses.specs.Alikeness.{Both, FindsAlike, MapCallsAlike, RepliesAli
 use Rattle.scc_uses.proofs.AlikeRuns.{Agrees, runs-alike, both-same, alike-symm, alike-trans, equal-symm, equal-trans, replies-given, replies-symm, replies-trans}
 use Rattle.scc_uses.proofs.IndexIndependence.{some-of, is_some-map, value, found-value, found-some, instead, others, tail-value, rearranged-values, value-set_key, kept, value-if}
 
--- both are there or neither
+-- if two options are alike, both are there or neither is
 pub both-there : {X : Type 0} (like : X → X → Type 0) (o p : Option X) → Both like o p → is_some p ≡ is_some o
 both-there like None None h = refl
 both-there like (Some a) (Some b) h = refl
@@ -38,12 +39,12 @@ both-cond like true c o p m n e h i = subst (λ z. Both like o (cond z p n)) e h
 both-cond like false c o p m n e h i = subst (λ z. Both like m (cond z p n)) e i
 
 module _ {K V : Type 0} {eq : K → K → Bool} (laws : IsEquivalence eq) where
-  -- equal keys find the same
+  -- if k equals l, a look-up of k finds what a look-up of l finds
   pub lookup-equal : (k l : K) (es : List (K × V)) → eq k l ≡ true → lookup (eq k) es ≡ lookup (eq l) es
   lookup-equal k l [] e = refl
   lookup-equal k l (x ∷ es) e = ap (λ b. cond b (Some x.1) (lookup (eq k) es)) (laws.congr k l x.0 e) ∙ ap (cond (eq l x.0) (Some x.1)) (lookup-equal k l es e)
 
-  -- pairs with distinct keys are as many as others in which look-ups find as often something
+  -- if two lists have distinct keys, and look-ups find a value in both or in neither, the lists are equally long
   pub as-many-there : (xs ys : List (K × V)) → IsDistinct eq (keys_of xs) → IsDistinct eq (keys_of ys) → ((q : K) → is_some (lookup (eq q) ys) ≡ is_some (lookup (eq q) xs)) → length ys ≡ length xs
   as-many-there [] [] u v f = refl
   as-many-there [] (y ∷ ys) u v f = absurd (let h : true ≡ false = sym (ap is_some (cond-true (Some y.1) (lookup (eq y.0) ys) (laws.refl y.0))) ∙ f y.0 in cc)
@@ -67,7 +68,7 @@ module _ {K V : Type 0} (eq : K → K → Bool) where
   abbrev there : List (K × V) → MapCall K V → Option V
   there es call = value-if eq es (map_key call)
 
-  -- what the call answers where the key has that value, and there are so many pairs, up to the stored key
+  -- the reply of the call, up to the stored key, if its key has this value, or none, and there are n pairs
   abbrev answered : Option V → ℕ → MapCall K V → Reply K V
   answered None n (Insert k v) = Inserted
   answered (Some w) n (Insert k v) = Exists k v
@@ -79,7 +80,7 @@ module _ {K V : Type 0} (eq : K → K → Bool) where
   answered o n Clear = Cleared
   answered o n Len = Count n
 
-  -- the value that it leaves at q, where there was b
+  -- the value that the call leaves at q, if the value at q was b
   abbrev left : Option V → Option V → K → MapCall K V → Option V
   left None b q (Insert k v) = cond (eq q k) (Some v) b
   left (Some w) b q (Insert k v) = b
@@ -93,7 +94,7 @@ module _ {K V : Type 0} (eq : K → K → Bool) where
   left o b q Len = b
 
 module _ {K V : Type 0} {eq : K → K → Bool} (laws : IsEquivalence eq) (values : V → V → Bool) where
-  -- a move answers and leaves just that
+  -- a move returns this reply and leaves these values
   not_waiting : (s : State (K × V)) (call : MapCall K V) (reply : Reply K V) (t : State (K × V)) → IsDistinct eq (keys_of s.0) → IsDistinct eq (keys_of t.0) → MapMoves eq s call reply t
       → (o : Option V) × (there eq s.0 call ≡ o) × RepliesAlike eq values reply (answered eq o (length s.0) call) × ((q : K) → lookup (eq q) t.0 ≡ left eq o (lookup (eq q) s.0) q call)
   not_waiting s (Insert k v) Inserted t d e m =
@@ -162,7 +163,7 @@ module _ {K V : Type 0} {eq : K → K → Bool} {values : V → V → Bool} (law
   calls-refl Clear = tt
   calls-refl Len = tt
 
-  -- equal keys find alike values
+  -- look-ups of equal keys find alike values
   pub there-alike : (k l : K) (es ds : List (K × V)) → eq k l ≡ true → FindsAlike eq values es ds → Both (Alike values) (lookup (eq k) es) (lookup (eq l) ds)
   there-alike k l es ds e f = subst (Both (Alike values) (lookup (eq k) es)) (lookup-equal laws k l ds e) (f k)
 
@@ -221,7 +222,7 @@ module _ {K V : Type 0} {eq : K → K → Bool} {values : V → V → Bool} (law
   left-alike a b o p x y q h f i = absurd h
 
 module _ {K V : Type 0} (eq : K → K → Bool) (values : V → V → Bool) where
-  -- look-ups find alike values, and no two keys of either are equal
+  -- look-ups find alike values in both states, and no two keys of one state are equal
   pub record AreAlike (s t : State (K × V)) : Type 0 where
     pub first : IsDistinct eq (keys_of s.0)
     pub second : IsDistinct eq (keys_of t.0)
@@ -256,7 +257,7 @@ module _ {K V H I : Type 0} {eq : K → K → Bool} {values : V → V → Bool} 
         },
       )
 
-  -- two runs of the same calls from alike pairs, each with its own hasher, sizes and resizes
+  -- two runs of one list of calls from alike pairs agree, each with its own hasher, sizes and resizes
   pub map-runs-alike : {s t u v : State (K × V)} {list : List (MapCall K V)} {made others : List (Reply K V)}
       → AreAlike eq values s t → IsRun (Means calls replies (MapMoves eq)) (ResizesTo g) s list made u → IsRun (Means calls replies (MapMoves eq)) (ResizesTo h) t list others v
       → Agrees (AreAlike eq values) (RepliesAlike eq values) made others u v

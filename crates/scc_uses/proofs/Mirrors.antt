@@ -1,4 +1,4 @@
--- What two runs of the same calls make of two containers, by what is known of any two runs of their kind.
+-- Two containers after two runs of one list of calls, from a fact about any two runs of their kind.
 use Rattle.std.proofs.Common.{◌≡◌, ◌∙◌, ℕ, ◌+◌, Bool, List, [], ◌++◌, Result, Ok, Err, length, inl, inr, sym, ap, subst, append-nil}
 use Rattle.std.specs.Result.{OnOk, OnErr}
 use Rattle.scc_common.specs.Contents.{entries}
@@ -11,29 +11,29 @@ use Rattle.scc_uses.specs.Alikeness.{AgreeAlong, AreExact}
 use Rattle.scc_uses.specs.Mirrored.{Side, AddsRun, RunsOnBoth}
 use Rattle.scc_uses.proofs.Replies.{as-many}
 
--- what is no success says nothing of one
+-- if a result is no success, any fact about its success holds
 not-ok : {X Y : Type 0} (P : Type 0) (r : Result X Y) → OnOk r ⊥ → OnOk r P
 not-ok P (Ok x) e = absurd e
 not-ok P (Err y) e = tt
 
--- what is no refusal says nothing of one
+-- if a result is no refusal, any fact about its refusal holds
 not-err : {X Y : Type 0} (P : Type 0) (r : Result X Y) → OnErr r ⊥ → OnErr r P
 not-err P (Ok x) e = tt
 not-err P (Err y) e = absurd e
 
--- what holds in any case holds of a success
+-- a fact that holds in any case holds if the result is a success
 when_ok : {X Y P : Type 0} (r : Result X Y) → P → OnOk r P
 when_ok (Ok x) p = p
 when_ok (Err y) p = tt
 
--- a run of what the calls mean is one of the calls themselves, where equal ones are the same
+-- if equal calls and replies are identical, a run of what the calls mean is a run of the calls themselves
 exact : {S C R : Type 0} {equal_calls : C → C → Bool} {equal_replies : R → R → Bool} {moves : S → C → R → S → Type 0} {resizes : S → ℕ → S → Type 0} {s u : S} {calls : List C} {made : List R}
     → AreExact equal_calls equal_replies → IsRun (Means equal_calls equal_replies moves) resizes s calls made u → IsRun moves resizes s calls made u
 exact {moves} e r = run-as (λ s call reply t. means_same _ _ moves e.0 e.1 s t call reply) r
 
 module _ {C R E H I : Type 0} (equal_calls : C → C → Bool) (equal_replies : R → R → Bool) (moves : State E → C → R → State E → Type 0) (agree : R → R → Type 0)
     (alike same : List E → List E → Type 0) (calls : List C) (a : Side E H R) (b : Side E I R) (c : Side E H R) (d : Side E I R) where
-  -- any two runs of the calls agree, and where equal ones are the same, their replies are
+  -- any two runs of the calls agree, and if the containers began with the same entries, their replies are identical
   pub record RunsAgree : Type 0 where
     pub along : (made : List R) (others : List R) → IsRun (Means equal_calls equal_replies moves) (ResizesTo (setting_of a.0)) (state_of a.0) calls made (state_of c.0)
         → IsRun (Means equal_calls equal_replies moves) (ResizesTo (setting_of b.0)) (state_of b.0) calls others (state_of d.0)
@@ -45,7 +45,7 @@ module _ {C R E H I : Type 0} (equal_calls : C → C → Bool) (equal_replies : 
         → IsRun moves (ResizesTo (setting_of b.0)) (state_of b.0) calls others (state_of d.0) → length made ≡ length calls → (rest : List R) × (made ≡ others ++ rest)
 
   module _ {X Y : Type 0} (result : Result X Y) where
-    -- both answered each call
+    -- if both containers answered each call, `RunsOnBoth` holds
     pub both-answered : OnErr result ⊥ → RunsAgree → AddsRun (Means equal_calls equal_replies moves) calls a c → AddsRun (Means equal_calls equal_replies moves) calls b d
         → length c.1 ≡ length a.1 + length calls → length d.1 ≡ length b.1 + length calls → RunsOnBoth equal_calls equal_replies moves agree alike same calls a b result c d
     both-answered never agrees r s m n =
@@ -68,7 +68,7 @@ module _ {C R E H I : Type 0} (equal_calls : C → C → Bool) (equal_replies : 
           exact_refused = λ e z. not-err _ result never;
         }
 
-    -- the first answered each call, and the second was stopped
+    -- if the first container answered each call, and the second was stopped, `RunsOnBoth` holds
     pub second-stopped : OnOk result ⊥ → RunsAgree → AddsRun (Means equal_calls equal_replies moves) calls a c → AddsRun (Means equal_calls equal_replies moves) calls b d
         → length c.1 ≡ length a.1 + length calls → RunsOnBoth equal_calls equal_replies moves agree alike same calls a b result c d
     second-stopped never agrees r s m =
@@ -88,7 +88,7 @@ module _ {C R E H I : Type 0} (equal_calls : C → C → Bool) (equal_replies : 
           exact_refused = λ e z. let q = agrees.first_same z r.0 s.0 (exact e r.2) (exact e s.2) made in when_err result (inr (s.0, q.0, r.1 ∙ ap (λ l. a.1 ++ l) q.1, s.1, ap length (sym q.1) ∙ made));
         }
 
-    -- the first was stopped, and the second is as it was
+    -- if the first container was stopped, and the second is unchanged, `RunsOnBoth` holds
     pub first-stopped : OnOk result ⊥ → AddsRun (Means equal_calls equal_replies moves) calls a c → d ≡ b → RunsOnBoth equal_calls equal_replies moves agree alike same calls a b result c d
     first-stopped never r still =
         let s : AddsRun (Means equal_calls equal_replies moves) calls b d = subst (AddsRun (Means equal_calls equal_replies moves) calls b) (sym still) ([], sym (append-nil b.1), done) in

@@ -1,4 +1,4 @@
--- What a cache of counts holds once a word was counted.
+-- A cache of counts after a word is counted.
 use Rattle.std.proofs.Common.{◌≡◌, ℕ, suc, ◌^◌, ◌-◌, min, List, None, Some, Option, sym, ap, subst, ◌∙◌, nat_eq, MutBor, Bool}
 use Rattle.std.specs.Fn.{Once, FnOnceReturnsAtMut}
 use Rattle.std.specs.List.{slice_get}
@@ -28,7 +28,7 @@ one-pair number eq ls k i j p q a b =
 
 module _ {G N S T : Type 0} {keep : guard.Ghosts G (Cached (ℕ × ℕ) S)} {g : equality.Ghosts ℕ} {h : hash.Ghosts ℕ} {b : builder.Ghosts S T} {w : hasher.Ghosts T} (c : Cached (ℕ × ℕ) S) (k : ℕ)
     {F : Type 0} (f : Once F (MutBor ℕ × Unit {0}) (Unit {0} × (MutBor ℕ × Unit {0}))) (x : F) (says : (m n : ℕ) → FnOnceReturnsAtMut f x m tt n → n ≡ min (suc m) (2 ^ 64 - 1)) (v : Option (ℕ × ℕ)) (o : HeldOccupied G N ℕ ℕ S T keep g h b w) where
-  -- a word that was there has one more, and goes to the end of its list
+  -- the count of a word that was there is one more, and its pair moves to the end of its list
   pub counted-again : (e d : HeldEntry G N ℕ ℕ S T keep g h b w) → IsEntryOf nat_eq c k e → Modifies f x e d → OrPuts nat_eq d 1 v o → (p : ℕ × ℕ) → IsPresent (key_hash b w h.hash_input c.contents) nat_eq c.contents k p
       → (v ≡ None) × ChangesLists (RefreshesAs (list_number (key_hash b w h.hash_input c.contents) c.contents) nat_eq k p (p.0, one_more (Some p))) c (keep.inner o.guard)
   counted-again (Occupied e) (Occupied d) at is or p there =
@@ -43,7 +43,7 @@ module _ {G N S T : Type 0} {keep : guard.Ghosts G (Cached (ℕ × ℕ) S)} {g :
   counted-again (Occupied e) (Vacant d) at is or p there = absurd is
   counted-again (Vacant e) (Occupied d) at is or p there = absurd is
 
-  -- a new word is put in with 1
+  -- a new word is put with the count 1
   pub counted-first : (e d : HeldEntry G N ℕ ℕ S T keep g h b w) → IsEntryOf nat_eq c k e → Modifies f x e d → OrPuts nat_eq d 1 v o → IsAbsent (key_hash b w h.hash_input c.contents) nat_eq c.contents k
       → PutsNew (key_hash b w h.hash_input c.contents) nat_eq c (k, 1) v (keep.inner o.guard)
   counted-first (Occupied e) d at is or none = absurd (let z : None ≡ Some at.changes.lists.0 = sym none ∙ at.changes.lists.1.first in cc)

@@ -1,4 +1,4 @@
--- From what look-ups of a map find to routes.
+-- From the look-ups of a map to routes.
 use Rattle.std.proofs.Common.{◌≡◌, ◌≤◌, ◌<◌, ℕ, Bool, true, false, cond, not, Option, None, Some, refl, sym, ap, subst, ◌∙◌, nat_eq, arith}
 use Rattle.std.specs.Cmp.{nat_eq_equiv}
 use Rattle.std.specs.Option.{option_map}
@@ -61,7 +61,7 @@ module _ {S : Type 0} (c d : Contents (ℕ × Route) S) where
       by (Some p) = other (nat_eq p.1.next_hop hop) p
 
 module _ {G N S T : Type 0} {keep : guard.Ghosts G (Contents (ℕ × Route) S)} {g : equality.Ghosts ℕ} {h : hash.Ghosts ℕ} {b : builder.Ghosts S T} {w : hasher.Ghosts T} (c : Contents (ℕ × Route) S) (k : ℕ) (r : Route) where
-  -- a route was written over the one that is there
+  -- a better route is written over the route that is there
   pub offer_better : (o d : HeldOccupied G N ℕ Route S T keep g h b w) → IsOccupiedAt nat_eq c k o → IsWritten o r d → r.metric < (occupied_pair o).1.metric → Offers (route_to c k) c k r (keep.inner d.guard) true
   offer_better o d at written less = better c (keep.inner d.guard) k (occupied_pair o).0 r (occupied_pair o).1 at.found less (finds-written nat_eq_equiv c k o d r at written)
 

@@ -1,4 +1,5 @@
--- What a call of a set answers and leaves, up to equality of keys: equal calls on sets that have equal keys answer alike, and leave equal keys.
+-- The reply of a call of a set and the keys that it leaves, up to equality of keys.
+-- If two sets have equal keys, equal calls return alike replies and leave equal keys.
 use Rattle.std.proofs.Common.{◌≡◌, ◌∙◌, Bool, true, false, cond, List, [], ◌∷◌, length, suc, Option, None, Some, refl, sym, ap, subst, inl, inr}
 use Rattle.std.specs.Cmp.{IsEquivalence, IsPartialEquivalence}
 use Rattle.std.specs.List.{IsDistinct}
@@ -54,7 +55,7 @@ module _ {K : Type 0} {eq : K → K → Bool} (laws : IsEquivalence eq) where
       ∙ cond-none (eq q k) (lookup_entry (eq q) (with_units ks))
       ∙ ap (cond (eq q k) false) (ap is_some (find-units (eq q) ks) ∙ is_some-map paired (find eq ks q))
 
-  -- sets that have equal keys have as many
+  -- if two sets have equal keys, they have equally many keys
   pub as-many : (ks ls : List K) → IsDistinct eq ks → IsDistinct eq ls → HaveEqual eq ks ls → length ls ≡ length ks
   as-many ks ls d e f =
       sym (units-length ls)
@@ -68,7 +69,7 @@ module _ {K : Type 0} {eq : K → K → Bool} (laws : IsEquivalence eq) where
           ∙ ap is_some (find-units (eq q) js) ∙ is_some-map paired (find eq js q)
 
 module _ {K : Type 0} (eq : K → K → Bool) where
-  -- whether a key that equals q is there after the call, where it was there or not
+  -- whether a key that equals q is there after the call: the first Bool says whether the call's key was there, b whether q was
   abbrev stays : Bool → Bool → K → SetCall K → Bool
   stays false b q (Insert k) = cond (eq q k) true b
   stays true b q (Insert k) = b
@@ -129,7 +130,7 @@ module _ {K : Type 0} {eq : K → K → Bool} (laws : IsEquivalence eq) where
   calls-refl Clear = tt
   calls-refl Len = tt
 
-  -- what is found by equal keys is equal
+  -- look-ups of equal keys find equal keys
   both-found : (k l : K) (ks ls : List K) (o p : Option K) → find eq ks k ≡ o → find eq ls l ≡ p → eq k l ≡ true → is_some p ≡ is_some o → Both (λ a b. eq a b ≡ true) o p
   both-found k l ks ls None None f g e s = tt
   both-found k l ks ls (Some x) (Some y) f g e s = trans x k y (symm k x (found-equal eq ks k x f)) (trans k l y e (found-equal eq ls l y g))
@@ -179,7 +180,7 @@ module _ {K : Type 0} {eq : K → K → Bool} (laws : IsEquivalence eq) where
   stays-alike a b o p x y q h f i = absurd h
 
 module _ {K : Type 0} (eq : K → K → Bool) where
-  -- equal keys are in both, and no two keys of either are equal
+  -- both states have equal keys, and no two keys of one state are equal
   pub record AreAlike (s t : State K) : Type 0 where
     pub first : IsDistinct eq s.0
     pub second : IsDistinct eq t.0
@@ -219,7 +220,7 @@ module _ {K H I : Type 0} {eq : K → K → Bool} (laws : IsEquivalence eq) (g :
         },
       )
 
-  -- two runs of the same calls from equal keys, each with its own hasher, sizes and resizes
+  -- two runs of one list of calls from equal keys agree, each with its own hasher, sizes and resizes
   pub set-runs-alike : {s t u v : State K} {list : List (SetCall K)} {made others : List (Reply K (Unit {0}))}
       → AreAlike eq s t → IsRun (Means calls replies (SetMoves eq)) (ResizesTo g) s list made u → IsRun (Means calls replies (SetMoves eq)) (ResizesTo h) t list others v
       → Agrees (AreAlike eq) (RepliesAlike eq any_unit) made others u v

@@ -1,4 +1,5 @@
--- What a call of a set answers and leaves is settled by its keys, whatever their order: hashes and the number of buckets don't matter.
+-- The keys of a set, in any order, decide the reply of a call and the keys that it leaves:
+-- hashes and the number of buckets don't matter.
 use Rattle.std.proofs.Common.{◌≡◌, ◌∙◌, Bool, true, false, List, [], ◌∷◌, ◌++◌, length, Option, None, Some, refl, sym, ap, subst, arith}
 use Rattle.std.specs.Cmp.{IsEquivalence}
 use Rattle.std.specs.List.{IsDistinct}
@@ -25,7 +26,7 @@ use Rattle.scc_calls.proofs.MapIndependence.{moves-alike as pair-moves-alike}
 use Rattle.scc_uses.proofs.KeyLemmas.{paired, none-distinct, find-units, without-units, to-units, from-units, units-back, units-distinct, find-rearranged}
 
 module _ {K : Type 0} (eq : K → K → Bool) where
-  -- the found key and the others
+  -- the keys are a rearrangement of the found key and the other keys
   found-apart : (ks : List K) (k p : K) → find eq ks k ≡ Some p → IsPermutation ks (p ∷ without eq ks k)
   found-apart [] k p f = absurd (let h : None ≡ Some p = f in cc)
   found-apart (x ∷ ks) k p f = by_answer (eq k x)
@@ -38,7 +39,7 @@ module _ {K : Type 0} (eq : K → K → Bool) where
       subst (λ (l : List K). IsPermutation (x ∷ ks) (p ∷ l)) (sym (cond-false ks (x ∷ without eq ks k) y))
       (IsPermutation-trans (x ∷ ks) (x ∷ p ∷ without eq ks k) (p ∷ x ∷ without eq ks k) (IsPermutation-cons x ks (p ∷ without eq ks k) inner) (IsPermutation-middle (x ∷ []) p (without eq ks k))))
 
-  -- the same once another key took its place
+  -- after q replaces the found key, the keys are a rearrangement of q and the other keys
   key-apart : (ks : List K) (k q p : K) → find eq ks k ≡ Some p → IsPermutation (swap_key (eq k) ks q) (q ∷ without eq ks k)
   key-apart [] k q p f = absurd (let h : None ≡ Some p = f in cc)
   key-apart (x ∷ ks) k q p f = by_answer (eq k x)
@@ -51,7 +52,7 @@ module _ {K : Type 0} (eq : K → K → Bool) where
       (subst (λ (l : List K). IsPermutation (x ∷ swap_key (eq k) ks q) (q ∷ l)) (sym (cond-false ks (x ∷ without eq ks k) y))
       (IsPermutation-trans (x ∷ swap_key (eq k) ks q) (x ∷ q ∷ without eq ks k) (q ∷ x ∷ without eq ks k) (IsPermutation-cons x (swap_key (eq k) ks q) (q ∷ without eq ks k) inner) (IsPermutation-middle (x ∷ []) q (without eq ks k)))))
 
-  -- the found key equals the one that was looked up
+  -- the found key equals the key that was looked up
   pub found-equal : (ks : List K) (k p : K) → find eq ks k ≡ Some p → eq k p ≡ true
   found-equal [] k p f = absurd (let h : None ≡ Some p = f in cc)
   found-equal (x ∷ ks) k p f = by_answer (eq k x)
@@ -65,7 +66,7 @@ module _ {K : Type 0} {eq : K → K → Bool} (laws : IsEquivalence eq) where
   others-distinct : (ks : List K) (k p : K) → find eq ks k ≡ Some p → IsDistinct eq ks → IsDistinct eq (without eq ks k)
   others-distinct ks k p f d = IsDistinct-tail eq p (without eq ks k) (found-distinct ks k p f d)
 
-  -- another key that equals the found one in its place
+  -- if q equals the found key and replaces it, the keys stay distinct
   instead-distinct : (ks : List K) (k p q : K) → find eq ks k ≡ Some p → IsDistinct eq ks → eq q p ≡ true → IsDistinct eq (q ∷ without eq ks k)
   instead-distinct ks k p q f d y =
       let apart = found-distinct ks k p f d in
@@ -77,7 +78,7 @@ module _ {K : Type 0} {eq : K → K → Bool} (laws : IsEquivalence eq) where
   added-distinct ks k f d =
       subst (IsDistinct eq) (ap (λ l. k ∷ l) (units-back ks)) (distinct-added laws (with_units ks) (paired k) (units-distinct eq ks d) (find-units (eq k) ks ∙ ap (option_map paired) f))
 
-  -- the others are the same in another order
+  -- if ls is a rearrangement of ks, the other keys of ls are a rearrangement of the other keys of ks
   others-alike : (ks ls : List K) (k p : K) → find eq ks k ≡ Some p → IsDistinct eq ks → IsPermutation ks ls → IsPermutation (without eq ks k) (without eq ls k)
   others-alike ks ls k p f d perm =
       let es = with_units ks in
@@ -101,11 +102,11 @@ module _ {K : Type 0} (eq : K → K → Bool) where
   find-if ks None = None
   find-if ks (Some k) = find eq ks k
 
-  -- the key that the call's key equals
+  -- the stored key that the call's key equals, if there is one
   abbrev pub there : List K → SetCall K → Option K
   there ks call = find-if ks (key_of_set call)
 
-  -- what the call answers where that key is there
+  -- the reply of the call if this key is there, or none
   abbrev pub answered : Option K → List K → SetCall K → Reply K (Unit {0})
   answered None ks (Insert k) = Inserted
   answered (Some p) ks (Insert k) = Exists k tt
@@ -116,7 +117,7 @@ module _ {K : Type 0} (eq : K → K → Bool) where
   answered o ks Clear = Cleared
   answered o ks Len = Count (length ks)
 
-  -- the keys that it leaves, in some order
+  -- the keys that the call leaves, in some order
   abbrev pub left : Option K → List K → SetCall K → List K
   left None ks (Insert k) = k ∷ ks
   left (Some p) ks (Insert k) = ks
@@ -129,7 +130,7 @@ module _ {K : Type 0} (eq : K → K → Bool) where
   left o ks Clear = []
   left o ks Len = ks
 
-  -- a move answers and leaves just that
+  -- a move returns this reply and leaves these keys
   pub not_waiting : (s : State K) (call : SetCall K) (reply : Reply K (Unit {0})) (t : State K) → SetMoves eq s call reply t
       → (o : Option K) × (there s.0 call ≡ o) × (reply ≡ answered o s.0 call) × IsPermutation (left o s.0 call) t.0
   not_waiting s (Insert k) Inserted t m = (None, m.0, refl, m.1)
@@ -187,7 +188,7 @@ module _ {K : Type 0} {eq : K → K → Bool} (laws : IsEquivalence eq) where
       let a = not_waiting eq s call reply t m in
       IsDistinct-IsPermutation eq laws.symm (left eq a.0 s.0 call) t.0 a.3 (left-distinct a.0 s.0 call a.1 d)
 
-  -- the same call on the same keys in another order gives the same reply, and leaves the same keys in some order
+  -- if two states have the same keys in some order, a call returns the same reply in both and leaves the same keys in some order
   moves-alike : (s t u v : State K) (call : SetCall K) (q r : Reply K (Unit {0})) → IsDistinct eq s.0 → IsPermutation s.0 t.0 → SetMoves eq s call q u → SetMoves eq t call r v → (q ≡ r) × IsPermutation u.0 v.0
   moves-alike s t u v call q r d perm m n =
       let a = not_waiting eq s call q u m in
@@ -200,13 +201,13 @@ module _ {K : Type 0} {eq : K → K → Bool} (laws : IsEquivalence eq) where
       )
 
 module _ {K : Type 0} (eq : K → K → Bool) where
-  -- the same keys in some order, no two equal
+  -- both states have the same keys in some order, and no two of the keys are equal
   pub record IsRearranged (s t : State K) : Type 0 where
     pub distinct : IsDistinct eq s.0
     pub keys : IsPermutation s.0 t.0
 
 module _ {K H I : Type 0} {eq : K → K → Bool} (laws : IsEquivalence eq) (g : Setting H) (h : Setting I) where
-  -- two runs of the same calls from the same keys, each with its own hasher, sizes and resizes, agree
+  -- two runs of one list of calls from the same keys agree, each with its own hasher, sizes and resizes
   set-runs-agree : {s t u v : State K} {calls : List (SetCall K)} {made others : List (Reply K (Unit {0}))}
       → IsDistinct eq s.0 → IsPermutation s.0 t.0 → IsRun (SetMoves eq) (ResizesTo g) s calls made u → IsRun (SetMoves eq) (ResizesTo h) t calls others v → Agrees (IsRearranged eq) made others u v
   set-runs-agree d perm a b =
@@ -218,10 +219,10 @@ module _ {K H I : Type 0} {eq : K → K → Bool} (laws : IsEquivalence eq) (g :
 
   module _ {s t u v : State K} {calls : List (SetCall K)} {made others : List (Reply K (Unit {0}))} (d : IsDistinct eq s.0) (perm : IsPermutation s.0 t.0)
       (a : IsRun (SetMoves eq) (ResizesTo g) s calls made u) (b : IsRun (SetMoves eq) (ResizesTo h) t calls others v) (all : length made ≡ length calls) where
-    -- two runs that answer every call
+    -- if both runs answer every call, they return equal replies, and their end keys are the same in some order
     pub set-runs-same : length others ≡ length calls → (made ≡ others) × IsPermutation u.0 v.0
     set-runs-same too = let e = equally-many (IsRearranged eq) made others u v (set-runs-agree d perm a b) (all ∙ sym too) in (e.0, e.1.keys)
 
-    -- a run that answers every call, and one that may have stopped
+    -- if one run answers every call, a run that may have stopped returns the first replies of that run
     pub set-runs-first : (rest : List (Reply K (Unit {0}))) × (made ≡ others ++ rest)
     set-runs-first = first-replies (IsRearranged eq) made others u v (set-runs-agree d perm a b) (omega (arith, all, no-more b))

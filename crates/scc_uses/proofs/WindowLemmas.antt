@@ -1,4 +1,4 @@
--- From what look-ups of a map find to windows.
+-- From the look-ups of a map to windows.
 use Rattle.std.proofs.Common.{◌≡◌, ◌-◌, ℕ, Bool, true, false, cond, not, List, ◌++◌, Option, None, Some, Result, Ok, Err, refl, sym, subst, ◌∙◌, nat_eq, Bor, MutBor, All, get_or}
 use Rattle.std.specs.Cmp.{nat_eq_equiv}
 use Rattle.std.specs.Fn.{Once}
@@ -25,7 +25,7 @@ use Rattle.scc_buckets.proofs.Lookups.{along, place-of_find}
 use borrow.Author.Tests.{eqb-true}
 
 module _ {S : Type 0} (c d : Contents (ℕ × Window) S) where
-  -- a window that is there was written
+  -- after a hit in a window that is there, a look-up of the user finds the window after the hit
   pub hit_again : {F : Type 0} (g : Once F (Bor ℕ × (MutBor Window × Unit {0})) (ℕ × (MutBor Window × Unit {0}))) (f : F) (width user now hits : ℕ)
       → ((p : ℕ × Window) (u : ℕ) (w : Window) → WritesAt g f p u w → w ≡ after_hit width now (Some p))
       → (o : Option (ℕ × Window)) → find nat_eq (entries c) user ≡ o → UpdatesAt g f nat_eq c user d o (Some hits)
@@ -36,17 +36,17 @@ module _ {S : Type 0} (c d : Contents (ℕ × Window) S) where
       let value : u.1 ≡ after_hit width now (Some p) = says p u.0 u.1 u.3 in
       subst (λ x. FindsInstead nat_eq (entries c) user (Some x) (entries d)) (λ i. (sym key i, value i)) (finds-set_value nat_eq_equiv c d user p u.1 e u.4)
 
-  -- no window was there to be written
+  -- if no window was there, nothing is written, and look-ups find what they found before
   pub untouched : {F : Type 0} (g : Once F (Bor ℕ × (MutBor Window × Unit {0})) (ℕ × (MutBor Window × Unit {0}))) (f : F) (user : ℕ) (o : Option (ℕ × Window)) (r : Option ℕ) → r ≡ None → UpdatesAt g f nat_eq c user d o r → (q : ℕ) → find nat_eq (entries d) q ≡ find nat_eq (entries c) q
   untouched g f user None r e u = finds-unchanged nat_eq_equiv c d u.1
   untouched g f user (Some p) r e u = absurd (let z : None ≡ Some u.0 = sym e ∙ u.2 in cc)
 
-  -- a refused insertion
+  -- after a refused insertion, look-ups find what they found before
   pub hit_refused : (p : ℕ × Window) (hash : ℕ → ℕ) (x : InsertError ℕ Window) → IsUnique nat_eq d → Inserts nat_eq hash c p (Err x) d → (q : ℕ) → find nat_eq (entries d) q ≡ find nat_eq (entries c) q
   hit_refused p hash (Exists q) v s = finds-unchanged nat_eq_equiv c d s.2
   hit_refused p hash (Memory q) v s = finds-rearranged nat_eq_equiv c d s.2 v
 
--- the test of a window
+-- the test whether a window is expired
 abbrev pub expires : ℕ → ℕ → ℕ × Window → Bool
 expires width now p = nat_le width (now - p.1.since)
 
@@ -77,7 +77,7 @@ module _ {S E : Type 0} (c d : Contents (ℕ × Window) S) (es stay more : List 
     all : stay ≡ filter (λ p. not (expires width now p)) es
     all = subst (λ z. OnOk z (stay ≡ filter (λ p. not (expires width now p)) es)) is sorts.left
 
-    -- where the walk went through, just the live windows stay
+    -- if the walk went through, just the live windows stay
     pub all_live : All (IsLive width now) (entries d)
     all_live = All-permutation (IsLive width now) stay (entries d) holds.same (subst (All (IsLive width now)) (sym all) (λ k x h. is_live width now (get_or (filter (λ p. not (expires width now p)) es) k x) (filter_passes (λ p. not (expires width now p)) es k x h)))
 

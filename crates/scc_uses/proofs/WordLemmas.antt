@@ -28,7 +28,7 @@ slice_get_left [] ys y m e = absurd (let h : None ≡ Some y = e in cc)
 slice_get_left (z ∷ xs) ys y zero e = e
 slice_get_left (z ∷ xs) ys y (suc m) e = slice_get_left xs ys y m e
 
--- where the map has a number, it is the word's
+-- if the map has the number n for a word, n is the number of the word
 pub is_number : {S : Type 0} (c : Contents (ℕ × ℕ) S) (words : List ℕ) (w n : ℕ) → IsInverse c words → number_in c w ≡ Some n → IsNumberOf words w n
 is_number c words w n i e = record {
   here = i.listed w n e;
@@ -44,7 +44,7 @@ on_ok (Ok x) h p = p
 on_ok (Err e) h p = absurd (let z : true ≡ false = h in cc)
 
 module _ {S : Type 0} (c d : Contents (ℕ × ℕ) S) (words : List ℕ) (i : IsInverse c words) where
-  -- the word got the next number
+  -- after a new word gets the next number, the map is the inverse of the list with the word at its end
   pub added : (w n : ℕ) → number_in c w ≡ None → n ≡ length words → FindsInstead nat_eq (entries c) w (Some (w, n)) (entries d) → IsInverse d (words ++ w ∷ [])
   added w n missing is f = record {
     listed = λ q m e. by_answer (nat_eq q w)
@@ -65,21 +65,21 @@ module _ {S : Type 0} (c d : Contents (ℕ × ℕ) S) (words : List ℕ) (i : Is
       after : (q : ℕ) → number_in d q ≡ cond (nat_eq q w) (Some n) (number_in c q)
       after q = ap (option_map (λ p. p.1)) (f.finds q) ∙ pick (nat_eq q w) (Some (w, n)) (find nat_eq (entries c) q)
 
-  -- and that number is the word's
+  -- the next number is the number of the new word
   pub added_number : (w n : ℕ) → number_in c w ≡ None → n ≡ length words → FindsInstead nat_eq (entries c) w (Some (w, n)) (entries d) → IsNumberOf (words ++ w ∷ []) w n
   added_number w n missing is f =
       let inverse = added w n missing is f in
       let here : slice_get (words ++ w ∷ []) n ≡ Some w = rw is (slice_get_here words w) in
       is_number d (words ++ w ∷ []) w n inverse (inverse.numbered w n here)
 
-  -- look-ups that find the same
+  -- if look-ups find what they found before, the map is still the inverse of the list of words
   kept : ((q : ℕ) → find nat_eq (entries d) q ≡ find nat_eq (entries c) q) → IsInverse d words
   kept f = record {
     listed = λ q m e. i.listed q m (ap (option_map (λ p. p.1)) (sym (f q)) ∙ e);
     numbered = λ q m e. ap (option_map (λ p. p.1)) (f q) ∙ i.numbered q m e;
   }
 
-  -- a refused insertion
+  -- after a refused insertion, the map is still the inverse of the list of words
   pub refused : (w n : ℕ) (hash : ℕ → ℕ) (r : Result (Unit {0}) (InsertError ℕ ℕ)) → IsUnique nat_eq d → is_err r ≡ true → Inserts nat_eq hash c (w, n) r d → IsInverse d words
   refused w n hash (Ok u) v e s = absurd (let z : false ≡ true = e in cc)
   refused w n hash (Err (Exists q)) v e s = kept (finds-unchanged nat_eq_equiv c d s.2)

@@ -1,4 +1,4 @@
--- So far the number is that of the walk with as many steps, and below the modulus.
+-- The number so far is the number of the walk with the steps so far, and is less than the modulus.
 use Rattle.std.proofs.Common.{◌≡◌, ◌%◌, ◌<◌}
 use Rattle.example_memo.specs.Walks.{walked}
 use Rattle.example_memo.proofs.walks.end_of_walk.Given as goal

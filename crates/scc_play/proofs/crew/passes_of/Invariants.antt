@@ -1,4 +1,4 @@
--- The passes so far are those of the first workers.
+-- The passes so far are the passes of the first workers.
 use Rattle.std.proofs.Common.{◌≡◌, map}
 use Rattle.scc_play.proofs.crew.passes_of.Given as goal
 

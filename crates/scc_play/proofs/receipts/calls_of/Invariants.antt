@@ -1,4 +1,4 @@
--- The calls so far, and the worker's among those that are left, are all of the worker.
+-- The calls so far, and then the worker's calls among the calls that are left, are all calls of the worker.
 use Rattle.std.proofs.Common.{◌≡◌, ◌++◌, drop}
 use Rattle.scc_play.specs.Answered.{calls_by}
 use Rattle.scc_play.proofs.receipts.calls_of.Given as goal

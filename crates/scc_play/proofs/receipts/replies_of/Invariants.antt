@@ -1,4 +1,4 @@
--- What the calls that are left become goes on from what was answered so far.
+-- The replies to the calls that are left follow the replies so far.
 use Rattle.std.proofs.Common.{List, ◌++◌, drop}
 use Rattle.scc_play.specs.Answered.{AreAnswered}
 use Rattle.scc_play.proofs.receipts.replies_of.Given as goal

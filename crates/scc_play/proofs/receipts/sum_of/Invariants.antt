@@ -1,4 +1,4 @@
--- The sum so far is that of the first receipts.
+-- The sum so far is the sum of the first receipts.
 use Rattle.std.proofs.Common.{◌≡◌, min, take}
 use Rattle.std.specs.List.{sum_by}
 use Rattle.scc_play.specs.Answered.{number_of}

@@ -1,4 +1,4 @@
--- The lists so far are those of the first workers.
+-- The lists so far are the lists of the first workers.
 use Rattle.std.proofs.Common.{◌≡◌, ℕ, ◌<◌, vec_len}
 use Rattle.std.specs.Prelude.{IfSome, slice_get}
 use Rattle.scc_play.specs.Answered.{calls_by}

@@ -1,4 +1,4 @@
--- What the passes that are left tell goes on from what was told so far.
+-- The replies that the passes that are left tell follow the replies that were told so far.
 use Rattle.std.proofs.Common.{List, ◌++◌, drop}
 use Rattle.scc_play.specs.Telling.{AreTold}
 use Rattle.scc_play.proofs.stripes.told_by_all.Given as goal

@@ -1,4 +1,4 @@
--- The records so far are those of the first histories.
+-- The number of records so far is the number of records in the first histories.
 use Rattle.std.proofs.Common.{◌≡◌, take, map}
 use Rattle.std.specs.List.{sum_by}
 use Rattle.scc_history.specs.Stamps.{calls_in}

@@ -1,4 +1,4 @@
--- The items so far, and those of the parts that are left, are all.
+-- The items so far, and the items of the parts that are left, are all items.
 use Rattle.std.proofs.Common.{◌++◌, length}
 use Rattle.std.specs.List.{flat_map}
 use Rattle.std.specs.List.Sorted.{IsPermutation}

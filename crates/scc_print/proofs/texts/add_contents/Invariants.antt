@@ -1,4 +1,4 @@
--- The lines so far are those of the first items.
+-- The lines so far are the lines of the first items.
 use Rattle.std.proofs.Common.{◌≡◌, ◌++◌, take, length, codes}
 use Rattle.std.specs.Fmt.{decimal}
 use Rattle.std.specs.String.{string_bytes}

@@ -1,4 +1,4 @@
--- The lines so far are those of the first replies.
+-- The lines so far are the lines of the first replies.
 use Rattle.std.proofs.Common.{◌≡◌, ◌++◌, take}
 use Rattle.std.specs.String.{string_bytes}
 use Rattle.scc_print.specs.Output.{worker_text}

@@ -1,4 +1,4 @@
--- The lines so far, and those of the workers that are left, are the lines of all.
+-- The lines so far, and then the lines of the workers that are left, are the lines of all workers.
 use Rattle.std.proofs.Common.{◌≡◌, ◌++◌, drop, map}
 use Rattle.std.specs.String.{string_bytes}
 use Rattle.scc_print.specs.Output.{workers_text}

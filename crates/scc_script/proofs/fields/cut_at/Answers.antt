@@ -1,4 +1,4 @@
--- The first byte of the kind cuts the text, and without one the text is a part of its own.
+-- The first byte of the kind cuts the text. If there is no such byte, the text is one part.
 use Rattle.std.proofs.Common.{◌+◌, arith, rules}
 use Rattle.scc_script.proofs.Parts.{parts_none, parts_cut, take-rest}
 use Rattle.scc_script.proofs.fields.cut_at.Goals as goal

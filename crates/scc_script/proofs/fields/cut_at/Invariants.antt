@@ -1,4 +1,4 @@
--- No byte so far is the one at which the text is cut.
+-- No byte so far is of the kind that cuts the text.
 use Rattle.std.proofs.Common.{◌≡◌, ℕ, ◌<◌, get_or}
 use Rattle.scc_script.proofs.fields.cut_at.Given as goal
 

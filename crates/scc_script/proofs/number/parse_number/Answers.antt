@@ -1,4 +1,4 @@
--- Digits write no less than the first of them do, so a field is refused as soon as these are too much.
+-- Digits write no less than the first of them. So a field is refused as soon as its first digits write too much.
 use Rattle.std.proofs.Common.{◌≤◌, ◌+◌, ◌^◌, take, get_or, arith, rules, sym, ◌∙◌}
 use Rattle.std.specs.Str.Parse.{digits_value}
 use Rattle.std.proofs.lemmas.Int.Digits.{digits_value_more}

@@ -6,13 +6,13 @@ use Rattle.scc_common.specs.declared.errors.KeyError.{KeyError}
 use Rattle.scc_common.specs.declared.errors.KeyError.TheVariants.{Exists, Memory}
 use Rattle.scc_set.proofs.Owned.replace_sync.Goals as goal
 
--- an insertion of a key that is missing refuses for memory alone, as a replacement does
+-- if the key is missing, a refused insertion is a refused replacement: both are refused for memory alone
 module _ {K S : Type 0} (eq : K → K → Bool) where
   refused : (hash : K → ℕ) (m n : Contents K S) (k : K) (r : KeyError K) → find eq (entries m) k ≡ None → Inserts eq hash m k (Err r) n → Replaces eq hash m k (Err r) n
   refused hash m n k (Exists q) none h = absurd (let there = rw none at h.1 in cc)
   refused hash m n k (Memory q) none h = h
 
-  -- and so it does where nothing changed before
+  -- the lemma `refused` for an insertion of q into b, if q is equal to k and b is equal to m
   refused-then : (hash : Contents K S → K → ℕ) (b m n : Contents K S) (q k : K) (r : KeyError K) → b ≡ m → q ≡ k → find eq (entries m) k ≡ None → Inserts eq (hash b) b q (Err r) n → Replaces eq (hash m) m k (Err r) n
   refused-then hash b m n q k r same key none h =
       refused (hash m) m n k r none (subst (λ y. Inserts eq (hash m) m y (Err r) n) key (subst (λ x. Inserts eq (hash x) x q (Err r) n) same h))
