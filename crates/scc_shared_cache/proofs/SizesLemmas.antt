@@ -2,7 +2,7 @@
 use Rattle.std.proofs.Common.{◌≡◌, ℕ, max, refl, subst, arith}
 use Rattle.scc_common.specs.Sizes.{IsArraySize}
 use Rattle.scc_buckets.proofs.Powers.{size-once}
-use Rattle.scc_shared_cache.specs.SharedSizes.{IsSlotsAsked}
+use Rattle.scc_stripes.specs.Sizes.{IsSlotsAsked}
 
 size-256 : IsArraySize 256 256
 size-256 = record { power = (8, refl); least = omega arith; most = omega arith; enough = omega arith; fewest = λ q v l f. omega arith }

@@ -15,7 +15,7 @@ use scc_cache::locked::{Entry, OccupiedEntry, ReplaceResult, VacantEntry};
 use scc_cache::{DEFAULT_MAXIMUM_CAPACITY, EvictedEntry, Owned};
 use scc_common::{MakeError, Shared};
 use scc_stripes::Striped;
-use scc_stripes::shares::bits_for;
+use scc_stripes::shares::sizes_for;
 use std::alloc::Global;
 use std::hash::{BuildHasher, BuildHasherDefault, FoldHasher, Hash};
 
@@ -31,7 +31,8 @@ pub struct HashCache<K: Eq + Hash, V, H: BuildHasher = BuildHasherDefault<FoldHa
 }
 
 impl<K: Eq + Hash + Drop, V: Drop> HashCache<K, V> {
-    ghost use Rattle.scc_shared_cache.specs.SharedSizes.{IsSlotsAsked, maximum_of};
+    ghost use Rattle.scc_shared_cache.specs.SharedSizes.{maximum_of};
+    ghost use Rattle.scc_stripes.specs.Sizes.{IsSlotsAsked};
 
     /// Returns an empty cache of four stripes without arrays, with a maximum of 256 slots. Fails if memory is refused.
     pub fn new(alloc: Global) -> Result<Self, MakeError>
@@ -49,7 +50,8 @@ impl<K: Eq + Hash + Drop, V: Drop> HashCache<K, V> {
 }
 
 impl<K: Eq + Hash + Drop, V: Drop, H: BuildHasher + Drop> HashCache<K, V, H> {
-    ghost use Rattle.scc_shared_cache.specs.SharedSizes.{IsSlotsAsked, maximum_of};
+    ghost use Rattle.scc_shared_cache.specs.SharedSizes.{maximum_of};
+    ghost use Rattle.scc_stripes.specs.Sizes.{IsSlotsAsked};
 
     /// Returns an empty cache of four stripes without arrays, with a maximum of 256 slots. Fails if memory is refused.
     pub fn with_hasher(alloc: Global, hasher: H) -> Result<Self, MakeError>
@@ -71,13 +73,8 @@ impl<K: Eq + Hash + Drop, V: Drop, H: BuildHasher + Drop> HashCache<K, V, H> {
     ) -> Result<Self, MakeError>
         ensures maximum { IfOk result (λ c. (n : ℕ) × IsSlotsAsked capacity n × IsArraySize (max maximum n) (maximum_of c)) }
     {
-        let slots = if capacity == 0 {
-            0
-        } else {
-            slots_for(capacity)
-        };
+        let (bits, slots) = sizes_for(capacity, maximum);
         let maximum = slots_for(maximum.max(slots));
-        let bits = bits_for(if slots == 0 { maximum } else { slots });
         let stripes = Striped::make(alloc, bits, slots, maximum, hasher)?;
         Ok(HashCache { stripes, maximum })
     }

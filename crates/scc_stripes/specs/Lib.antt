@@ -1,4 +1,5 @@
 pub mod Minimums
 pub mod Parts
 pub mod Seats
+pub mod Sizes
 pub mod Stripes

@@ -11,7 +11,7 @@ pub mod parts;
 pub mod seats;
 pub mod shares;
 
-use crate::shares::{share, sizes_for};
+use crate::shares::{SLOTS_OF_MOST_STRIPES, share, sizes_for};
 pub use parts::OpenStripes;
 use scc_buckets::place::bucket_index;
 use scc_common::MakeError;
@@ -68,6 +68,7 @@ pub struct Striped<O, H> {
 }
 
 impl<O, H> Striped<O, H> {
+    ghost use Rattle.scc_stripes.specs.Sizes.{IsBitsAsked};
     ghost use Rattle.scc_stripes.specs.Stripes.{reservation_slots, stripe_bits, stripe_count, stripes_hasher};
 
     /// Makes empty containers for at least `capacity` slots together, divided evenly among them, and locks around
@@ -77,9 +78,10 @@ impl<O, H> Striped<O, H> {
     where
         O: Part<H> + Drop,
         H: Drop,
+        ensures bits { IfOk result (λ s. IsBitsAsked capacity 1024 (stripe_bits s)) }
         ensures hasher { IfOk result (λ s. stripes_hasher s ≡ hasher) }
     {
-        let (bits, slots) = sizes_for(capacity);
+        let (bits, slots) = sizes_for(capacity, SLOTS_OF_MOST_STRIPES);
         Striped::make(alloc, bits, slots, 0, hasher)
     }
 

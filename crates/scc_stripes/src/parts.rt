@@ -4,7 +4,7 @@ ghost use Rattle.std.specs.Arc.{arc_value};
 ghost use Rattle.std.specs.Fn.{FnOnceReturnsAtMut};
 ghost use Rattle.std.specs.Prelude.{◌≡◌, ◌≤◌, ◌<◌, ◌^◌, IfOk, Some, slice_get, slice_set, vec_len};
 
-use crate::shares::{ReserveBook, share, sizes_for};
+use crate::shares::{ReserveBook, SLOTS_OF_MOST_STRIPES, share, sizes_for};
 use crate::{Part, Striped};
 use scc_buckets::place::bucket_index;
 use scc_common::MakeError;
@@ -25,6 +25,7 @@ pub struct OpenStripes<O, H> {
 
 impl<O, H> OpenStripes<O, H> {
     ghost use Rattle.scc_stripes.specs.Parts.{part_bits, part_count, part_slots, parts_hasher, parts_of, parts_owner};
+    ghost use Rattle.scc_stripes.specs.Sizes.{IsBitsAsked, IsSlotsAsked};
     ghost use Rattle.scc_stripes.specs.Stripes.{stripe_bits, stripes_hasher};
 
     /// Makes 2^`bits` empty containers, each with its share of `slots` and of `maximum`.
@@ -71,10 +72,12 @@ impl<O, H> OpenStripes<O, H> {
     where
         O: Part<H> + Drop,
         H: Drop,
+        ensures bits { IfOk result (λ p. IsBitsAsked capacity 1024 (part_bits p)) }
+        ensures slots { IfOk result (λ p. IsSlotsAsked capacity (part_slots p)) }
         ensures hasher { IfOk result (λ p. parts_hasher p ≡ stripes_hasher stripes.now) }
     {
         let owner = stripes.owner()?;
-        let (bits, slots) = sizes_for(capacity);
+        let (bits, slots) = sizes_for(capacity, SLOTS_OF_MOST_STRIPES);
         OpenStripes::make(alloc, bits, slots, 0, owner)
     }
 

@@ -1,17 +1,19 @@
 //! The shares of the stripes, and the slots that callers of a shared container have reserved.
+ghost use Rattle.scc_stripes.specs.Sizes.{IsBitsAsked, IsBitsFor, IsSlotsAsked};
 ghost use Rattle.scc_stripes.specs.Stripes.{share_of, reservation_slots};
-ghost use Rattle.std.specs.Prelude.{◌≡◌, ◌≤◌, ◌<◌, ◌+◌, ◌*◌, ◌^◌, ◌⊎◌, IfSome};
+ghost use Rattle.std.specs.Prelude.{◌≡◌, ◌≤◌, ◌<◌, ◌^◌, IfSome};
 
 use scc_buckets::sizes::{GREATEST_CAPACITY, slots_for};
 use std::sync::atomic::{AtomicU64, Ordering};
 use std::sync::{Mutex, Wait};
 
+/// The fewest slots that are divided among 16 stripes, the most.
+pub(crate) const SLOTS_OF_MOST_STRIPES: usize = 1024;
+
 /// Returns how many first bits of a hash name a stripe, if all stripes together have `slots` slots: the greatest number
 /// of bits, at most 4, that leaves each stripe 64 slots, or 0.
-pub fn bits_for(slots: usize) -> u32
-    ensures few { result ≤ 4 }
-    ensures room { 64 ≤ slots → 64 * 2 ^ result ≤ slots }
-    ensures most { (result ≡ 4) ⊎ (slots < 64 * 2 ^ (result + 1)) }
+fn bits_for(slots: usize) -> u32
+    ensures { IsBitsFor slots result }
 {
     if slots < 128 {
         0
@@ -26,14 +28,17 @@ pub fn bits_for(slots: usize) -> u32
     }
 }
 
-/// Returns the bits that name a stripe and the slots of all stripes together, for at least `capacity` slots. If
-/// `capacity` is 0, there are 16 stripes without slots; otherwise the slots are those of one array for `capacity`.
-pub fn sizes_for(capacity: usize) -> (u32, usize)
+/// Returns the bits that name a stripe and the slots of all stripes together, for at least `capacity` slots. The slots
+/// are those of one array for `capacity`, or 0 if `capacity` is 0. There are as many stripes as get 64 slots or more
+/// each, at most 16. If `capacity` is 0, the slots of one array for `instead` count for that.
+pub fn sizes_for(capacity: usize, instead: usize) -> (u32, usize)
+    ensures bits { IsBitsAsked capacity instead result.0 }
+    ensures slots { IsSlotsAsked capacity result.1 }
     ensures few { result.0 ≤ 4 }
     ensures most { result.1 ≤ 2 ^ 63 }
 {
     if capacity == 0 {
-        return (4, 0);
+        return (bits_for(slots_for(instead)), 0);
     }
     let slots = slots_for(capacity);
     (bits_for(slots), slots)
