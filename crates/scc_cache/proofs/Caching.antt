@@ -215,10 +215,6 @@ module _ {E S : Type 0} (c d : Contents E S) (i : ℕ) (es : List E) (e : E) (h 
     rw (has-list-of c d i (es ++ e ∷ []) h l) (last-is es e n (s ∙ ap length (has-list-of c d i (es ++ e ∷ []) h l))),
   )
 
-pub put-length : {E S : Type 0} (c d : Contents E S) (i : ℕ) (e : E) (x : Option E) → PutsLast c i e x d → i < bucket_count c → 1 ≤ length (list_of d i)
-put-length c d i e None h l = let z = last-length c d i _ e h.1 l in omega arith
-put-length c d i e (Some x) h l = let z = last-length c d i _ e h.1.2 l in omega arith
-
 pub put-place : {E S : Type 0} (c d : Contents E S) (i : ℕ) (e : E) (x : Option E) → PutsLast c i e x d → i < bucket_count c → (n : ℕ) → suc n ≡ length (list_of d i) → spots.IsSpot d (record { bucket = i; slot = n }) × (slice_get (list_of d i) n ≡ Some e)
 put-place c d i e None h l = last-place c d i _ e h.1 l
 put-place c d i e (Some x) h l = last-place c d i _ e h.1.2 l

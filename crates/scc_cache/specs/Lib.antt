@@ -6,6 +6,5 @@ pub mod Entries
 pub mod Lends
 pub mod ListSteps
 pub mod Making
-pub mod Putting
 pub mod Relocations
 pub mod TakingWalks

@@ -1,15 +1,14 @@
 //! A hash cache for one owner, over the table of `scc_table`.
 #![tactic(auto)]
 
-ghost use Rattle.scc_cache.specs.CacheSteps.{AnswersOn, IsAbsent, IsPresent, Removes};
+ghost use Rattle.scc_cache.specs.CacheSteps.{AnswersOn, IsAbsent, IsPreparedForPut, IsPresent, Puts, Removes};
 ghost use Rattle.scc_cache.specs.CacheWalks.{RemovesIf};
 ghost use Rattle.scc_cache.specs.Caches.{IsCacheState};
-ghost use Rattle.scc_cache.specs.Putting.{PutsByRule};
-ghost use Rattle.scc_cache.specs.Relocations.{RelocatesNoneWithin};
-ghost use Rattle.scc_common.specs.Contents.{entries, bucket_count, minimum_of, pending_of, waiting_of, key_hash, hash_in};
+ghost use Rattle.scc_cache.specs.Relocations.{RelocatesNoneWithin, RelocatesTwoWithin};
+ghost use Rattle.scc_common.specs.Contents.{entries, bucket_count, minimum_of, pending_of, refused_of, waiting_of, key_hash, hash_in};
 ghost use Rattle.std.specs.Borrow.{Bor};
 ghost use Rattle.std.specs.Fn.{FnOnceTakesAtMut};
-ghost use Rattle.std.specs.Prelude.{◌≡◌, ◌≤◌, ◌<◌, ◌*◌, ◌↔◌, [], false, length, None, Some, IsTrue, MatchOption};
+ghost use Rattle.std.specs.Prelude.{◌≡◌, ◌≤◌, ◌<◌, ◌*◌, ◌↔◌, [], false, length, None, Some, IsTrue, IsOk, OnOk, MatchOption};
 
 pub mod borrowed;
 pub mod held;
@@ -150,7 +149,15 @@ impl<K: Eq + Hash, V, H: BuildHasher> Owned<K, V, H> {
     /// refused doubling away.
     #[inline(always)]
     pub fn put_sync(&mut self, k: K, v: V) -> Result<EvictedEntry<K, V>, InsertError<K, V>>
-        ensures { PutsByRule K.eq ⟦<H as Hashes<K>>⟧.hash_of self.old (k, v) result self.new }
+        ensures step { Puts (hash_in ⟦<H as Hashes<K>>⟧.hash_of self.old.contents) K.eq self.old (k, v) result self.new }
+        ensures succeeds { IsAbsent (hash_in ⟦<H as Hashes<K>>⟧.hash_of self.old.contents) K.eq self.old.contents k
+            → 0 < bucket_count self.old.contents → IsOk result }
+        ensures state { IsCacheState K.eq (hash_in ⟦<H as Hashes<K>>⟧.hash_of self.new.contents) self.new }
+        ensures relocates { OnOk result (RelocatesTwoWithin (hash_in ⟦<H as Hashes<K>>⟧.hash_of self.old.contents k)
+            self.old.contents self.new.contents) }
+        ensures once { IsPreparedForPut (hash_in ⟦<H as Hashes<K>>⟧.hash_of self.old.contents) self.old k
+            → bucket_count self.new.contents ≡ bucket_count self.old.contents }
+        ensures unmarked { OnOk result ((refused_of self.new.contents).1 ≡ false) }
     {
         let hash = self.table.hash(&k);
         match self.find(hash, &k) {

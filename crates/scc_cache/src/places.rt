@@ -1,15 +1,14 @@
 //! The calls at a place of a cache.
-ghost use Rattle.scc_cache.specs.CacheSteps.{IsFound, IsLacking, IsLastAt, TakesAt};
+ghost use Rattle.scc_cache.specs.CacheSteps.{IsFound, IsLacking, IsLastAt, IsPreparedForPut, PutsNew, TakesAt};
 ghost use Rattle.scc_cache.specs.Caches.{IsCacheState};
 ghost use Rattle.scc_cache.specs.Lends.{lends_value, with_key_at, with_value_at};
-ghost use Rattle.scc_cache.specs.Putting.{PutsNewByRule};
-ghost use Rattle.scc_cache.specs.Relocations.{RelocatesNoneWithin, RelocatesOne};
-ghost use Rattle.scc_common.specs.Contents.{entries, bucket_count, list_of, hash_in, settings_of, waiting_of};
+ghost use Rattle.scc_cache.specs.Relocations.{RelocatesNoneWithin, RelocatesOne, RelocatesTwoWithin};
+ghost use Rattle.scc_common.specs.Contents.{entries, bucket_count, list_of, hash_in, refused_of, settings_of, waiting_of};
 ghost use Rattle.scc_common.specs.Routing.{bucket_number};
 ghost use Rattle.scc_table.specs.Places.{IsPlace, index_of, spot_of};
 ghost use Rattle.scc_table.specs.TwoArrays.{IsWaiting};
 ghost use Rattle.std.specs.Borrow.{sem};
-ghost use Rattle.std.specs.Prelude.{◌≡◌, ◌<◌, true, Some, OnSome, MatchOption, slice_get};
+ghost use Rattle.std.specs.Prelude.{◌≡◌, ◌<◌, true, false, Some, OnSome, MatchOption, IfOk, IfErr, OnOk, slice_get};
 
 use crate::{EvictedEntry, Owned};
 use scc_buckets::Place;
@@ -46,8 +45,8 @@ impl<K: Eq + Hash, V, H: BuildHasher> Owned<K, V, H> {
     }
 
     /// Puts in a pair whose key is new, and returns the evicted pair, if any, and the new pair's place. `hash` must be
-    /// the hash of `k`. If there is no array and memory for one is refused, the pair comes back. If it succeeds, the
-    /// mark of a refused doubling goes.
+    /// the hash of `k`. If there is no array and memory for one is refused, the pair comes back and nothing changes. If
+    /// it succeeds, the mark of a refused doubling goes.
     #[inline(always)]
     pub(crate) fn put_at(
         &mut self,
@@ -57,13 +56,24 @@ impl<K: Eq + Hash, V, H: BuildHasher> Owned<K, V, H> {
     ) -> Result<(EvictedEntry<K, V>, Place), (K, V)>
         requires hashed { hash ≡ hash_in ⟦<H as Hashes<K>>⟧.hash_of self.old.contents k }
         requires lacking { IsLacking (hash_in ⟦<H as Hashes<K>>⟧.hash_of self.old.contents) K.eq self.old.contents k }
-        ensures { PutsNewByRule K.eq ⟦<H as Hashes<K>>⟧.hash_of self.old (k, v) result self.new }
+        ensures step { IfOk result (λ r. PutsNew (hash_in ⟦<H as Hashes<K>>⟧.hash_of self.old.contents) K.eq self.old (k, v)
+            r.0 self.new) }
+        ensures here { IfOk result (λ r. IsPlace self.new.contents r.1 × (slice_get
+            (list_of self.new.contents (spot_of self.new.contents r.1).bucket) (spot_of self.new.contents r.1).slot
+            ≡ Some (k, v))) }
+        ensures refused { IfErr result (λ p. (p ≡ (k, v)) × (bucket_count self.old.contents ≡ 0)
+            × (self.new ≡ self.old)) }
+        ensures state { IsCacheState K.eq (hash_in ⟦<H as Hashes<K>>⟧.hash_of self.new.contents) self.new }
+        ensures relocates { OnOk result (RelocatesTwoWithin (hash_in ⟦<H as Hashes<K>>⟧.hash_of self.old.contents k)
+            self.old.contents self.new.contents) }
+        ensures once { IsPreparedForPut (hash_in ⟦<H as Hashes<K>>⟧.hash_of self.old.contents) self.old k
+            → bucket_count self.new.contents ≡ bucket_count self.old.contents }
+        ensures unmarked { OnOk result ((refused_of self.new.contents).1 ≡ false) }
     {
         match self.table.bucket_within(hash, self.maximum) {
             Ok(bucket) => {
                 self.table.drop_mark_within();
-                let evicted = self.table.put_within(bucket, hash, (k, v));
-                let slot = self.table.list_len(bucket) - 1;
+                let (evicted, slot) = self.table.put_within(bucket, hash, (k, v));
                 Ok((evicted, Place { bucket, slot }))
             }
             Err(_) => Err((k, v)),

@@ -1,9 +1,10 @@
 //! What a put would have to make first, made before it, and what the put would evict.
-ghost use Rattle.scc_cache.specs.CacheSteps.{DrivesNoneOut, DrivesOut};
-ghost use Rattle.scc_cache.specs.Putting.{DropsMark, PreparesByRule};
-ghost use Rattle.scc_common.specs.Contents.{bucket_count, hash_in, list_of, settings_of};
+ghost use Rattle.scc_cache.specs.CacheSteps.{DrivesNoneOut, DrivesOut, IsAbsent, IsPresent, PreparesPut};
+ghost use Rattle.scc_cache.specs.Caches.{IsCacheState};
+ghost use Rattle.scc_common.specs.Contents.{bucket_count, hash_in, list_of, lists_of, refused_of, settings_of, waiting_of};
 ghost use Rattle.scc_common.specs.Routing.{bucket_number};
-ghost use Rattle.std.specs.Prelude.{◌≡◌, ◌<◌, ◌≤◌, length, Some, IfSome, IfNone, slice_get};
+ghost use Rattle.std.specs.Prelude.{◌≡◌, ◌<◌, ◌≤◌, false, length, Some, IsOk, IfSome, IfNone, slice_get};
+ghost use Rattle.std.specs.Result.{OnErr, OnOk};
 
 use crate::Owned;
 use scc_common::{Hashes, MakeError};
@@ -16,7 +17,16 @@ impl<K: Eq + Hash, V, H: BuildHasher> Owned<K, V, H> {
     /// again, so it makes no resize in any case. A doubling that is made takes note and mark away; if no doubling is
     /// due, both stay. Fails only if memory for the first array is refused, and then nothing changes.
     pub fn prepare(&mut self, k: &K) -> Result<(), MakeError>
-        ensures { PreparesByRule K.eq ⟦<H as Hashes<K>>⟧.hash_of self.old k.now result self.new }
+        ensures present { (p : K × V) → IsPresent (hash_in ⟦<H as Hashes<K>>⟧.hash_of self.old.contents) K.eq
+            self.old.contents k.now p → IsOk result × (self.new ≡ self.old) }
+        ensures ok { IsAbsent (hash_in ⟦<H as Hashes<K>>⟧.hash_of self.old.contents) K.eq self.old.contents k.now
+            → OnOk result (PreparesPut (hash_in ⟦<H as Hashes<K>>⟧.hash_of self.old.contents) self.old k.now self.new) }
+        ensures err { OnErr result (IsAbsent (hash_in ⟦<H as Hashes<K>>⟧.hash_of self.old.contents) K.eq
+            self.old.contents k.now × (bucket_count self.old.contents ≡ 0)) }
+        ensures same { OnErr result (self.new ≡ self.old) }
+        ensures settings { settings_of self.new.contents ≡ settings_of self.old.contents }
+        ensures maximum { self.new.maximum ≡ self.old.maximum }
+        ensures state { IsCacheState K.eq (hash_in ⟦<H as Hashes<K>>⟧.hash_of self.new.contents) self.new }
     {
         let hash = self.table.hash(k);
         match self.find(hash, k) {
@@ -31,7 +41,12 @@ impl<K: Eq + Hash, V, H: BuildHasher> Owned<K, V, H> {
     /// Takes the mark of a refused doubling away, and changes nothing else. A put then tries a doubling that is due,
     /// even if `prepare` was refused memory for it.
     pub fn drop_mark(&mut self)
-        ensures { DropsMark K.eq ⟦<H as Hashes<K>>⟧.hash_of self.old self.new }
+        ensures lists { lists_of self.new.contents ≡ lists_of self.old.contents }
+        ensures settings { settings_of self.new.contents ≡ settings_of self.old.contents }
+        ensures noted { refused_of self.new.contents ≡ ((refused_of self.old.contents).0, false) }
+        ensures waiting { waiting_of self.new.contents ≡ waiting_of self.old.contents }
+        ensures maximum { self.new.maximum ≡ self.old.maximum }
+        ensures state { IsCacheState K.eq (hash_in ⟦<H as Hashes<K>>⟧.hash_of self.new.contents) self.new }
     {
         self.table.drop_mark_within();
     }
