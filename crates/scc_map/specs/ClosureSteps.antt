@@ -1,10 +1,10 @@
 -- What a call with a closure returns, and what it leaves.
-use Rattle.std.specs.Prelude.{◌≡◌, Bool, true, false, Option, None, Some, IfSome, IfNone}
+use Rattle.std.specs.Prelude.{◌≡◌, Bool, true, false, Option, None, Some}
 use Rattle.std.specs.Borrow.{Bor, MutBor}
 use Rattle.std.specs.Fn.{Once, FnOnceReturnsAtMut}
 use Rattle.std.specs.Map.{set_value}
-use Rattle.scc_common.specs.Contents.{Contents, entries, refused_of, waiting_of}
-use Rattle.scc_common.specs.Pairs.{find, without, FindsInstead, IsUnique}
+use Rattle.scc_common.specs.Contents.{Contents, entries}
+use Rattle.scc_common.specs.Pairs.{without}
 use Rattle.scc_common.specs.Steps.{Holds, HoldsExactly, IsUnchanged}
 use Rattle.scc_common.specs.Closures.{WritesAt}
 
@@ -14,21 +14,6 @@ module _ {F K V R : Type 0} (g : Once F (Bor K × (MutBor V × Unit {0})) (R × 
   abbrev pub UpdatesAt : Option (K × V) → Option R → Type 0
   UpdatesAt None r = (r ≡ None) × IsUnchanged c d
   UpdatesAt (Some p) r = (x : R) × (w : V) × (r ≡ Some x) × WritesAt g f p x w × HoldsExactly c (set_value (eq k) (entries c) w) d
-
-  -- the contract of `update_sync`: with k and f it returns `result`, and turns c into d
-  pub record UpdatesByRule (result : Option R) : Type 0 where
-    -- f was called on the pair of k if there is one, and the value that f wrote is stored
-    pub step : UpdatesAt (find eq (entries c) k) result
-    -- if f was called, a look-up of k finds the value that f wrote, and every other look-up what it found before
-    pub finds : IfSome result (λ x. (p : K × V) × (w : V) × (find eq (entries c) k ≡ Some p) × (eq k p.0 ≡ true) × WritesAt g f p x w × FindsInstead eq (entries c) k (Some (p.0, w)) (entries d))
-    -- it returns `None` only if the key is missing
-    pub missing : IfNone result (find eq (entries c) k ≡ None)
-    -- note and mark stay
-    pub noted : refused_of d ≡ refused_of c
-    -- the same buckets wait as before
-    pub waiting : waiting_of d ≡ waiting_of c
-    -- no two keys are equal
-    pub unique : IsUnique eq d
 
 module _ {F K V S : Type 0} (g : Once F (MutBor V × Unit {0}) (Bool × (MutBor V × Unit {0}))) (f : F) (eq : K → K → Bool) (c : Contents (K × V) S) (k : K) (r : Option (K × V)) (d : Contents (K × V) S) where
   -- at `true` the pair is removed, with the value that f left; else the value that f left is stored

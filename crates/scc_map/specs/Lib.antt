@@ -6,7 +6,6 @@ pub mod Insertions
 pub mod Lends
 pub mod MapSizes
 pub mod MapSteps
-pub mod Removals
 pub mod Seats
 pub mod Shrinking
 pub mod Sinks

@@ -1,21 +1,20 @@
 //! A hash map for one owner, over the table of `scc_table`, and its entries, which also serve a locked map.
 #![tactic(auto)]
 
-ghost use Rattle.scc_common.specs.Closures.{Reads};
+ghost use Rattle.scc_common.specs.Closures.{Reads, WritesAt};
 ghost use Rattle.scc_common.specs.Contents.{entries, bucket_count, lists_of, settings_of, refused_of, waiting_of, hash_in};
 ghost use Rattle.scc_common.specs.Pairs.{find, FindsInstead, HasRoom, IsUnique};
-ghost use Rattle.scc_common.specs.Steps.{IsUnchanged};
+ghost use Rattle.scc_common.specs.Steps.{IsUnchanged, Prepares};
 ghost use Rattle.scc_common.specs.Walks.{CalledOn, CallableWhile, Walks};
-ghost use Rattle.scc_map.specs.ClosureSteps.{RemovesIf, UpdatesByRule};
-ghost use Rattle.scc_map.specs.Insertions.{PreparesByRule};
+ghost use Rattle.scc_map.specs.ClosureSteps.{RemovesIf, UpdatesAt};
 ghost use Rattle.scc_map.specs.MapSteps.{Inserts, Removes, Upserts};
-ghost use Rattle.scc_map.specs.Removals.{RemovesByRule};
 ghost use Rattle.std.specs.Borrow.{Bor, MutBor};
 ghost use Rattle.std.specs.Fn.{FnOnceTakesAtMut};
 ghost use Rattle.std.specs.List.Sorted.{IsPermutation};
-ghost use Rattle.scc_table.specs.Arrays.{GrowsByRule};
+ghost use Rattle.scc_table.specs.Arrays.{GrowsByRule, ShrinksByRule};
+ghost use Rattle.scc_table.specs.Marks.{MarksPreparation};
 ghost use Rattle.std.specs.Result.{OnErr, OnOk};
-ghost use Rattle.std.specs.Prelude.{◌≡◌, ◌<◌, ◌*◌, ◌↔◌, List, [], length, Some, None, IsTrue, IsSome, IsOk, ◌==◌, true, false};
+ghost use Rattle.std.specs.Prelude.{◌≡◌, ◌<◌, ◌*◌, ◌↔◌, ◌⊎◌, List, [], length, Some, None, IsTrue, IsSome, IsOk, IfSome, IfNone, OnSome, ◌==◌, true, false};
 
 pub mod borrowed;
 pub mod held;
@@ -174,7 +173,19 @@ impl<K: Eq + Hash, V, H: BuildHasher> Owned<K, V, H> {
     /// it makes no resize in any case. A growth that is made takes note and mark away; if no growth is due, both stay.
     /// Fails only if memory for the first array is refused, and then nothing changes.
     pub fn prepare(&mut self, k: &K) -> Result<(), MakeError>
-        ensures { PreparesByRule K.eq ⟦<H as Hashes<K>>⟧.hash_of self.old k.now result self.new }
+        ensures present { IsSome (find K.eq (entries self.old) k.now) → IsOk result × (self.new ≡ self.old) }
+        ensures ok { find K.eq (entries self.old) k.now ≡ None
+            → OnOk result (Prepares (hash_in ⟦<H as Hashes<K>>⟧.hash_of self.old) (λ p. p.0) self.old
+            (hash_in ⟦<H as Hashes<K>>⟧.hash_of self.old k.now) self.new) }
+        ensures marks { find K.eq (entries self.old) k.now ≡ None
+            → MarksPreparation (hash_in ⟦<H as Hashes<K>>⟧.hash_of self.old) (λ p. p.0) self.old
+            (hash_in ⟦<H as Hashes<K>>⟧.hash_of self.old k.now) self.new }
+        ensures marked { (refused_of self.new).1 ≡ true
+            → ((refused_of self.old).1 ≡ true) ⊎ ((refused_of self.new).0 ≡ true) }
+        ensures err { OnErr result ((find K.eq (entries self.old) k.now ≡ None) × (bucket_count self.old ≡ 0)) }
+        ensures same { OnErr result (self.new ≡ self.old) }
+        ensures settings { settings_of self.new ≡ settings_of self.old }
+        ensures unique { IsUnique K.eq self.new }
     {
         let hash = self.table.hash(k);
         match self.table.search(hash, k) {
@@ -227,7 +238,14 @@ impl<K: Eq + Hash, V, H: BuildHasher> Owned<K, V, H> {
     #[inline(always)]
     pub fn update_sync<R, U: FnOnce(&K, &mut V) -> R>(&mut self, k: &K, u: U) -> Option<R>
         requires { (a : Bor K) (b : MutBor V) → find K.eq (entries self.old) k.now ≡ Some (a.now, b.now) → U.pre u a b }
-        ensures { UpdatesByRule U.FnOnce u K.eq self.old k.now self.new result }
+        ensures step { UpdatesAt U.FnOnce u K.eq self.old k.now self.new (find K.eq (entries self.old) k.now) result }
+        ensures finds { IfSome result (λ x. (p : K × V) × (w : V) × (find K.eq (entries self.old) k.now ≡ Some p)
+            × (K.eq k.now p.0 ≡ true) × WritesAt U.FnOnce u p x w
+            × FindsInstead K.eq (entries self.old) k.now (Some (p.0, w)) (entries self.new)) }
+        ensures missing { IfNone result (find K.eq (entries self.old) k.now ≡ None) }
+        ensures noted { refused_of self.new ≡ refused_of self.old }
+        ensures waiting { waiting_of self.new ≡ waiting_of self.old }
+        ensures unique { IsUnique K.eq self.new }
     {
         let hash = self.table.hash(k);
         self.table.update(hash, k, u)
@@ -239,8 +257,10 @@ impl<K: Eq + Hash, V, H: BuildHasher> Owned<K, V, H> {
     #[inline(always)]
     pub fn remove_if_sync<F: FnOnce(&mut V) -> bool>(&mut self, k: &K, f: F) -> Option<(K, V)>
         requires { (p : K × V) → find K.eq (entries self.old) k.now ≡ Some p → FnOnceTakesAtMut F.FnOnce f p.1 }
-        ensures { RemovesByRule K.eq (RemovesIf F.FnOnce f K.eq self.old k.now result self.new
-            (find K.eq (entries self.old) k.now)) self.old k.now result self.new }
+        ensures step { RemovesIf F.FnOnce f K.eq self.old k.now result self.new (find K.eq (entries self.old) k.now) }
+        ensures finds { OnSome result (FindsInstead K.eq (entries self.old) k.now None (entries self.new)) }
+        ensures unique { IsUnique K.eq self.new }
+        ensures array { ShrinksByRule (IsSome result) self.old self.new }
     {
         let hash = self.table.hash(k);
         let place = self.table.search(hash, k)?;
@@ -255,7 +275,10 @@ impl<K: Eq + Hash, V, H: BuildHasher> Owned<K, V, H> {
     /// array may shrink.
     #[inline(always)]
     pub fn remove_sync(&mut self, k: &K) -> Option<(K, V)>
-        ensures { RemovesByRule K.eq (Removes K.eq self.old k.now result self.new) self.old k.now result self.new }
+        ensures step { Removes K.eq self.old k.now result self.new }
+        ensures finds { OnSome result (FindsInstead K.eq (entries self.old) k.now None (entries self.new)) }
+        ensures unique { IsUnique K.eq self.new }
+        ensures array { ShrinksByRule (IsSome result) self.old self.new }
     {
         let hash = self.table.hash(k);
         self.table.remove(hash, k)

@@ -8,10 +8,9 @@ ghost use Rattle.std.specs.Prelude.{◌≡◌};
 
 use crate::Owned;
 use crate::borrowed::OccupiedEntry;
-use crate::held::{HeldEntry, HeldOccupied, HeldVacant};
+use crate::held::{HeldEntry, HeldOccupied};
 use scc_common::{Hashes, InsertError};
 use std::hash::{BuildHasher, Hash};
-use std::marker::PhantomData;
 
 impl<'a, K: Eq + Hash, V, H: BuildHasher> HeldEntry<&'a mut Owned<K, V, H>, (), K, V, H> {
     /// Inserts `default` if the entry is vacant, and returns the occupied entry. An occupied entry stays as it is, and
@@ -81,23 +80,8 @@ impl<'a, K: Eq + Hash, V, H: BuildHasher> HeldEntry<&'a mut Owned<K, V, H>, (), 
                 })
             }
             HeldEntry::Vacant(entry) => {
-                let HeldVacant {
-                    guard,
-                    key,
-                    hash,
-                    rest,
-                    of: _,
-                } = entry;
-                let value = f(&key);
-                match guard.insert_new(hash, key, value) {
-                    Ok(place) => Ok(HeldOccupied {
-                        guard,
-                        place,
-                        rest,
-                        of: PhantomData,
-                    }),
-                    Err(pair) => Err(InsertError::Memory(pair)),
-                }
+                let value = f(entry.key());
+                entry.insert_entry(value)
             }
         }
     }
@@ -144,24 +128,7 @@ impl<'a, K: Eq + Hash, V, H: BuildHasher> HeldEntry<&'a mut Owned<K, V, H>, (), 
                     of,
                 })
             }
-            HeldEntry::Vacant(entry) => {
-                let HeldVacant {
-                    guard,
-                    key,
-                    hash,
-                    rest,
-                    of: _,
-                } = entry;
-                match guard.insert_new(hash, key, value) {
-                    Ok(place) => Ok(HeldOccupied {
-                        guard,
-                        place,
-                        rest,
-                        of: PhantomData,
-                    }),
-                    Err(pair) => Err(InsertError::Memory(pair)),
-                }
-            }
+            HeldEntry::Vacant(entry) => entry.insert_entry(value),
         }
     }
 }

@@ -5,15 +5,38 @@ use Rattle.scc_map.proofs.Owned.update_sync.Goals as goal
 pub update-requires-clause-takes : goal.update-requires-clause-takes
 update-requires-clause-takes g c = λ e a b found key value. c.requires a b (rw (← c.self.view_is) (found ∙ ap Some (sym (ap (λ x. (x, b.now)) key ∙ ap (λ x. (e.0, x)) value))))
 
-pub returns : goal.returns
-returns g c =
+pub returns-clause-step : goal.returns-clause-step
+returns-clause-step g c =
     let h = rw c.self.view_is at c.update.ensures.step in
     let u = rw c.self.view_is at c.update.ensures.unique in
-    record {
-      step = updated-step g.U.FnOnce c.args.u g.met.K.Eq.laws c.args.self.now c.update.new.self c.args.k.now u c.update.result h;
-      finds = updated-finds g.U.FnOnce c.args.u g.met.K.Eq.laws c.args.self.now c.update.new.self c.args.k.now u c.update.result h;
-      missing = updated-missing g.U.FnOnce c.args.u g.met.K.Eq.laws c.args.self.now c.update.new.self c.args.k.now u c.update.result h;
-      noted = updated-noted g.U.FnOnce c.args.u g.met.K.Eq.laws c.args.self.now c.update.new.self c.args.k.now u c.update.result h;
-      waiting = updated-waiting g.U.FnOnce c.args.u g.met.K.Eq.laws c.args.self.now c.update.new.self c.args.k.now u c.update.result h;
-      unique = updated-unique g.U.FnOnce c.args.u g.met.K.Eq.laws c.args.self.now c.update.new.self c.args.k.now u c.update.result h;
-    }
+    updated-step g.U.FnOnce c.args.u g.met.K.Eq.laws c.args.self.now c.update.new.self c.args.k.now u c.update.result h
+
+pub returns-clause-finds : goal.returns-clause-finds
+returns-clause-finds g c =
+    let h = rw c.self.view_is at c.update.ensures.step in
+    let u = rw c.self.view_is at c.update.ensures.unique in
+    updated-finds g.U.FnOnce c.args.u g.met.K.Eq.laws c.args.self.now c.update.new.self c.args.k.now u c.update.result h
+
+pub returns-clause-missing : goal.returns-clause-missing
+returns-clause-missing g c =
+    let h = rw c.self.view_is at c.update.ensures.step in
+    let u = rw c.self.view_is at c.update.ensures.unique in
+    updated-missing g.U.FnOnce c.args.u g.met.K.Eq.laws c.args.self.now c.update.new.self c.args.k.now u c.update.result h
+
+pub returns-clause-noted : goal.returns-clause-noted
+returns-clause-noted g c =
+    let h = rw c.self.view_is at c.update.ensures.step in
+    let u = rw c.self.view_is at c.update.ensures.unique in
+    updated-noted g.U.FnOnce c.args.u g.met.K.Eq.laws c.args.self.now c.update.new.self c.args.k.now u c.update.result h
+
+pub returns-clause-waiting : goal.returns-clause-waiting
+returns-clause-waiting g c =
+    let h = rw c.self.view_is at c.update.ensures.step in
+    let u = rw c.self.view_is at c.update.ensures.unique in
+    updated-waiting g.U.FnOnce c.args.u g.met.K.Eq.laws c.args.self.now c.update.new.self c.args.k.now u c.update.result h
+
+pub returns-clause-unique : goal.returns-clause-unique
+returns-clause-unique g c =
+    let h = rw c.self.view_is at c.update.ensures.step in
+    let u = rw c.self.view_is at c.update.ensures.unique in
+    updated-unique g.U.FnOnce c.args.u g.met.K.Eq.laws c.args.self.now c.update.new.self c.args.k.now u c.update.result h

@@ -1,5 +1,5 @@
-use Rattle.std.proofs.Common.{refl}
-use Rattle.scc_map.proofs.Entries.{inserted-after, within-after, waiting-put, written-after}
+use Rattle.std.proofs.Common.{refl, rules}
+use Rattle.scc_map.proofs.Entries.{both-ok, within-after, waiting-put, written-after}
 use Rattle.scc_map.proofs.borrowed.insertions.HeldEntry+mut+Owned+K+V+H+unit+K+V+H.insert_entry.Goals as goal
 
 pub invariant_of-self : goal.invariant_of-self
@@ -22,36 +22,20 @@ returns-in-Occupied g c = (
   },
 )
 
-pub returns-in-Ok : goal.returns-in-Ok
-returns-in-Ok g c = (
-  (refl, λ w. refl, tt),
-  record {
-    inserts = record {
-      entry = rw c.in-Vacant.is (inserted-after c.in-Vacant.entry c.in-Vacant.entry.guard.now c.insert_new.new.self c.args.value _ refl refl refl c.in-Ok.ensures.ok);
-      refused = tt;
-      vacant = tt;
-      full = tt;
-      growth = rw c.in-Vacant.is record { grows = c.insert_new.ensures.grows; first = c.in-Ok.ensures.first };
-      relocates = rw c.in-Vacant.is (c.insert_new.ensures.relocates, c.in-Ok.ensures.two);
-      unique = c.in-Ok.ensures.unique;
-    };
-    kept = tt;
-  },
-)
-
-pub returns-in-Err : goal.returns-in-Err
-returns-in-Err g c = (
-  (refl, λ _. tt, rw c.in-Vacant.is (record { rests = c.in-Err.ensures.rests; grows = c.insert_new.ensures.grows; relocates = c.insert_new.ensures.relocates; unique = c.insert_new.ensures.unique })),
-  record {
-    inserts = record {
-      entry = tt;
-      refused = rw c.in-Vacant.is (rw c.in-Err.ensures.refused refl);
-      vacant = rw c.in-Vacant.is tt;
-      full = rw c.in-Vacant.is c.in-Err.ensures.full;
-      growth = tt;
-      relocates = tt;
-      unique = tt;
-    };
-    kept = tt;
-  },
-)
+pub returns-in-Vacant : goal.returns-in-Vacant
+returns-in-Vacant g c =
+    let put = c.insert_entry.ensures.inserts in (
+      (refl, c.insert_entry.follows.holds, rw c.in-Vacant.is c.insert_entry.follows.holds-at-none),
+      record {
+        inserts = record {
+          entry = rw c.in-Vacant.is put.inserted;
+          refused = rw c.in-Vacant.is put.refused;
+          vacant = rw c.in-Vacant.is (search rules);
+          full = rw c.in-Vacant.is put.full;
+          growth = rw c.in-Vacant.is put.growth;
+          relocates = rw c.in-Vacant.is (both-ok _ _ c.insert_entry.result put.relocates put.two);
+          unique = put.unique;
+        };
+        kept = tt;
+      },
+    )
