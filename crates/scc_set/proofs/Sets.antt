@@ -17,9 +17,10 @@ use Rattle.scc_common.specs.Mapped.{mapped}
 use Rattle.scc_common.specs.Sizes.{IsSmaller}
 use Rattle.scc_common.specs.Steps.{Holds, HoldsExactly, IsUnchanged, GrowsWhenDue}
 use Rattle.scc_common.specs.Pairs.{find as find_pair, without as without_pair, FindsInstead as FindsPairInstead, HasRoom as HasRoomForPair, IsUnique as IsUniqueMap}
-use Rattle.scc_buckets.proofs.Mapped.{entries-mapped, bucket_count-mapped, settings_of-mapped, refused_of-mapped, pending_of-mapped, length-mapped, HoldsExactly-mapped, IsUnchanged-mapped, Holds-mapped, Rests-mapped, Reserves-mapped, Releases-mapped, HasRoomBy-mapped, HasRoomBy-from_mapped, GrowsWhenDue-mapped}
+use Rattle.scc_buckets.proofs.Mapped.{entries-mapped, bucket_count-mapped, settings_of-mapped, refused_of-mapped, pending_of-mapped, length-mapped, HoldsExactly-mapped, IsUnchanged-mapped, Holds-mapped, Rests-mapped, Reserves-mapped, Releases-mapped, HasRoomBy-mapped, HasRoomBy-from_mapped, GrowsWhenDue-mapped, ShrinksWhenDue-mapped}
+use Rattle.scc_table.specs.Arrays.{ShrinksByRule}
 use Rattle.scc_table.specs.Relocations.{RelocatesTwo}
-use Rattle.scc_table.proofs.MappedRelocations.{waiting_of-mapped, RelocatesTwo-mapped}
+use Rattle.scc_table.proofs.MappedRelocations.{waiting_of-mapped, RelocatesNone-mapped, RelocatesTwo-mapped}
 use Rattle.scc_common.specs.declared.errors.InsertError.{InsertError}
 use Rattle.scc_common.specs.declared.errors.InsertError.TheVariants.{Exists, Memory}
 use Rattle.scc_map.specs.MapSizes.{ReservesOrRefuses, ReleasesOrRefuses}
@@ -82,10 +83,6 @@ ok-answer (Err e) h = absurd (let n : false ≡ true = h in cc)
 pub on-key : {K P Q : Type 0} (o : Option (K × Unit {0})) → (P → Q) → OnSome o P → OnSome (key_alone o) Q
 on-key None f h = tt
 on-key (Some p) f h = f h
-
-pub on-no_key : {K P Q : Type 0} (o : Option (K × Unit {0})) → (P → Q) → IfNone o P → IfNone (key_alone o) Q
-on-no_key None f h = f h
-on-no_key (Some p) f h = tt
 
 module _ {K S : Type 0} (eq : K → K → Bool) where
   -- a look-up in the set finds the key of the pair that the look-up in the map finds
@@ -185,6 +182,21 @@ noted-keys c d h = (shows d).refused ∙ h ∙ sym (shows c).refused
 -- if the waiting buckets stay in the map, they stay in the set
 pub waiting-keys : {K S : Type 0} (c d : Contents (K × Unit {0}) S) → waiting_of d ≡ waiting_of c → waiting_of (of_map d) ≡ waiting_of (of_map c)
 waiting-keys {K} c d h = let f : K × Unit {0} → K = λ p. p.0 in waiting_of-mapped f d ∙ h ∙ sym (waiting_of-mapped f c)
+
+-- what a removal does to the map's array, it does to the set's
+pub shrinks-keys : {K S P Q : Type 0} (c d : Contents (K × Unit {0}) S) → (Q → P) → (P → Q) → ShrinksByRule P c d → ShrinksByRule Q (of_map c) (of_map d)
+shrinks-keys c d back on h =
+    record {
+      smaller = smaller-keys c d h.smaller;
+      due = λ q. ShrinksWhenDue-mapped _ c d (h.due (back q));
+      noted = λ none. noted-keys c d (h.noted (λ p. none (on p)));
+      relocates = λ q. RelocatesNone-mapped _ c d (h.relocates (back q));
+      waiting = λ none. waiting-keys c d (h.waiting (λ p. none (on p)));
+    }
+
+-- and so it is after a removal whose result is a pair, if there was one
+pub shrinks-found : {K S : Type 0} (c d : Contents (K × Unit {0}) S) (o : Option (K × Unit {0})) → ShrinksByRule (IsSome o) c d → ShrinksByRule (IsSome (key_alone o)) (of_map c) (of_map d)
+shrinks-found c d o h = shrinks-keys c d (by-some o) (some-by o) h
 
 pub shown : {K S : Type 0} (c : Contents (K × Unit {0}) S) (s : Contents K S) → of_map c ≡ s → Shows c s
 shown c s e = subst (Shows c) e (shows c)

@@ -1,9 +1,7 @@
 pub mod Collections
 pub mod Equality
-pub mod Insertions
 pub mod Keys
 pub mod Lends
-pub mod Removals
 pub mod SetEntries
 pub mod SetSteps
 pub mod SetWalks

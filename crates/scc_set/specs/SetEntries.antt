@@ -1,16 +1,14 @@
 -- The words of an entry's contracts: its key, the keys before and after it, and what its calls leave.
-use Rattle.std.specs.Prelude.{◌≡◌, ◌≢◌, [], Bool, List, ◌++◌, Option, Result, IfOk, IfErr, length}
+use Rattle.std.specs.Prelude.{◌≡◌, [], Bool, List, ◌++◌, Option, Result, IfOk, IfErr}
 use Rattle.std.specs.Borrow.{Fml, RattleType, MutBor, RestsIfErr, RestsIfNone}
 use Rattle.std.specs.HashMap.Lent.{HashMembers}
 use Rattle.std.specs.declared.cmp.PartialEq as eq
 use Rattle.std.specs.declared.hash.Hash as hash
 use Rattle.std.specs.declared.hash.Hasher as hasher
 use Rattle.std.specs.declared.hash.BuildHasher as builder
-use Rattle.scc_common.specs.Contents.{Contents, entries, bucket_count, minimum_of, refused_of, waiting_of}
+use Rattle.scc_common.specs.Contents.{Contents, refused_of, waiting_of}
 use Rattle.scc_table.specs.Placed.{entry_of, front_of, back_of, SplitsAt, IsNextAt, IsNextPastRemovedAt}
-use Rattle.scc_table.specs.Relocations.{RelocatesNone}
-use Rattle.scc_common.specs.Sizes.{IsSmaller}
-use Rattle.scc_common.specs.Steps.{Holds, HoldsExactly, ShrinksWhenDue}
+use Rattle.scc_common.specs.Steps.{HoldsExactly}
 use Rattle.scc_buckets.specs.declared.place.Place.{Place}
 use Rattle.scc_set.specs.Keys.{IsUnique}
 use Rattle.scc_set.specs.Lends.{set_row}
@@ -52,21 +50,6 @@ module _ {K S T : Type 0} {g : eq.Ghosts K} {h : hash.Ghosts K} {b : builder.Gho
   pub record IsNextPastRemoved (o p : OccupiedEntry K S T g h b w) : Type 0 where
     pub same_set : p.set.ghost_name ≡ o.set.ghost_name
     pub at : IsNextPastRemovedAt o.set.now (place_of o) p.set.now (place_of p) p.within
-
-  -- the contract of `remove_entry` of the entry o: it returns `result`, and leaves n
-  pub record RemovesEntryByRule (same : K → K → Bool) (o : OccupiedEntry K S T g h b w) (result : K) (n : Contents K S) : Type 0 where
-    -- the result is the key of the entry
-    pub key : result ≡ occupied_key o
-    -- the others stay
-    pub removed : Holds o.set.now (occupied_front o ++ occupied_back o) n
-    -- the number of buckets changes only by a shrink to the size that the keys and the minimum name
-    pub smaller : bucket_count n ≢ bucket_count o.set.now → IsSmaller (minimum_of o.set.now) (length (entries n)) (bucket_count o.set.now) (bucket_count n)
-    -- a due shrink is made, unless memory for it was refused
-    pub due : ShrinksWhenDue o.set.now n
-    -- it relocates no bucket
-    pub relocates : RelocatesNone o.set.now n
-    -- no two keys are equal
-    pub unique : IsUnique same n
 
   -- the contract of `remove_and_sync` of the entry o: it returns `result`
   pub record RemovesWithNext (same : K → K → Bool) (o : OccupiedEntry K S T g h b w) (result : Result (Removed K × OccupiedEntry K S T g h b w) K) : Type 0 where

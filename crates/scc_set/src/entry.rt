@@ -1,10 +1,13 @@
 //! The occupied entry of a set: the place of a key.
 ghost use Rattle.scc_common.specs.Contents.{entries};
+ghost use Rattle.scc_common.specs.Steps.{Holds};
+ghost use Rattle.scc_set.specs.Keys.{IsUnique};
 ghost use Rattle.scc_set.specs.SetWalks.{CallableWhile, PassesAt, PassesNone};
+ghost use Rattle.scc_table.specs.Arrays.{ShrinksByRule};
 ghost use Rattle.scc_table.specs.Places.{IsPlace};
 ghost use Rattle.std.specs.Borrow.{sem};
 ghost use Rattle.std.specs.Fn.{CalledAt};
-ghost use Rattle.std.specs.Prelude.{◌≡◌, [], IfNone, IfSome, false};
+ghost use Rattle.std.specs.Prelude.{◌≡◌, ◌++◌, [], IfNone, IfSome, ⊤, false};
 
 use crate::Owned;
 use scc_buckets::Place;
@@ -69,7 +72,7 @@ impl<K: Eq + Hash, H: BuildHasher> Owned<K, H> {
 }
 
 impl<'a, K: Eq + Hash, H: BuildHasher> OccupiedEntry<'a, K, H> {
-    ghost use Rattle.scc_set.specs.SetEntries.{IsNext, RemovesWithNext, RemovesEntryByRule, occupied_borrow, occupied_key, occupied_back, rests_if_none, rests_removed};
+    ghost use Rattle.scc_set.specs.SetEntries.{IsNext, RemovesWithNext, occupied_borrow, occupied_key, occupied_front, occupied_back, rests_if_none, rests_removed};
 
     /// Returns the stored key.
     pub fn get(&self) -> &K
@@ -84,7 +87,11 @@ impl<'a, K: Eq + Hash, H: BuildHasher> OccupiedEntry<'a, K, H> {
 
     /// Removes the key, and returns it. The array may shrink.
     pub fn remove_entry(self) -> K
-        ensures { RemovesEntryByRule K.eq self.entry result self.exit.0.now }
+        ensures key { result ≡ occupied_key self.entry }
+        ensures removed { Holds (occupied_borrow self.entry).now
+            (occupied_front self.entry ++ occupied_back self.entry) self.exit.0.now }
+        ensures unique { IsUnique K.eq self.exit.0.now }
+        ensures array { ShrinksByRule ⊤ (occupied_borrow self.entry).now self.exit.0.now }
     {
         let bucket = self.bucket;
         let slot = self.slot;

@@ -1,11 +1,13 @@
 //! The calls at a place of a set, by which an entry goes from key to key.
-ghost use Rattle.scc_common.specs.Contents.{entries};
-ghost use Rattle.scc_set.specs.Removals.{RemovesAtByRule, TakesWithNextByRule};
+ghost use Rattle.scc_common.specs.Contents.{entries, refused_of, waiting_of};
+ghost use Rattle.scc_common.specs.Steps.{Holds, HoldsExactly};
+ghost use Rattle.scc_set.specs.Keys.{IsUnique};
 ghost use Rattle.scc_set.specs.SetWalks.{CallableWhile, PassesAt, PassesNone};
+ghost use Rattle.scc_table.specs.Arrays.{ShrinksByRule};
 ghost use Rattle.scc_table.specs.Placed.{front_of};
 ghost use Rattle.scc_table.specs.Places.{IsPlace, StandsAt, index_of};
 ghost use Rattle.std.specs.Fn.{CalledAt};
-ghost use Rattle.std.specs.Prelude.{◌≡◌, [], suc, length, slice_get, Some, MatchOption, false};
+ghost use Rattle.std.specs.Prelude.{◌≡◌, [], suc, length, remove, slice_get, Some, MatchOption, ⊤, false};
 
 use crate::Owned;
 use scc_buckets::Place;
@@ -58,7 +60,10 @@ impl<K: Eq + Hash, H: BuildHasher> Owned<K, H> {
     /// Removes the key at `place` and returns it. Then the array may shrink.
     pub(crate) fn remove_at(&mut self, place: Place) -> K
         requires { IsPlace self.old place }
-        ensures { RemovesAtByRule K.eq self.old place result self.new }
+        ensures key { slice_get (entries self.old) (index_of self.old place) ≡ Some result }
+        ensures others { Holds self.old (remove (entries self.old) (index_of self.old place)) self.new }
+        ensures unique { IsUnique K.eq self.new }
+        ensures array { ShrinksByRule ⊤ self.old self.new }
     {
         self.map.remove_at(place).0
     }
@@ -66,7 +71,13 @@ impl<K: Eq + Hash, H: BuildHasher> Owned<K, H> {
     /// Removes the key at `place` without a resize, and returns it with the place of the key that followed.
     pub(crate) fn take_with_next(&mut self, place: Place) -> (K, Option<Place>)
         requires { IsPlace self.old place }
-        ensures { TakesWithNextByRule K.eq self.old place result self.new }
+        ensures key { slice_get (entries self.old) (index_of self.old place) ≡ Some result.0 }
+        ensures others { HoldsExactly self.old (remove (entries self.old) (index_of self.old place)) self.new }
+        ensures noted { refused_of self.new ≡ refused_of self.old }
+        ensures waiting { waiting_of self.new ≡ waiting_of self.old }
+        ensures next { MatchOption result.1 (suc (index_of self.old place) ≡ length (entries self.old))
+            (StandsAt self.new (index_of self.old place)) }
+        ensures unique { IsUnique K.eq self.new }
     {
         let (pair, next) = self.map.take_with_next(place);
         (pair.0, next)

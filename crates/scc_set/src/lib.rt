@@ -4,18 +4,17 @@
 ghost use Rattle.scc_common.specs.Contents.{entries, bucket_count, lists_of, settings_of, refused_of, waiting_of, hash_in};
 ghost use Rattle.scc_common.specs.Pairs.{IsUnique as IsUniqueMap};
 ghost use Rattle.scc_common.specs.Pairs.{find as find_pair};
-ghost use Rattle.scc_common.specs.Steps.{HoldsExactly, IsUnchanged};
-ghost use Rattle.scc_set.specs.Insertions.{PreparesByRule};
+ghost use Rattle.scc_common.specs.Steps.{HoldsExactly, IsUnchanged, Prepares};
 ghost use Rattle.scc_set.specs.Keys.{find, with_key, FindsInstead, HasRoom, IsUnique};
-ghost use Rattle.scc_set.specs.Removals.{RemovesByRule};
 ghost use Rattle.scc_set.specs.SetSteps.{Inserts, Reads, Removes, RemovesIf, Replaces};
 ghost use Rattle.scc_set.specs.SetSteps.{key_answer as key_answer_of};
 ghost use Rattle.std.specs.Fn.{FnOnceTakesAt, FnOnceReturnsAt};
 ghost use Rattle.std.specs.Map.{set_key};
 ghost use Rattle.std.specs.Option.{option_map};
-ghost use Rattle.std.specs.Prelude.{◌≡◌, ◌<◌, ◌*◌, ◌↔◌, [], length, Some, None, IsTrue, IsSome, IsOk, IfErr, IfOk, false};
+ghost use Rattle.std.specs.Prelude.{◌≡◌, ◌<◌, ◌*◌, ◌↔◌, ◌⊎◌, [], length, Some, None, IsTrue, IsSome, IsOk, IfErr, IfOk, OnSome, true, false};
 ghost use Rattle.std.specs.Result.{OnErr, OnOk};
-ghost use Rattle.scc_table.specs.Arrays.{GrowsByRule};
+ghost use Rattle.scc_table.specs.Arrays.{GrowsByRule, ShrinksByRule};
+ghost use Rattle.scc_table.specs.Marks.{MarksPreparation};
 
 pub mod entry;
 mod key_places;
@@ -139,7 +138,19 @@ impl<K: Eq + Hash, H: BuildHasher> Owned<K, H> {
     /// it makes no resize in any case. A growth that is made takes note and mark away; if no growth is due, both stay.
     /// Fails only if memory for the first array is refused, and then nothing changes.
     pub fn prepare(&mut self, k: &K) -> Result<(), MakeError>
-        ensures { PreparesByRule K.eq ⟦<H as Hashes<K>>⟧.hash_of self.old k.now result self.new }
+        ensures present { IsSome (find K.eq (entries self.old) k.now) → IsOk result × (self.new ≡ self.old) }
+        ensures ok { find K.eq (entries self.old) k.now ≡ None
+            → OnOk result (Prepares (hash_in ⟦<H as Hashes<K>>⟧.hash_of self.old) (λ q. q) self.old
+            (hash_in ⟦<H as Hashes<K>>⟧.hash_of self.old k.now) self.new) }
+        ensures marks { find K.eq (entries self.old) k.now ≡ None
+            → MarksPreparation (hash_in ⟦<H as Hashes<K>>⟧.hash_of self.old) (λ q. q) self.old
+            (hash_in ⟦<H as Hashes<K>>⟧.hash_of self.old k.now) self.new }
+        ensures marked { (refused_of self.new).1 ≡ true
+            → ((refused_of self.old).1 ≡ true) ⊎ ((refused_of self.new).0 ≡ true) }
+        ensures err { OnErr result ((find K.eq (entries self.old) k.now ≡ None) × (bucket_count self.old ≡ 0)) }
+        ensures same { OnErr result (self.new ≡ self.old) }
+        ensures settings { settings_of self.new ≡ settings_of self.old }
+        ensures unique { IsUnique K.eq self.new }
     {
         self.map.prepare(k)
     }
@@ -197,8 +208,10 @@ impl<K: Eq + Hash, H: BuildHasher> Owned<K, H> {
     #[inline(always)]
     pub fn remove_if_sync<F: FnOnce() -> bool>(&mut self, k: &K, f: F) -> Option<K>
         requires { IsSome (find K.eq (entries self.old) k.now) → F.pre f }
-        ensures { RemovesByRule K.eq (RemovesIf F.FnOnce f K.eq self.old k.now result self.new
-            (find K.eq (entries self.old) k.now)) self.old k.now result self.new }
+        ensures step { RemovesIf F.FnOnce f K.eq self.old k.now result self.new (find K.eq (entries self.old) k.now) }
+        ensures finds { OnSome result (FindsInstead K.eq (entries self.old) k.now None (entries self.new)) }
+        ensures unique { IsUnique K.eq self.new }
+        ensures array { ShrinksByRule (IsSome result) self.old self.new }
     {
         let pair = self.map.remove_if_sync(
             k,
@@ -214,7 +227,10 @@ impl<K: Eq + Hash, H: BuildHasher> Owned<K, H> {
     /// may shrink.
     #[inline(always)]
     pub fn remove_sync(&mut self, k: &K) -> Option<K>
-        ensures { RemovesByRule K.eq (Removes K.eq self.old k.now result self.new) self.old k.now result self.new }
+        ensures step { Removes K.eq self.old k.now result self.new }
+        ensures finds { OnSome result (FindsInstead K.eq (entries self.old) k.now None (entries self.new)) }
+        ensures unique { IsUnique K.eq self.new }
+        ensures array { ShrinksByRule (IsSome result) self.old self.new }
     {
         key_alone(self.map.remove_sync(k))
     }

@@ -1,3 +1,4 @@
+use Rattle.std.proofs.Common.{rules}
 use Rattle.scc_buckets.proofs.Mapped.{ShrinksWhenDue-mapped}
 use Rattle.scc_table.proofs.MappedPlaces.{IsPlace-from_mapped}
 use Rattle.scc_table.proofs.MappedRelocations.{RelocatesNone-mapped}
@@ -8,13 +9,21 @@ use Rattle.scc_set.proofs.Owned.remove_at.Goals as goal
 pub remove_at-requires : goal.remove_at-requires
 remove_at-requires g c = IsPlace-from_mapped _ c.self.inside.map c.args.place (rw (← c.self.view_is) at c.requires)
 
-pub returns : goal.returns
-returns g c =
+pub returns-clause-key : goal.returns-clause-key
+returns-clause-key g c = rw (← c.self.view_is) (get-key c.self.inside.map c.args.place _ c.remove_at.ensures.pair)
+
+pub returns-clause-others : goal.returns-clause-others
+returns-clause-others g c = rw (← c.self.view_is) (holds-others c.self.inside.map c.args.place _ c.remove_at.ensures.others)
+
+pub returns-clause-unique : goal.returns-clause-unique
+returns-clause-unique g c = unique-keys _ _ c.remove_at.ensures.unique
+
+pub returns-clause-array : goal.returns-clause-array
+returns-clause-array g c =
     record {
-      key = rw (← c.self.view_is) (get-key c.self.inside.map c.args.place _ c.remove_at.ensures.pair);
-      others = rw (← c.self.view_is) (holds-others c.self.inside.map c.args.place _ c.remove_at.ensures.others);
       smaller = rw (← c.self.view_is) (smaller-keys _ _ c.remove_at.ensures.smaller);
-      due = rw (← c.self.view_is) (ShrinksWhenDue-mapped _ _ _ c.remove_at.ensures.due);
-      relocates = rw (← c.self.view_is) (RelocatesNone-mapped _ _ _ c.remove_at.ensures.relocates);
-      unique = unique-keys _ _ c.remove_at.ensures.unique;
+      due = λ _. rw (← c.self.view_is) (ShrinksWhenDue-mapped _ _ _ c.remove_at.ensures.due);
+      noted = (search rules);
+      relocates = λ _. rw (← c.self.view_is) (RelocatesNone-mapped _ _ _ c.remove_at.ensures.relocates);
+      waiting = (search rules);
     }
