@@ -1,15 +1,12 @@
--- What an insertion and a preparation do to an index and to its array, in one word a call.
-use Rattle.std.specs.Prelude.{◌≡◌, ◌⊎◌, ℕ, Bool, true, None, Some, Result, IsSome, IsOk, IfOk, IfErr}
+-- What an insertion of a new pair does to an index and to its array, in one word.
+use Rattle.std.specs.Prelude.{◌≡◌, ℕ, Bool, Result, IfOk, IfErr}
 use Rattle.std.specs.Result.{OnOk, OnErr}
 use Rattle.scc_buckets.specs.declared.place.Place.{Place}
-use Rattle.scc_common.specs.Contents.{Contents, entries, bucket_count, settings_of, refused_of, waiting_of}
-use Rattle.scc_common.specs.Pairs.{find, FindsInstead, HasRoom, IsUnique}
-use Rattle.scc_common.specs.Steps.{FirstArrayWhenDue, Grows, GrowsForInsertion, GrowsWhenDue, IsPreparedFor, IsUnchanged, Prepares, RaisesWhenDue}
-use Rattle.scc_table.specs.Marks.{MarksPreparation}
+use Rattle.scc_common.specs.Contents.{Contents, settings_of}
+use Rattle.scc_common.specs.Pairs.{IsUnique}
+use Rattle.scc_common.specs.Steps.{FirstArrayWhenDue, GrowsForInsertion, GrowsWhenDue, IsUnchanged, RaisesWhenDue}
 use Rattle.scc_table.specs.Places.{IsInsertedAt}
 use Rattle.scc_table.specs.Relocations.{Relocates, RelocatesTwo}
-use Rattle.scc_index.specs.IndexSteps.{Inserts}
-use Rattle.scc_common.specs.declared.errors.InsertError.{InsertError}
 
 module _ {K V S : Type 0} (eq : K → K → Bool) (hash_of : S → K → ℕ) where
   -- the contract of `insert_new`: with the pair p, whose key is new, it returns `result`, and turns c into d
@@ -33,24 +30,5 @@ module _ {K V S : Type 0} (eq : K → K → Bool) (hash_of : S → K → ℕ) wh
     -- it relocates the key's own bucket first and then the first ones that wait, two in all, or all if fewer wait; if
     -- some of them are long, at least those before a long one
     pub two : OnOk result (RelocatesTwo (hash_of (settings_of c).hasher p.0) c d)
-    -- no two keys are equal
-    pub unique : IsUnique eq d
-
-  -- the contract of `prepare`: with the key k it returns `result`, and turns c into d
-  pub record PreparesByRule {X : Type 0} (c : Contents (K × V) S) (k : K) (result : Result (Unit {0}) X) (d : Contents (K × V) S) : Type 0 where
-    -- for a key that is there nothing is made
-    pub present : IsSome (find eq (entries c) k) → IsOk result × (d ≡ c)
-    -- for a new key all is made that its insertion would have to make first
-    pub ok : find eq (entries c) k ≡ None → OnOk result (Prepares (hash_of (settings_of c).hasher) (λ x. x.0) c (hash_of (settings_of c).hasher k) d)
-    -- how the note of refused memory and the mark of a refused growth change
-    pub marks : find eq (entries c) k ≡ None → MarksPreparation (hash_of (settings_of c).hasher) (λ x. x.0) c (hash_of (settings_of c).hasher k) d
-    -- the mark is there only if it was there before, or if refused memory is noted
-    pub marked : (refused_of d).1 ≡ true → ((refused_of c).1 ≡ true) ⊎ ((refused_of d).0 ≡ true)
-    -- it fails only for a new key without an array
-    pub err : OnErr result ((find eq (entries c) k ≡ None) × (bucket_count c ≡ 0))
-    -- if it fails, nothing changes
-    pub same : OnErr result (d ≡ c)
-    -- the settings stay
-    pub settings : settings_of d ≡ settings_of c
     -- no two keys are equal
     pub unique : IsUnique eq d

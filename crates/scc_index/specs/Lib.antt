@@ -7,5 +7,4 @@ pub mod IndexSteps
 pub mod IndexWalks
 pub mod Insertions
 pub mod Lends
-pub mod Removals
 pub mod Seats

@@ -5,19 +5,18 @@
 ghost use Rattle.scc_common.specs.Closures.{Reads};
 ghost use Rattle.scc_common.specs.Contents.{entries, bucket_count, lists_of, settings_of, refused_of, waiting_of, hash_in};
 ghost use Rattle.scc_common.specs.Pairs.{find, FindsInstead, HasRoom, IsUnique};
-ghost use Rattle.scc_common.specs.Steps.{IsUnchanged};
+ghost use Rattle.scc_common.specs.Steps.{IsUnchanged, Prepares};
 ghost use Rattle.scc_common.specs.Walks.{CalledOn, CallableWhile, Walks};
 ghost use Rattle.scc_index.specs.ClosureSteps.{RemovesIf};
 ghost use Rattle.scc_index.specs.IndexSteps.{Inserts, Removes};
-ghost use Rattle.scc_index.specs.Insertions.{PreparesByRule};
-ghost use Rattle.scc_index.specs.Removals.{RemovesByRule};
 ghost use Rattle.std.specs.Arc.{arc_value};
 ghost use Rattle.std.specs.Borrow.{Bor};
 ghost use Rattle.std.specs.Fn.{FnOnceTakesAt};
 ghost use Rattle.std.specs.List.Sorted.{IsPermutation};
-ghost use Rattle.std.specs.Prelude.{◌≡◌, ◌<◌, ◌*◌, ◌↔◌, List, [], length, Some, None, IsTrue, IsSome, IfOk, ◌==◌, true, OnErr, MatchOption, remove, false};
+ghost use Rattle.std.specs.Prelude.{◌≡◌, ◌<◌, ◌*◌, ◌↔◌, ◌⊎◌, List, [], length, Some, None, IsTrue, IsSome, IsOk, IfOk, ◌==◌, true, OnErr, MatchOption, remove, false};
 ghost use Rattle.std.specs.Result.{OnOk};
-ghost use Rattle.scc_table.specs.Arrays.{GrowsByRule};
+ghost use Rattle.scc_table.specs.Arrays.{GrowsByRule, ShrinksByRule};
+ghost use Rattle.scc_table.specs.Marks.{MarksPreparation};
 
 pub mod borrowed;
 pub mod held;
@@ -233,7 +232,19 @@ impl<K: Eq + Hash, V, H: BuildHasher> Owned<K, V, H> {
     /// away; if no growth is due, both stay. Fails only if memory for the first array is refused, and then nothing
     /// changes.
     pub fn prepare(&mut self, k: &K) -> Result<(), MakeError>
-        ensures { PreparesByRule K.eq ⟦<H as Hashes<K>>⟧.hash_of self.old k.now result self.new }
+        ensures present { IsSome (find K.eq (entries self.old) k.now) → IsOk result × (self.new ≡ self.old) }
+        ensures ok { find K.eq (entries self.old) k.now ≡ None
+            → OnOk result (Prepares (hash_in ⟦<H as Hashes<K>>⟧.hash_of self.old) (λ p. p.0) self.old
+            (hash_in ⟦<H as Hashes<K>>⟧.hash_of self.old k.now) self.new) }
+        ensures marks { find K.eq (entries self.old) k.now ≡ None
+            → MarksPreparation (hash_in ⟦<H as Hashes<K>>⟧.hash_of self.old) (λ p. p.0) self.old
+            (hash_in ⟦<H as Hashes<K>>⟧.hash_of self.old k.now) self.new }
+        ensures marked { (refused_of self.new).1 ≡ true
+            → ((refused_of self.old).1 ≡ true) ⊎ ((refused_of self.new).0 ≡ true) }
+        ensures err { OnErr result ((find K.eq (entries self.old) k.now ≡ None) × (bucket_count self.old ≡ 0)) }
+        ensures same { OnErr result (self.new ≡ self.old) }
+        ensures settings { settings_of self.new ≡ settings_of self.old }
+        ensures unique { IsUnique K.eq self.new }
     {
         let hash = self.table.hash(k);
         match self.table.search(hash, k) {
@@ -264,7 +275,10 @@ impl<K: Eq + Hash, V, H: BuildHasher> Owned<K, V, H> {
     where
         K: Drop,
         V: Drop,
-        ensures { RemovesByRule K.eq (Removes K.eq self.old k.now result self.new) self.old k.now result self.new }
+        ensures step { Removes K.eq self.old k.now result self.new }
+        ensures finds { IsTrue result → FindsInstead K.eq (entries self.old) k.now None (entries self.new) }
+        ensures unique { IsUnique K.eq self.new }
+        ensures array { ShrinksByRule (IsTrue result) self.old self.new }
     {
         let hash = self.table.hash(k);
         match self.table.remove(hash, k) {
@@ -281,8 +295,10 @@ impl<K: Eq + Hash, V, H: BuildHasher> Owned<K, V, H> {
         K: Drop,
         V: Drop,
         requires { (p : K × V) → find K.eq (entries self.old) k.now ≡ Some p → FnOnceTakesAt F.FnOnce f p.1 }
-        ensures { RemovesByRule K.eq (RemovesIf F.FnOnce f K.eq self.old k.now result self.new
-            (find K.eq (entries self.old) k.now)) self.old k.now result self.new }
+        ensures step { RemovesIf F.FnOnce f K.eq self.old k.now result self.new (find K.eq (entries self.old) k.now) }
+        ensures finds { IsTrue result → FindsInstead K.eq (entries self.old) k.now None (entries self.new) }
+        ensures unique { IsUnique K.eq self.new }
+        ensures array { ShrinksByRule (IsTrue result) self.old self.new }
     {
         match self.table.search(self.table.hash(k), k) {
             Some(place) => {

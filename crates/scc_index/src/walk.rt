@@ -6,11 +6,11 @@ ghost use Rattle.scc_common.specs.Sizes.{IsSmaller};
 ghost use Rattle.scc_common.specs.Steps.{Holds, HoldsExactly, ShrinksWhenDue};
 ghost use Rattle.scc_common.specs.Walks.{CalledOn, CallableWhile, Walks};
 ghost use Rattle.scc_index.specs.IndexWalks.{CallableOnAll, Retains};
-ghost use Rattle.scc_index.specs.Removals.{ClearsByRule};
+ghost use Rattle.scc_table.specs.Arrays.{ShrinksByRule};
 ghost use Rattle.scc_table.specs.Places.{IsPlace, StandsAt, index_of};
 ghost use Rattle.scc_table.specs.Relocations.{RelocatesNone};
 ghost use Rattle.std.specs.List.Sorted.{IsPermutation};
-ghost use Rattle.std.specs.Prelude.{◌≡◌, ◌≢◌, suc, List, [], length, remove, MatchOption, false, true};
+ghost use Rattle.std.specs.Prelude.{◌≡◌, ◌≢◌, suc, List, [], length, remove, MatchOption, ⊤, false, true};
 
 use crate::Owned;
 use scc_buckets::Place;
@@ -22,7 +22,10 @@ impl<K: Eq + Hash, V, H: BuildHasher> Owned<K, V, H> {
     where
         K: Drop,
         V: Drop,
-        ensures { ClearsByRule K.eq self.old self.new }
+        ensures empty { entries self.new ≡ [] }
+        ensures holds { Holds self.old [] self.new }
+        ensures unique { IsUnique K.eq self.new }
+        ensures array { ShrinksByRule ⊤ self.old self.new }
     {
         self.take_all();
         self.table.shrink();

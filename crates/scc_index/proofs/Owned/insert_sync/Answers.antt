@@ -1,4 +1,4 @@
-use Rattle.std.proofs.Common.{◌≡◌, ◌∙◌, refl, sym, true, false, rules, subst}
+use Rattle.std.proofs.Common.{refl, rules, subst}
 use Rattle.scc_common.specs.Contents.{entries}
 use Rattle.scc_index.proofs.AfterSteps.{finds-unchanged}
 use Rattle.scc_buckets.proofs.Lookups.{find-position, find-position_none, finds-added}
