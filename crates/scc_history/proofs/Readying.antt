@@ -1,11 +1,8 @@
 -- Room is made, and then the call.
-use Rattle.std.proofs.Common.{◌≡◌, ◌≢◌, ℕ, ◌≤◌, Bool, true, false, List, ◌++◌, append-nil, Result, Ok, Err, refl, sym, ◌∙◌, subst, arith, inl, inr, ◌⊎◌}
+use Rattle.std.proofs.Common.{◌≡◌, ◌≢◌, ℕ, ◌≤◌, Bool, true, false, refl, sym, ◌∙◌, subst, arith, inl, inr, ◌⊎◌}
 use Rattle.std.specs.Prelude.{◌==◌, MatchBool}
-use Rattle.std.specs.Result.{OnErr, is_err}
 use Rattle.std.proofs.lemmas.Bool.Decides.{nat_tests}
 use Rattle.scc_calls.specs.Resized.{MovesResized, Stays}
-use Rattle.scc_calls.specs.declared.steps.Step.{Step}
-use Rattle.scc_history.specs.Stamps.{resized}
 
 module _ {S : Type 0} (size : S → ℕ) (resizes : S → ℕ → S → Type 0) where
   split : (old new : S) (b : Bool) → (size old == size new) ≡ b → MatchBool b (new ≡ old) (resizes old (size new) new)
@@ -44,16 +41,3 @@ module _ {S : Type 0} (size : S → ℕ) (resizes : S → ℕ → S → Type 0) 
           | inr other ↦ absurd (other.0 (omega arith))
         ]
       ]
-
-  -- if nothing was done, the state stays
-  pub stays-same : (s : S) → Stays size resizes s s
-  stays-same s = let t : (size s == size s) ≡ true = grind (arith, nat_tests) in rw t refl
-
--- if nothing was done, nothing is recorded
-pub no-resize : {A R : Type 0} (steps : List (Step A R)) (n stamp : ℕ) → steps ≡ steps ++ resized n n stamp
-no-resize steps n stamp = let t : (n == n) ≡ true = grind (arith, nat_tests) in rw t (sym (append-nil steps))
-
--- a fact about the error of a result holds if the result is an error
-pub err-holds : {T E P : Type 0} (r : Result T E) → is_err r ≡ true → OnErr r P → P
-err-holds (Ok x) e p = let z : false ≡ true = e in absurd (cc)
-err-holds (Err x) e p = p

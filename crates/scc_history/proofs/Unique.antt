@@ -1,10 +1,10 @@
 -- There is one stamp order.
-use Rattle.std.proofs.Common.{◌≡◌, ℕ, zero, suc, ◌+◌, ◌<◌, ◌≤◌, List, [], ◌∷◌, length, map, get_or, Some, ◌⊎◌, inl, inr, refl, sym, ap, ◌∙◌, subst, arith}
+use Rattle.std.proofs.Common.{◌≡◌, ℕ, zero, suc, ◌+◌, ◌<◌, List, [], ◌∷◌, length, map, get_or, Some, ◌⊎◌, inl, inr, refl, sym, ap, ◌∙◌, subst, arith}
 use Rattle.std.specs.Prelude.{slice_get, slice_set, slice_index}
 use Rattle.std.specs.List.{AllPairs}
 use Rattle.std.proofs.lemmas.Bool.{cases_eq}
 use Rattle.scc_calls.specs.declared.steps.Step.{Step}
-use Rattle.scc_history.specs.Orders.{MergeFrom, IsMergeOrder, IsStampOrder, order_number, Comes}
+use Rattle.scc_history.specs.Orders.{MergeFrom, IsStampOrder, Comes}
 
 get_index : (xs : List ℕ) (i j : ℕ) → slice_get xs i ≡ Some j → slice_index xs i ≡ j
 get_index [] i j e = cc

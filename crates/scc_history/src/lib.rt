@@ -12,7 +12,7 @@ mod matching;
 mod order;
 mod recording;
 
-use crate::recording::{record_call, record_refused};
+use crate::recording::{make_room, next_stamp, record_call, record_refused};
 pub use log::{Log, Receipt};
 pub use matching::{first_difference, records_by_pass};
 pub use order::{Histories, stamp_order};
@@ -83,20 +83,6 @@ impl<C: Calls> Stripe<C> {
         requires replies { ClonesEqual C.Reply.is_clone C.Reply.eq }
         ensures { RecordsByRule self.old log.old call result self.new log.new }
     {
-        if self.history.reserve(2).is_err() || log.receipts.reserve(1).is_err() {
-            return Err(CallError::Room);
-        }
-        let Ok(noted) = call.clone() else {
-            return Err(CallError::Room);
-        };
-        let Ok(kept) = call.clone() else {
-            return Err(CallError::Room);
-        };
-        let greatest = log.clock.max(self.last);
-        if greatest == u64::MAX {
-            return Err(CallError::Room);
-        }
-        let stamp = greatest + 1;
         let Stripe {
             number,
             container,
@@ -104,6 +90,17 @@ impl<C: Calls> Stripe<C> {
             last,
             opened: _,
         } = self;
+        let Log {
+            number: pass,
+            clock,
+            receipts,
+        } = log;
+        let Some(stamp) = next_stamp(*clock, *last) else {
+            return Err(CallError::Room);
+        };
+        let Some((noted, kept)) = make_room(history, receipts, &call) else {
+            return Err(CallError::Room);
+        };
         let before = container.buckets();
         let Ok((given, told)) = container.prepare_call(&call) else {
             record_refused(history, before, container.buckets(), stamp);
@@ -120,16 +117,11 @@ impl<C: Calls> Stripe<C> {
                     before,
                     container.buckets(),
                     stamp,
-                    log.number,
+                    *pass,
                     noted,
                     given,
                 );
                 *last = stamp;
-                let Log {
-                    number: _,
-                    clock,
-                    receipts,
-                } = log;
                 receipts.push_reserved(Receipt {
                     stripe: *number,
                     stamp,
