@@ -160,16 +160,18 @@ impl<E> Columns<E> {
         tag_mask(&self.tags[bucket], tag)
     }
 
-    /// Puts `entry` into the next slot of the bucket, which must be free.
+    /// Puts `entry` into the next slot of the bucket, which must be free, and returns the slot.
     #[inline(always)]
-    pub fn push(&mut self, bucket: usize, entry: E, tag: u8)
+    pub fn push(&mut self, bucket: usize, entry: E, tag: u8) -> usize
         requires bucket { bucket < length self.old }
         requires room { length (window_of self.old bucket).slots < 32 }
         requires tag { 0 < tag }
-        ensures { self.new ≡ slice_set self.old bucket (pushed (window_of self.old bucket) entry tag) }
+        ensures value { self.new ≡ slice_set self.old bucket (pushed (window_of self.old bucket) entry tag) }
+        ensures slot { result ≡ length (window_of self.old bucket).slots }
     {
         let slot = self.count(bucket);
         self.push_at(bucket, slot, entry, tag);
+        slot
     }
 
     /// Puts `entry` into `slot`, which must be the next slot of the bucket and free.

@@ -155,15 +155,16 @@ impl<E> Array<E> {
         self.columns.count(bucket) + self.overflow_len(bucket)
     }
 
-    /// Puts `entry` into the next slot of the bucket, which must be free.
+    /// Puts `entry` into the next slot of the bucket, which must be free, and returns the slot.
     #[inline(always)]
-    pub fn insert_reserved(&mut self, bucket: usize, entry: E, tag: u8)
+    pub fn insert_in_slot(&mut self, bucket: usize, entry: E, tag: u8) -> usize
         requires bucket { bucket < length self.old }
         requires room { length (shelf_of self.old bucket).slots < 32 }
         requires tag { 0 < tag }
-        ensures { self.new ≡ slice_set self.old bucket (with_slot (shelf_of self.old bucket) entry tag) }
+        ensures value { self.new ≡ slice_set self.old bucket (with_slot (shelf_of self.old bucket) entry tag) }
+        ensures slot { result ≡ length (shelf_of self.old bucket).slots }
     {
-        self.columns.push(bucket, entry, tag);
+        self.columns.push(bucket, entry, tag)
     }
 
     /// Puts `entry` into the next slot of the bucket, or at the end of the overflow list if all slots are in use. Fails

@@ -1,11 +1,11 @@
 -- Tables without overflow, list by list.
 use Rattle.std.proofs.Common.{◌≡◌, ℕ, zero, suc, ◌<◌, ◌≤◌, Bool, true, false, List, [], ◌∷◌, ◌++◌, length, map, set, get_or, refl, sym, ap, ◌∙◌, arith, rules, nat_lt, get_or-set_same, Some, None}
 use Rattle.std.specs.Cmp.{IsEquivalence}
-use Rattle.std.specs.List.{flat_map, position, remove, slice_get, IsDistinct, AllByRecursion}
+use Rattle.std.specs.List.{flat_map, insert, position, remove, slice_get, IsDistinct, AllByRecursion}
 use Rattle.std.specs.Option.{option_map}
 use Rattle.std.proofs.lemmas.List.{append-nil, get_or_default, get_or_past, length-map, map-set, nil_from_length}
 use Rattle.std.proofs.lemmas.List.Sums.{sum_by-set, get_or-le-sum_by}
-use Rattle.std.proofs.lemmas.List.Edits.{length-remove}
+use Rattle.std.proofs.lemmas.List.Edits.{insert_end, length-remove}
 use Rattle.std.proofs.lemmas.List.Sorted.{IsPermutation-remove, IsPermutation-map}
 use Rattle.std.proofs.lemmas.Map.Keys.{IsDistinct-head, IsDistinct-IsPermutation}
 use native.Mathlib.Decide.{dec_lt}
@@ -14,6 +14,8 @@ use Rattle.scc_buckets.specs.Bounded.{IsBounded, IsListed, IsResized, IsUnlisted
 use Rattle.scc_common.specs.Routing.{bucket_number}
 use Rattle.scc_common.specs.Sizes.{IsBucketCount}
 use Rattle.scc_common.specs.Contents.{Contents, Settings, entries, bucket_count, settings_of, refused_of, list_of, lists_of, overflow_of, IsRouted}
+use Rattle.scc_buckets.specs.OneList.{IsPutIn}
+use Rattle.scc_buckets.specs.declared.place.Place.{Place}
 use Rattle.scc_buckets.specs.Tables.{AllEmpty, IsBuckets, overflow_in}
 use Rattle.scc_array.specs.Shelf.{Shelf, shelf_entries, empty_shelf, with_slot, with_entry, next_slot, without_slot}
 use Rattle.scc_buckets.proofs.FindingLemmas.{position_hit, position_cons}
@@ -79,6 +81,15 @@ module _ {E S : Type 0} (c d : Contents E S) (i : ℕ) (es : List E) (h : HasLis
     refused = k.refused ∙ h.refused;
     bounded = k.bounded;
   }
+
+-- an entry that is put past the end of a short list stands at its end
+pub put-last : {E S : Type 0} (c : Contents E S) (i : ℕ) (e : E) (p : Place) (d : Contents E S) → IsPutIn c i e d p → IsBounded c → p.slot ≡ length (list_of c i) → length (list_of c i) < 32 → HasList c i (list_of c i ++ e ∷ []) d
+put-last c i e p d put bounded last short = record {
+  lists = put.lists ∙ ap (set (lists_of c) i) (ap (λ k. insert (list_of c i) k e) last ∙ insert_end (list_of c i) e);
+  settings = put.settings;
+  refused = put.refused;
+  bounded = let z = put.short short in omega (arith, bounded);
+}
 
 module _ {E S : Type 0} (bs : List (Shelf E)) (s : Settings S) (c : Contents E S) {f : Bool × Bool} (view : view_of f bs s ≡ c) (i : ℕ) (b : Shelf E) (l : i < length bs) (at : b ≡ get_or bs i b) (bounded : IsBounded c) where
   pub overflow-less : length b.overflow ≡ 0

@@ -1,13 +1,23 @@
 -- What an insertion of a new key does to buckets, one word a call. A refusal hands back the argument.
-use Rattle.std.specs.Prelude.{◌≡◌, ℕ, Bool, Result, IfOk, IfErr}
+use Rattle.std.specs.Prelude.{◌≡◌, ℕ, Bool, length, Result, IfOk, IfErr}
 use Rattle.std.specs.Result.{OnOk, OnErr}
-use Rattle.scc_common.specs.Contents.{Contents, bucket_count, refused_of, HasRoomBy, IsUniqueBy}
+use Rattle.scc_common.specs.Contents.{Contents, bucket_count, list_of, refused_of, HasRoomBy, IsUniqueBy}
 use Rattle.scc_common.specs.Steps.{FirstArrayWhenDue, Grows, IsUnchanged}
+use Rattle.scc_buckets.specs.Bounded.{IsBounded}
 use Rattle.scc_buckets.specs.OneList.{HasSameLists, IsPutIn}
 use Rattle.scc_buckets.specs.Places.{IsInsertedAtSpot}
 use Rattle.scc_buckets.specs.declared.place.Place.{Place}
 
 module _ {E K S : Type 0} (eq : K → K → Bool) (key : E → K) where
+  -- the new entry e is inserted into a free slot of bucket i, and p is its place
+  pub record InsertsWithRoom (c : Contents E S) (i : ℕ) (e : E) (p : Place) (d : Contents E S) : Type 0 where
+    -- the list of bucket i alone has gained e
+    pub exact : IsPutIn c i e d p
+    -- without overflow lists, e stands at the end of its list
+    pub last : IsBounded c → p.slot ≡ length (list_of c i)
+    -- no two keys are equal
+    pub unique : IsUniqueBy eq key d
+
   -- the new entry e is inserted into bucket i
   pub record InsertsInBucket (hash : K → ℕ) (c : Contents E S) (i : ℕ) (e : E) (result : Result Place E) (d : Contents E S) : Type 0 where
     -- on success, e is inserted, and the result is its place

@@ -6,7 +6,7 @@ ghost use Rattle.std.specs.List.{position};
 ghost use Rattle.std.specs.Prelude.{◌≡◌, ◌<◌, ◌++◌, [], ◌∷◌, length, suc, None, Some, slice_get, remove};
 
 use crate::Buckets;
-use crate::place::{Place, tag};
+use crate::place::Place;
 use scc_common::Keyed;
 use std::hash::{BuildHasher, Hash};
 
@@ -29,8 +29,8 @@ where
             self.new }
         ensures unique { IsUniqueBy E.Key.eq E.key_of self.new }
     {
-        self.buckets.insert_reserved(bucket, entry, tag(hash));
-        self.length += 1;
+        let _ = self.insert_with_room(bucket, hash, entry);
+        self.list_facts();
     }
 
     /// Puts `entry`, whose key is new, at the end of the list of `bucket`, and returns its slot. If the bucket holds 32

@@ -1,9 +1,9 @@
 //! Insertions into buckets: of an entry, and of an entry that the insertion makes of its parts.
-ghost use Rattle.scc_buckets.specs.Insertions.{InsertsInBucket, InsertsMadeInBucket, InsertsMadeInFirstArray};
-ghost use Rattle.scc_common.specs.Contents.{entries, bucket_count, settings_of, key_hash};
+ghost use Rattle.scc_buckets.specs.Insertions.{InsertsInBucket, InsertsMadeInBucket, InsertsMadeInFirstArray, InsertsWithRoom};
+ghost use Rattle.scc_common.specs.Contents.{entries, bucket_count, list_of, settings_of, key_hash};
 ghost use Rattle.scc_common.specs.Routing.{bucket_number};
 ghost use Rattle.std.specs.List.{position};
-ghost use Rattle.std.specs.Prelude.{◌≡◌, ◌≤◌, ◌<◌, ◌+◌, ◌-◌, ◌^◌, None, IsTrue};
+ghost use Rattle.std.specs.Prelude.{◌≡◌, ◌≤◌, ◌<◌, ◌+◌, ◌-◌, ◌^◌, length, None, IsTrue};
 
 use crate::Buckets;
 use crate::place::{Place, tag};
@@ -35,6 +35,22 @@ impl<E: Keyed, H: BuildHasher> Buckets<E, H>
 where
     E::Key: Eq + Hash,
 {
+    /// Inserts `entry`, whose key is new, into a free slot of `bucket`, and returns its place. `bucket` must be the
+    /// bucket of `hash`, and hold fewer than 32 entries. Allocates nothing.
+    #[inline(always)]
+    pub fn insert_with_room(&mut self, bucket: usize, hash: u64, entry: E) -> Place
+        requires within { bucket < bucket_count self.old }
+        requires routed { bucket ≡ bucket_number (settings_of self.old).skipped (bucket_count self.old) hash }
+        requires hashed { hash ≡ key_hash H.BuildHasher H.Hasher.Hasher E.Key.hash_input self.old (E.key_of entry) }
+        requires absent { position (λ e. E.Key.eq (E.key_of entry) (E.key_of e)) (entries self.old) ≡ None }
+        requires short { length (list_of self.old bucket) < 32 }
+        ensures { InsertsWithRoom E.Key.eq E.key_of self.old bucket entry result self.new }
+    {
+        let slot = self.buckets.insert_in_slot(bucket, entry, tag(hash));
+        self.length += 1;
+        Place { bucket, slot }
+    }
+
     /// Inserts `entry`, whose key is new, into `bucket`, and returns its place. `bucket` must be the bucket of `hash`.
     /// Fails if the bucket is full and the overflow list can't grow; then `entry` is handed back.
     #[inline(always)]

@@ -1,11 +1,11 @@
 //! The insertion of an entry whose key is new, from the check for a growth down to the bucket.
-ghost use Rattle.scc_common.specs.Contents.{entries, bucket_count, key_hash, settings_of, waiting_of, HasRoomBy};
+ghost use Rattle.scc_common.specs.Contents.{entries, bucket_count, key_hash, list_of, pending_of, settings_of, waiting_of, HasRoomBy};
 ghost use Rattle.scc_common.specs.Routing.{bucket_number};
 ghost use Rattle.scc_table.specs.Insertions.{InsertsAndRelocates, InsertsThenRelocates, InsertsNew};
 ghost use Rattle.scc_table.specs.Puts.{InsertsIn};
 ghost use Rattle.scc_table.specs.TwoArrays.{IsWaiting, pending_targets, waits_at};
 ghost use Rattle.std.specs.List.{position};
-ghost use Rattle.std.specs.Prelude.{◌≡◌, ◌<◌, ◌+◌, false, None};
+ghost use Rattle.std.specs.Prelude.{◌≡◌, ◌<◌, ◌+◌, false, length, None, Ok};
 
 use crate::Table;
 use scc_buckets::Place;
@@ -33,10 +33,26 @@ where
         if self.draining.pending == 0 && self.bucket_count() > 0 {
             let bucket = self.bucket_at(hash);
             if self.list_len(bucket) < 32 {
-                return self.insert_and_relocate(bucket, hash, entry);
+                return Ok(self.insert_with_room(bucket, hash, entry));
             }
         }
         self.insert_after_growth(hash, entry)
+    }
+
+    /// As `insert_and_relocate`, if no bucket waits and `bucket` holds fewer than 32 entries. Allocates nothing.
+    #[inline(always)]
+    pub(crate) fn insert_with_room(&mut self, bucket: usize, hash: u64, entry: E) -> Place
+        requires within { bucket < bucket_count self.old }
+        requires routed { bucket ≡ bucket_number (settings_of self.old).skipped (bucket_count self.old) hash }
+        requires hashed { hash ≡ key_hash H.BuildHasher H.Hasher.Hasher E.Key.hash_input self.old (E.key_of entry) }
+        requires absent { position (λ e. E.Key.eq (E.key_of entry) (E.key_of e)) (entries self.old) ≡ None }
+        requires none { pending_of self.old ≡ 0 }
+        requires short { length (list_of self.old bucket) < 32 }
+        ensures { InsertsAndRelocates E.Key.eq E.key_of self.old bucket entry entry ⊥ (Ok result) self.new }
+    {
+        let place = self.current.insert_with_room(bucket, hash, entry);
+        let _few = self.current.overflow_len();
+        place
     }
 
     /// As `insert_new`, after a check whether the array has to be made or to grow.

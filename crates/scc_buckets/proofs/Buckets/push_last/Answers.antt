@@ -1,101 +1,10 @@
-use Rattle.std.proofs.Common.{◌≡◌, ℕ, ◌<◌, ◌+◌, ◌∙◌, sym, ap, rules, arith, length, refl, set}
-use Rattle.scc_array.specs.Shelf.{with_slot}
-use Rattle.scc_common.specs.Contents.{entries}
-use Rattle.scc_common.specs.Hashing.{hash_of}
-use Rattle.scc_common.specs.Routing.{bucket_number, tag_of}
-use Rattle.scc_buckets.proofs.Bounds.{slots-are, slot-entry, stored-slot, has-list, listed-view, pushed-list}
-use Rattle.scc_buckets.proofs.Inserts.{inserted-table, inserted-holds, unique-inserted, table-bound}
-use Rattle.scc_buckets.proofs.Views.{entries-view, count-view, list-view, settings-view}
-use Rattle.scc_array.specs.Shelves.{shelf_of}
-use Rattle.scc_buckets.proofs.Arrays.{shelf-at, put-is, put-own}
+use Rattle.scc_buckets.proofs.Bounds.{put-last}
 use Rattle.scc_buckets.proofs.Buckets.push_last.Goals as goal
 
-pub insert_reserved-requires-clause-bucket : goal.insert_reserved-requires-clause-bucket
-insert_reserved-requires-clause-bucket g c =
-    let l = rw (count-view c.self.inside.buckets _ c.args.self.now c.self.view_is) at c.requires.within in
-    search rules
-
-pub insert_reserved-requires-clause-room : goal.insert_reserved-requires-clause-room
-insert_reserved-requires-clause-room g c =
-    let bs = c.self.inside.buckets in
-    let l : c.args.bucket < length bs = rw (count-view bs _ c.args.self.now c.self.view_is) at c.requires.within in
-    let b = (shelf_of c.self.inside.buckets c.args.bucket) in
-    let at = (shelf-at c.self.inside.buckets c.args.bucket l) in
-    let short = rw (list-view bs _ c.args.self.now c.self.view_is c.args.bucket b l at, slots-are bs _ c.args.self.now c.self.view_is c.args.bucket b l at c.requires.bounded) at c.requires.short in
-    short
-
-pub overflow_add-self : goal.overflow_add-self
-overflow_add-self g c =
-    record { fits = let m = table-bound (λ e. hash_of g.H.BuildHasher g.H.Hasher.Hasher c.self.inside.hasher (g.E.Key.Hash.hash_input (g.E.Keyed.key_of e))) c.self.inside.skipped c.self.inside.length c.self.inside.overflowing c.self.inside.buckets c.self.invariant.table in omega arith }
-
-pub invariant_of-self : goal.invariant_of-self
-invariant_of-self g c =
-    let t = c.self.inside in
-    let bs = t.buckets in
-    let i = c.args.bucket in
-    let f : g.row.E.Denot → ℕ = λ e. hash_of g.H.BuildHasher g.H.Hasher.Hasher t.hasher (g.E.Key.Hash.hash_input (g.E.Keyed.key_of e)) in
-    let count = count-view bs _ c.args.self.now c.self.view_is in
-    let l : i < length bs = rw count at c.requires.within in
-    let b = (shelf_of c.self.inside.buckets c.args.bucket) in
-    let at = (shelf-at c.self.inside.buckets c.args.bucket l) in
-    let hashed = rw (settings-view bs _ c.args.self.now c.self.view_is) at c.requires.hashed in
-    let routed : i ≡ bucket_number t.skipped (length bs) (f c.args.entry) =
-    let r = rw (settings-view bs _ c.args.self.now c.self.view_is, count) at c.requires.routed in r ∙ ap (bucket_number t.skipped (length bs)) hashed in
-    let short : length b.slots < 32 = rw (list-view bs _ c.args.self.now c.self.view_is i b l at, slots-are bs _ c.args.self.now c.self.view_is i b l at c.requires.bounded) at c.requires.short in
-    let d = shelf_of c.insert_reserved.new.self c.args.bucket in
-    let is : d ≡ with_slot b c.args.entry (tag_of (f c.args.entry)) = (put-is c.self.inside.buckets c.args.bucket l c.insert_reserved.new.self _ c.insert_reserved.ensures) ∙ ap (with_slot b c.args.entry) (c.tag.ensures ∙ ap tag_of hashed) in
-    let new = stored-slot b d c.args.entry (tag_of (f c.args.entry)) short is in
-    let place = sym (slot-entry b c.args.entry 0 short).1 in
-    rw (put-own c.self.inside.buckets c.args.bucket l c.insert_reserved.new.self _ c.insert_reserved.ensures) record {
-      table = inserted-table f t.skipped t.length t.overflowing i bs c.self.invariant.table _ c.args.self.now c.self.view_is b l at d c.args.entry (length b.slots) new place t.overflowing routed (ap (λ x. t.overflowing + length x.overflow) (sym is)) c.self.invariant.table.few;
-      few_bits = c.self.invariant.few_bits;
-      small_minimum = c.self.invariant.small_minimum;
-      unique = let u = unique-inserted g.met.E.Key.Eq.laws g.E.Keyed.key_of c.args.entry (entries c.args.self.now) _ (rw (entries-view bs _ c.args.self.now c.self.view_is) c.self.invariant.unique) c.requires.absent (inserted-holds f t.skipped t.length t.overflowing i bs c.self.invariant.table _ c.args.self.now c.self.view_is b l at d c.args.entry (length b.slots) new place).same in rw (entries-view (set bs i d) _ _ refl) at u;
-    }
-
 pub returns-clause-list : goal.returns-clause-list
-returns-clause-list g c =
-    let bs = c.self.inside.buckets in
-    let i = c.args.bucket in
-    let l : i < length bs = rw (count-view bs _ c.args.self.now c.self.view_is) at c.requires.within in
-    let b = (shelf_of c.self.inside.buckets c.args.bucket) in
-    let at = (shelf-at c.self.inside.buckets c.args.bucket l) in
-    let d = shelf_of c.insert_reserved.new.self c.args.bucket in
-    rw (put-own c.self.inside.buckets c.args.bucket l c.insert_reserved.new.self _ c.insert_reserved.ensures) (rw (list-view bs _ c.args.self.now c.self.view_is i b l at)
-    (has-list bs _ c.args.self.now c.self.view_is i b l at c.requires.bounded d _ (pushed-list bs _ c.args.self.now c.self.view_is i b l at c.requires.bounded d c.args.entry _ (put-is c.self.inside.buckets c.args.bucket l c.insert_reserved.new.self _ c.insert_reserved.ensures)) (ap (λ x. length x.overflow) (put-is c.self.inside.buckets c.args.bucket l c.insert_reserved.new.self _ c.insert_reserved.ensures))))
-
-pub returns-clause-unique : goal.returns-clause-unique
-returns-clause-unique g c =
-    let t = c.self.inside in
-    let bs = t.buckets in
-    let i = c.args.bucket in
-    let f : g.row.E.Denot → ℕ = λ e. hash_of g.H.BuildHasher g.H.Hasher.Hasher t.hasher (g.E.Key.Hash.hash_input (g.E.Keyed.key_of e)) in
-    let l : i < length bs = rw (count-view bs _ c.args.self.now c.self.view_is) at c.requires.within in
-    let b = (shelf_of c.self.inside.buckets c.args.bucket) in
-    let at = (shelf-at c.self.inside.buckets c.args.bucket l) in
-    let hashed = rw (settings-view bs _ c.args.self.now c.self.view_is) at c.requires.hashed in
-    let short : length b.slots < 32 = rw (list-view bs _ c.args.self.now c.self.view_is i b l at, slots-are bs _ c.args.self.now c.self.view_is i b l at c.requires.bounded) at c.requires.short in
-    let d = shelf_of c.insert_reserved.new.self c.args.bucket in
-    let is : d ≡ with_slot b c.args.entry (tag_of (f c.args.entry)) = (put-is c.self.inside.buckets c.args.bucket l c.insert_reserved.new.self _ c.insert_reserved.ensures) ∙ ap (with_slot b c.args.entry) (c.tag.ensures ∙ ap tag_of hashed) in
-    let new = stored-slot b d c.args.entry (tag_of (f c.args.entry)) short is in
-    rw (put-own c.self.inside.buckets c.args.bucket l c.insert_reserved.new.self _ c.insert_reserved.ensures) (unique-inserted g.met.E.Key.Eq.laws g.E.Keyed.key_of c.args.entry (entries c.args.self.now) _ (rw (entries-view bs _ c.args.self.now c.self.view_is) c.self.invariant.unique) c.requires.absent (inserted-holds f t.skipped t.length t.overflowing i bs c.self.invariant.table _ c.args.self.now c.self.view_is b l at d c.args.entry (length b.slots) new (sym (slot-entry b c.args.entry 0 short).1)).same)
+returns-clause-list g c = put-last c.args.self.now c.args.bucket c.args.entry _ _ c.insert_with_room.ensures.exact c.requires.bounded (c.insert_with_room.ensures.last c.requires.bounded) c.requires.short
 
 pub returns-clause-listed : goal.returns-clause-listed
 returns-clause-listed g c =
-    let t = c.self.inside in
-    let bs = t.buckets in
-    let i = c.args.bucket in
-    let f : g.row.E.Denot → ℕ = λ e. hash_of g.H.BuildHasher g.H.Hasher.Hasher t.hasher (g.E.Key.Hash.hash_input (g.E.Keyed.key_of e)) in
-    let count = count-view bs _ c.args.self.now c.self.view_is in
-    let l : i < length bs = rw count at c.requires.within in
-    let b = (shelf_of c.self.inside.buckets c.args.bucket) in
-    let at = (shelf-at c.self.inside.buckets c.args.bucket l) in
-    let hashed = rw (settings-view bs _ c.args.self.now c.self.view_is) at c.requires.hashed in
-    let routed : i ≡ bucket_number t.skipped (length bs) (f c.args.entry) =
-    let r = rw (settings-view bs _ c.args.self.now c.self.view_is, count) at c.requires.routed in r ∙ ap (bucket_number t.skipped (length bs)) hashed in
-    let short : length b.slots < 32 = rw (list-view bs _ c.args.self.now c.self.view_is i b l at, slots-are bs _ c.args.self.now c.self.view_is i b l at c.requires.bounded) at c.requires.short in
-    let d = shelf_of c.insert_reserved.new.self c.args.bucket in
-    let is : d ≡ with_slot b c.args.entry (tag_of (f c.args.entry)) = (put-is c.self.inside.buckets c.args.bucket l c.insert_reserved.new.self _ c.insert_reserved.ensures) ∙ ap (with_slot b c.args.entry) (c.tag.ensures ∙ ap tag_of hashed) in
-    let table = inserted-table f t.skipped t.length t.overflowing i bs c.self.invariant.table _ c.args.self.now c.self.view_is b l at d c.args.entry (length b.slots) (stored-slot b d c.args.entry (tag_of (f c.args.entry)) short is) (sym (slot-entry b c.args.entry 0 short).1) t.overflowing routed (ap (λ x. t.overflowing + length x.overflow) (sym is)) c.self.invariant.table.few in
-    let list = has-list bs _ c.args.self.now c.self.view_is i b l at c.requires.bounded d _ refl (ap (λ x. length x.overflow) (put-is c.self.inside.buckets c.args.bucket l c.insert_reserved.new.self _ c.insert_reserved.ensures)) in
-    rw (put-own c.self.inside.buckets c.args.bucket l c.insert_reserved.new.self _ c.insert_reserved.ensures) (rw (settings-view (set bs i d) _ _ refl) (listed-view f _ _ (set bs i d) _ _ refl table list.bounded))
+    let list = put-last c.args.self.now c.args.bucket c.args.entry _ _ c.insert_with_room.ensures.exact c.requires.bounded (c.insert_with_room.ensures.last c.requires.bounded) c.requires.short in
+    c.list_facts.ensures.listed list.bounded
