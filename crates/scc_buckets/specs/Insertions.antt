@@ -1,7 +1,9 @@
--- What an insertion of a new key does to buckets, one word a call. A refusal hands back the argument.
-use Rattle.std.specs.Prelude.{◌≡◌, ℕ, Bool, length, Result, IfOk, IfErr}
+-- What an insertion of a new key needs and does, one word a call. A refusal hands back the argument.
+use Rattle.std.specs.Prelude.{◌≡◌, ◌<◌, ℕ, Bool, None, length, Result, IfOk, IfErr}
+use Rattle.std.specs.List.{position}
 use Rattle.std.specs.Result.{OnOk, OnErr}
-use Rattle.scc_common.specs.Contents.{Contents, bucket_count, list_of, refused_of, HasRoomBy, IsUniqueBy}
+use Rattle.scc_common.specs.Contents.{Contents, bucket_count, entries, list_of, refused_of, settings_of, HasRoomBy, IsUniqueBy}
+use Rattle.scc_common.specs.Routing.{bucket_number}
 use Rattle.scc_common.specs.Steps.{FirstArrayWhenDue, Grows, IsUnchanged}
 use Rattle.scc_buckets.specs.Bounded.{IsBounded}
 use Rattle.scc_buckets.specs.OneList.{HasSameLists, IsPutIn}
@@ -9,6 +11,13 @@ use Rattle.scc_buckets.specs.Places.{IsInsertedAtSpot}
 use Rattle.scc_buckets.specs.declared.place.Place.{Place}
 
 module _ {E K S : Type 0} (eq : K → K → Bool) (key : E → K) where
+  -- the key k is new, h is its hash, and i is the bucket of h
+  pub record IsNewIn (hash : K → ℕ) (c : Contents E S) (i h : ℕ) (k : K) : Type 0 where
+    pub within : i < bucket_count c
+    pub routed : i ≡ bucket_number (settings_of c).skipped (bucket_count c) h
+    pub hashed : h ≡ hash k
+    pub absent : position (λ e. eq k (key e)) (entries c) ≡ None
+
   -- the new entry e is inserted into a free slot of bucket i, and p is its place
   pub record InsertsWithRoom (c : Contents E S) (i : ℕ) (e : E) (p : Place) (d : Contents E S) : Type 0 where
     -- the list of bucket i alone has gained e

@@ -1,9 +1,9 @@
 //! Changes of buckets that hold at most 32 entries each, each in the order of its list.
 ghost use Rattle.scc_buckets.specs.Bounded.{HasList, IsBounded, IsListed, PutsLast};
-ghost use Rattle.scc_common.specs.Contents.{entries, bucket_count, list_of, settings_of, key_hash, IsUniqueBy};
+ghost use Rattle.scc_buckets.specs.Insertions.{IsNewIn};
+ghost use Rattle.scc_common.specs.Contents.{bucket_count, list_of, settings_of, key_hash, IsUniqueBy};
 ghost use Rattle.scc_common.specs.Routing.{bucket_number};
-ghost use Rattle.std.specs.List.{position};
-ghost use Rattle.std.specs.Prelude.{◌≡◌, ◌<◌, ◌++◌, [], ◌∷◌, length, suc, None, Some, slice_get, remove};
+ghost use Rattle.std.specs.Prelude.{◌≡◌, ◌<◌, ◌++◌, [], ◌∷◌, length, suc, Some, slice_get, remove};
 
 use crate::Buckets;
 use crate::place::Place;
@@ -18,10 +18,8 @@ where
     /// hold fewer than 32 entries.
     #[inline(always)]
     pub(crate) fn push_last(&mut self, bucket: usize, hash: u64, entry: E)
-        requires within { bucket < bucket_count self.old }
-        requires routed { bucket ≡ bucket_number (settings_of self.old).skipped (bucket_count self.old) hash }
-        requires hashed { hash ≡ key_hash H.BuildHasher H.Hasher.Hasher E.Key.hash_input self.old (E.key_of entry) }
-        requires absent { position (λ e. E.Key.eq (E.key_of entry) (E.key_of e)) (entries self.old) ≡ None }
+        requires new { IsNewIn E.Key.eq E.key_of (key_hash H.BuildHasher H.Hasher.Hasher E.Key.hash_input self.old) self.old
+            bucket hash (E.key_of entry) }
         requires bounded { IsBounded self.old }
         requires short { length (list_of self.old bucket) < 32 }
         ensures list { HasList self.old bucket (list_of self.old bucket ++ entry ∷ []) self.new }
@@ -38,10 +36,8 @@ where
     /// Allocates nothing.
     #[inline(always)]
     pub fn put_last(&mut self, bucket: usize, hash: u64, entry: E) -> (Option<E>, usize)
-        requires within { bucket < bucket_count self.old }
-        requires routed { bucket ≡ bucket_number (settings_of self.old).skipped (bucket_count self.old) hash }
-        requires hashed { hash ≡ key_hash H.BuildHasher H.Hasher.Hasher E.Key.hash_input self.old (E.key_of entry) }
-        requires absent { position (λ e. E.Key.eq (E.key_of entry) (E.key_of e)) (entries self.old) ≡ None }
+        requires new { IsNewIn E.Key.eq E.key_of (key_hash H.BuildHasher H.Hasher.Hasher E.Key.hash_input self.old) self.old
+            bucket hash (E.key_of entry) }
         requires bounded { IsBounded self.old }
         ensures step { PutsLast self.old bucket entry result.0 self.new }
         ensures slot { suc result.1 ≡ length (list_of self.new bucket) }

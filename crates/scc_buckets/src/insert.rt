@@ -1,9 +1,8 @@
 //! Insertions into buckets: of an entry, and of an entry that the insertion makes of its parts.
-ghost use Rattle.scc_buckets.specs.Insertions.{InsertsInBucket, InsertsMadeInBucket, InsertsMadeInFirstArray, InsertsWithRoom};
-ghost use Rattle.scc_common.specs.Contents.{entries, bucket_count, list_of, settings_of, key_hash};
-ghost use Rattle.scc_common.specs.Routing.{bucket_number};
+ghost use Rattle.scc_buckets.specs.Insertions.{InsertsInBucket, InsertsMadeInBucket, InsertsMadeInFirstArray, InsertsWithRoom, IsNewIn};
+ghost use Rattle.scc_common.specs.Contents.{entries, bucket_count, list_of, key_hash};
 ghost use Rattle.std.specs.List.{position};
-ghost use Rattle.std.specs.Prelude.{◌≡◌, ◌≤◌, ◌<◌, ◌+◌, ◌-◌, ◌^◌, length, None, IsTrue};
+ghost use Rattle.std.specs.Prelude.{◌≡◌, ◌≤◌, ◌<◌, ◌-◌, ◌^◌, length, None, IsTrue};
 
 use crate::Buckets;
 use crate::place::{Place, tag};
@@ -39,10 +38,8 @@ where
     /// bucket of `hash`, and hold fewer than 32 entries. Allocates nothing.
     #[inline(always)]
     pub fn insert_with_room(&mut self, bucket: usize, hash: u64, entry: E) -> Place
-        requires within { bucket < bucket_count self.old }
-        requires routed { bucket ≡ bucket_number (settings_of self.old).skipped (bucket_count self.old) hash }
-        requires hashed { hash ≡ key_hash H.BuildHasher H.Hasher.Hasher E.Key.hash_input self.old (E.key_of entry) }
-        requires absent { position (λ e. E.Key.eq (E.key_of entry) (E.key_of e)) (entries self.old) ≡ None }
+        requires new { IsNewIn E.Key.eq E.key_of (key_hash H.BuildHasher H.Hasher.Hasher E.Key.hash_input self.old) self.old
+            bucket hash (E.key_of entry) }
         requires short { length (list_of self.old bucket) < 32 }
         ensures { InsertsWithRoom E.Key.eq E.key_of self.old bucket entry result self.new }
     {
@@ -55,10 +52,8 @@ where
     /// Fails if the bucket is full and the overflow list can't grow; then `entry` is handed back.
     #[inline(always)]
     pub fn insert_in(&mut self, bucket: usize, hash: u64, entry: E) -> Result<Place, E>
-        requires within { bucket < bucket_count self.old }
-        requires routed { bucket ≡ bucket_number (settings_of self.old).skipped (bucket_count self.old) hash }
-        requires hashed { hash ≡ key_hash H.BuildHasher H.Hasher.Hasher E.Key.hash_input self.old (E.key_of entry) }
-        requires absent { position (λ e. E.Key.eq (E.key_of entry) (E.key_of e)) (entries self.old) ≡ None }
+        requires { IsNewIn E.Key.eq E.key_of (key_hash H.BuildHasher H.Hasher.Hasher E.Key.hash_input self.old) self.old
+            bucket hash (E.key_of entry) }
         ensures { InsertsInBucket E.Key.eq E.key_of (key_hash H.BuildHasher H.Hasher.Hasher E.Key.hash_input self.old)
             self.old bucket entry result self.new }
     {
@@ -115,11 +110,8 @@ where
         hash: u64,
         parts: E::Parts,
     ) -> Result<Place, E::Parts>
-        requires within { bucket < bucket_count self.old }
-        requires routed { bucket ≡ bucket_number (settings_of self.old).skipped (bucket_count self.old) hash }
-        requires hashed { hash ≡ key_hash H.BuildHasher H.Hasher.Hasher E.Key.hash_input self.old
-            (E.key_of (E.made_of parts)) }
-        requires absent { position (λ e. E.Key.eq (E.key_of (E.made_of parts)) (E.key_of e)) (entries self.old) ≡ None }
+        requires { IsNewIn E.Key.eq E.key_of (key_hash H.BuildHasher H.Hasher.Hasher E.Key.hash_input self.old) self.old
+            bucket hash (E.key_of (E.made_of parts)) }
         ensures { InsertsMadeInBucket E.Key.eq E.key_of self.old bucket (E.made_of parts) parts result self.new }
     {
         if self.buckets.is_full(bucket) && is_overflow_full(self.overflowing) {

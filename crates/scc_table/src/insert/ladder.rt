@@ -50,9 +50,7 @@ where
         requires short { length (list_of self.old bucket) < 32 }
         ensures { InsertsAndRelocates E.Key.eq E.key_of self.old bucket entry entry ⊥ (Ok result) self.new }
     {
-        let place = self.current.insert_with_room(bucket, hash, entry);
-        let _few = self.current.overflow_len();
-        place
+        self.current.insert_with_room(bucket, hash, entry)
     }
 
     /// As `insert_new`, after a check whether the array has to be made or to grow.

@@ -3,17 +3,17 @@ use Rattle.scc_common.specs.Routing.{bucket_number}
 use Rattle.scc_buckets.proofs.Views.{count-view, settings-view}
 use Rattle.scc_buckets.proofs.Buckets.insert_clone.Goals as goal
 
-pub insert_in-requires-clause-within : goal.insert_in-requires-clause-within
-insert_in-requires-clause-within g c =
+pub insert_in-requires : goal.insert_in-requires
+insert_in-requires g c =
     let bs = c.self.inside.buckets in
     let len : c.len-count.result ≡ length bs = search rules in
-    rw (count-view bs _ c.args.self.now c.self.view_is) (omega (arith, len, c.bucket_index-bucket.ensures.within (omega (arith, c.if-count-eq0.false))))
-
-pub insert_in-requires-clause-routed : goal.insert_in-requires-clause-routed
-insert_in-requires-clause-routed g c =
-    let bs = c.self.inside.buckets in
-    let len : c.len-count.result ≡ length bs = search rules in
-    rw (settings-view bs _ c.args.self.now c.self.view_is, count-view bs _ c.args.self.now c.self.view_is) (c.bucket_index-bucket.ensures.value ∙ ap (λ n. bucket_number c.self.inside.skipped n c.hash-hash.result) len)
+    let count = count-view bs _ c.args.self.now c.self.view_is in
+    record {
+      within = rw count (omega (arith, len, c.bucket_index-bucket.ensures.within (omega (arith, c.if-count-eq0.false))));
+      routed = rw (settings-view bs _ c.args.self.now c.self.view_is, count) (c.bucket_index-bucket.ensures.value ∙ ap (λ n. bucket_number c.self.inside.skipped n c.hash-hash.result) len);
+      hashed = search rules;
+      absent = search rules;
+    }
 
 pub returns-in-Ok-insert_in : goal.returns-in-Ok-insert_in
 returns-in-Ok-insert_in g c = record {

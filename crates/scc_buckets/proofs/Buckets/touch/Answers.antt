@@ -1,11 +1,11 @@
-use Rattle.std.proofs.Common.{◌++◌, [], ◌∷◌, subst, arith}
+use Rattle.std.proofs.Common.{◌++◌, [], ◌∷◌, subst, arith, rules}
 use Rattle.scc_buckets.specs.Bounded.{HasList}
 use Rattle.scc_buckets.proofs.Bounds.{has-list-of, has-list-then}
 use Rattle.scc_buckets.proofs.Latest.{stands-last}
 use Rattle.scc_buckets.proofs.Buckets.touch.Goals as goal
 
-pub push_last-requires-clause-absent : goal.push_last-requires-clause-absent
-push_last-requires-clause-absent g c = c.take_in-entry.ensures.gone
+pub push_last-requires-clause-new : goal.push_last-requires-clause-new
+push_last-requires-clause-new g c = record { within = search rules; routed = search rules; hashed = search rules; absent = c.take_in-entry.ensures.gone }
 
 pub push_last-requires-clause-short : goal.push_last-requires-clause-short
 push_last-requires-clause-short g c = c.take_in-entry.ensures.short c.requires.bounded

@@ -5,7 +5,6 @@ use Rattle.scc_common.specs.Routing.{bucket_number}
 use Rattle.scc_table.specs.Relocates.{AreMovedBeside}
 use Rattle.scc_table.specs.TwoArrays.{pending_targets}
 use Rattle.scc_table.proofs.Listed.{count-listed}
-use Rattle.scc_table.proofs.Same.{on-ok}
 use Rattle.scc_table.proofs.Targets.{by-two}
 use Rattle.scc_table.proofs.Table.insert_new.Goals as goal
 
@@ -28,12 +27,12 @@ returns-then-list_len-lt32 g c =
             doubled = λ some not_waiting full half below few down.
                 let had : HasRoomAt hk g.E.Keyed.key_of a c.args.hash = (some, omega arith) in
                 absurd (full (rw c.requires.hashed at had));
-            raised = λ low up. absurd (let z : false ≡ true = sym low ∙ sym (ap (λ (x : Bool × Bool). x.0) c.insert_and_relocate.ensures.refused) ∙ up in cc);
+            raised = λ low up. absurd (let z : false ≡ true = sym low ∙ sym (ap (λ (x : Bool × Bool). x.0) c.insert_with_room.ensures.refused) ∙ up in cc);
             unmarked = λ some not_waiting full half below.
                 let had : HasRoomAt hk g.E.Keyed.key_of a c.args.hash = (some, omega arith) in
                 absurd (full (rw c.requires.hashed at had));
-            lowered = λ up low. absurd (let z : true ≡ false = sym up ∙ sym (ap (λ (x : Bool × Bool). x.0) c.insert_and_relocate.ensures.refused) ∙ low in cc);
-            down = λ some ne. absurd (ne c.insert_and_relocate.ensures.buckets);
+            lowered = λ up low. absurd (let z : true ≡ false = sym up ∙ sym (ap (λ (x : Bool × Bool). x.0) c.insert_with_room.ensures.refused) ∙ low in cc);
+            down = λ some ne. absurd (ne c.insert_with_room.ensures.buckets);
           });
       first = (search rules);
       none = (search rules);
@@ -46,12 +45,12 @@ returns-then-list_len-lt32 g c =
       array = (search rules);
       not_waiting = (search rules);
       exact = (search rules);
-      spread = (on-ok c.insert_and_relocate.result (λ h some ne. absurd (ne c.insert_and_relocate.ensures.buckets)) c.insert_and_relocate.ensures.exact);
-      all_but_two = (on-ok c.insert_and_relocate.result (λ h some ne. absurd (ne c.insert_and_relocate.ensures.buckets)) c.insert_and_relocate.ensures.exact);
-      by_two = (on-ok c.insert_and_relocate.result (λ h some kept short. by-two c.bucket_at-bucket.result c.args.self.now c.insert_and_relocate.new.self (h short)) c.insert_and_relocate.ensures.exact);
+      spread = (λ some ne. absurd (ne c.insert_with_room.ensures.buckets));
+      all_but_two = (λ some ne. absurd (ne c.insert_with_room.ensures.buckets));
+      by_two = (λ some kept short. by-two c.bucket_at-bucket.result c.args.self.now c.insert_with_room.new.self (c.insert_with_room.ensures.exact short));
       moved = (
           let ts = pending_targets c.args.self.now in
-          on-ok c.insert_and_relocate.result (λ h some kept. subst (λ i. AreMovedBeside i ts c.insert_and_relocate.new.self) c.bucket_at-bucket.ensures.value h) c.insert_and_relocate.ensures.moved);
-      drained = (on-ok c.insert_and_relocate.result (λ h some ne. absurd (ne c.insert_and_relocate.ensures.buckets)) c.insert_and_relocate.ensures.moved);
+          λ some kept. subst (λ i. AreMovedBeside i ts c.insert_with_room.new.self) c.bucket_at-bucket.ensures.value c.insert_with_room.ensures.moved);
+      drained = (λ some ne. absurd (ne c.insert_with_room.ensures.buckets));
       unique = (search rules);
     }

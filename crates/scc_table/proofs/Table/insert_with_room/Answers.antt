@@ -1,0 +1,104 @@
+use Rattle.std.proofs.Common.{◌≡◌, ◌∙◌, ◌<◌, ◌+◌, ◌^◌, false, length, map, refl, sym, ap, subst, arith, rules, Ok}
+use Rattle.std.specs.List.{IsDistinct}
+use Rattle.scc_common.specs.Contents.{bucket_count, entries, key_hash, list_of, overflow_of, pending_of, waiting_of}
+use Rattle.scc_buckets.specs.OneList.{IsPutIn}
+use Rattle.scc_table.specs.TwoArrays.{IsTable, draining_of, pending_targets, together, waits_at}
+use Rattle.scc_table.proofs.Joining.{waiting-together}
+use Rattle.scc_table.proofs.NotWaiting.{not_waiting-all}
+use Rattle.scc_table.proofs.OldSpots.{own-list}
+use Rattle.scc_table.proofs.OneBucket.{flag-down, routed-own, within-own}
+use Rattle.scc_table.proofs.Placing.{moved-nothing, none-left, placed-at, placed-count, placed-down, placed-fewer}
+use Rattle.scc_table.proofs.PuttingLemmas.{absent-own, fields-put, put-together, unique-answered}
+use Rattle.scc_table.proofs.Same.{hash-same, pending-same}
+use Rattle.scc_table.proofs.Targets.{targets-same}
+use Rattle.scc_table.proofs.Viewed.{settings-seen, waiting-seen}
+use Rattle.scc_table.proofs.Table.insert_with_room.Goals as goal
+
+pub insert_with_room-requires-clause-within : goal.insert_with_room-requires-clause-within
+insert_with_room-requires-clause-within g c = within-own c.self.invariant c.self.view_is c.requires.within
+
+pub insert_with_room-requires-clause-routed : goal.insert_with_room-requires-clause-routed
+insert_with_room-requires-clause-routed g c = routed-own c.self.invariant _ c.self.view_is c.requires.routed
+
+pub insert_with_room-requires-clause-hashed : goal.insert_with_room-requires-clause-hashed
+insert_with_room-requires-clause-hashed g c =
+    let t = c.self.inside in
+    let cur = t.current in
+    let hk = key_hash g.H.BuildHasher g.H.Hasher.Hasher g.E.Key.Hash.hash_input cur in
+    let hash = λ (e : g.row.E.Denot). hk (g.E.Keyed.key_of e) in
+    let settings = settings-seen hash cur t.draining.waiting.items t.draining.array c.args.self.now c.self.view_is in
+    let outer = hash-same g.H.BuildHasher g.H.Hasher.Hasher g.E.Key.Hash.hash_input cur c.args.self.now settings in
+    c.requires.hashed ∙ ap (λ (h : g.row.E-Key.Denot → ℕ). h (g.E.Keyed.key_of c.args.entry)) outer
+
+pub insert_with_room-requires-clause-absent : goal.insert_with_room-requires-clause-absent
+insert_with_room-requires-clause-absent g c =
+    let t = c.self.inside in
+    let hk = key_hash g.H.BuildHasher g.H.Hasher.Hasher g.E.Key.Hash.hash_input t.current in
+    absent-own g.E.Keyed.key_of hk t.current t.draining.waiting.items t.draining.array c.self.invariant.arrays c.args.self.now c.self.view_is (λ e. g.E.Key.PartialEq.eq (g.E.Keyed.key_of c.args.entry) (g.E.Keyed.key_of e)) c.requires.absent
+
+pub insert_with_room-requires-clause-short : goal.insert_with_room-requires-clause-short
+insert_with_room-requires-clause-short g c =
+    let t = c.self.inside in
+    let cur = t.current in
+    let hk = key_hash g.H.BuildHasher g.H.Hasher.Hasher g.E.Key.Hash.hash_input cur in
+    let hash = λ (e : g.row.E.Denot). hk (g.E.Keyed.key_of e) in
+    let i = c.args.bucket in
+    let within = within-own c.self.invariant c.self.view_is c.requires.within in
+    let down = flag-down c.self.invariant i c.self.view_is (not_waiting-all c.args.self.now c.requires.none i) in
+    let own = ap length (sym (own-list hash cur t.draining.waiting.items t.draining.array c.self.invariant.arrays i within down)) ∙ ap (λ d. length (list_of d i)) c.self.view_is in
+    omega (arith, own, c.requires.short)
+
+pub invariant_of-self : goal.invariant_of-self
+invariant_of-self g c =
+    let t = c.self.inside in
+    let cur = t.current in
+    let i = c.args.bucket in
+    let inv = c.self.invariant in
+    let hk = key_hash g.H.BuildHasher g.H.Hasher.Hasher g.E.Key.Hash.hash_input cur in
+    let within = within-own inv c.self.view_is c.requires.within in
+    let down = flag-down inv i c.self.view_is (not_waiting-all c.args.self.now c.requires.none i) in
+    let new = c.insert_with_room.new.self in
+    let put = c.insert_with_room.ensures.exact in
+    let inner = hash-same g.H.BuildHasher g.H.Hasher.Hasher g.E.Key.Hash.hash_input cur new put.settings in
+    let left : overflow_of new + t.draining.left_overflow < 2 ^ 62 = let s = put.short (insert_with_room-requires-clause-short g c) in omega (arith, inv.few) in
+    subst (λ (h : g.row.E-Key.Denot → ℕ). IsTable g.E.Key.PartialEq.eq g.E.Keyed.key_of h new (draining_of t.draining) t.skipped) (sym inner)
+    (fields-put g.E.Key.PartialEq.eq g.met.E.Key.Eq.laws g.E.Keyed.key_of hk cur (draining_of t.draining) t.skipped inv c.args.self.now c.self.view_is c.args.entry i new c.insert_with_room.result put within down left c.requires.absent)
+
+pub returns : goal.returns
+returns g c =
+    let t = c.self.inside in
+    let cur = t.current in
+    let ws = t.draining.waiting.items in
+    let olds = t.draining.array in
+    let i = c.args.bucket in
+    let inv = c.self.invariant in
+    let a = c.args.self.now in
+    let view = c.self.view_is in
+    let key = g.E.Keyed.key_of in
+    let hk = key_hash g.H.BuildHasher g.H.Hasher.Hasher g.E.Key.Hash.hash_input cur in
+    let within = within-own inv view c.requires.within in
+    let free = not_waiting-all a c.requires.none i in
+    let down = flag-down inv i view free in
+    let new = c.insert_with_room.new.self in
+    let p = c.insert_with_room.result in
+    let own = c.insert_with_room.ensures.exact in
+    let inner = hash-same g.H.BuildHasher g.H.Hasher.Hasher g.E.Key.Hash.hash_input cur new own.settings in
+    let m = together (λ (e : g.row.E.Denot). key_hash g.H.BuildHasher g.H.Hasher.Hasher g.E.Key.Hash.hash_input new (key e)) new ws olds in
+    let put : IsPutIn a i c.args.entry m p = subst (λ (h : g.row.E-Key.Denot → ℕ). IsPutIn a i c.args.entry (together (λ e. h (key e)) new ws olds) p) (sym inner) (put-together key hk cur ws olds inv.arrays a view c.args.entry i new p own within down) in
+    let waiting : waiting_of m ≡ waiting_of a = waiting-together _ new ws olds ∙ sym (waiting-seen _ cur ws olds a view) in
+    let same : pending_of m ≡ pending_of a = pending-same a m waiting in
+    let left : pending_of m ≡ 0 = same ∙ c.requires.none in
+    record {
+      ok = placed-at a i c.args.entry m p put c.requires.within free waiting m refl refl (λ k up. up);
+      err = tt;
+      full = tt;
+      buckets = placed-count a i c.args.entry m p put c.requires.within free waiting m refl refl (λ k up. up);
+      refused = put.refused;
+      fewer = placed-fewer a i c.args.entry m p put c.requires.within free waiting m refl refl (λ k up. up);
+      less = omega (arith, same);
+      most = omega (arith, same);
+      not_waiting = placed-down a i c.args.entry m p put c.requires.within free waiting m refl refl (λ k up. up);
+      moved = moved-nothing i a m c.requires.none left;
+      exact = λ short. none-left i a (pending_targets m) c.requires.none (targets-same a m waiting);
+      unique = subst (λ (h : g.row.E-Key.Denot → ℕ). IsDistinct g.E.Key.PartialEq.eq (map key (entries (together (λ e. h (key e)) new ws olds)))) (sym inner) (unique-answered g.met.E.Key.Eq.laws inv view c.args.entry i new (Ok p) own tt within down c.requires.absent);
+    }
