@@ -7,6 +7,7 @@ use native.Mathlib.Decide.{dec_lt}
 use Rattle.scc_array.specs.Shelf.{Shelf, shelf_entries}
 use Rattle.scc_array.proofs.ListsLemmas.{get-index}
 use Rattle.scc_common.specs.Contents.{Contents, entries, bucket_count, list_of, lists_of, settings_of, overflow_of, owed_of, bucket_of, HasRoomBy, IsRouted}
+use Rattle.scc_buckets.specs.Insertions.{IsNewIn}
 use Rattle.scc_buckets.specs.OneList.{HasSameLists, IsPutIn}
 use Rattle.scc_common.specs.Routing.{bucket_number}
 use Rattle.scc_buckets.specs.declared.place.Place.{Place}
@@ -20,7 +21,7 @@ use Rattle.scc_table.proofs.Joining.{owed-together, lists-together, refused-toge
 use Rattle.scc_table.proofs.Noting.{lists-kept, target-kept}
 use Rattle.scc_table.proofs.OldSpots.{own-list}
 use Rattle.std.specs.Prelude.{IfOk, OnErr}
-use Rattle.scc_table.proofs.Same.{entries-same}
+use Rattle.scc_table.proofs.Same.{count-same, entries-same}
 use Rattle.scc_table.proofs.Relocated.{count-is, list-is}
 use Rattle.scc_draining.proofs.Sublists.{Sub, flat-sub}
 use Rattle.scc_table.proofs.Viewed.{count-seen, refused-seen, settings-seen, spilled-seen}
@@ -130,6 +131,31 @@ module _ {E K S : Type 0} (key : E → K) (hash : K → ℕ) (c : Contents E S) 
     }
 
 -- the invariant `IsTable` holds after the insertion
+-- a key that is new in both arrays together is new in the current array, with the same hash and bucket
+pub new-own : {E K S : Type 0} {eq : K → K → Bool} {key : E → K} {hash other : K → ℕ} {c : Contents E S} {drain : Draining E} {skipped : ℕ} (inv : IsTable eq key hash c drain skipped) {a : Contents E S} → together (λ e. hash (key e)) c drain.waiting drain.array ≡ a → other ≡ hash
+    → {i h : ℕ} {k : K} → IsNewIn eq key other a i h k → IsNewIn eq key hash c i h k
+new-own {K = K} {eq = eq} {key} {hash} {c = c} {drain} inv {a} view same {i} {h} {k} new =
+    let count = count-seen (λ e. hash (key e)) c drain.waiting drain.array a view inv.arrays.flags in
+    record {
+      within = omega (arith, new.within, count);
+      routed =
+          new.routed ∙ ap (λ s. bucket_number s.skipped (bucket_count a) h) (settings-seen (λ e. hash (key e)) c drain.waiting drain.array a view)
+          ∙ ap (λ n. bucket_number (settings_of c).skipped n h) count;
+      hashed = new.hashed ∙ ap (λ (f : K → ℕ). f k) same;
+      absent = absent-own key hash c drain.waiting drain.array inv.arrays a view (λ e. eq k (key e)) new.absent;
+    }
+
+-- a new key stays new while the lists and the settings stay
+pub new-same : {E K S : Type 0} {eq : K → K → Bool} {key : E → K} {hash other : K → ℕ} (a b : Contents E S) → lists_of b ≡ lists_of a → settings_of b ≡ settings_of a → other ≡ hash → {i h : ℕ} {k : K} → IsNewIn eq key hash a i h k → IsNewIn eq key other b i h k
+new-same {K = K} {eq = eq} {key} a b lists settings same {h = h} {k} new =
+    let count = count-same a b lists in
+    record {
+      within = omega (arith, new.within, count);
+      routed = new.routed ∙ ap (λ s. bucket_number s.skipped (bucket_count a) h) (sym settings) ∙ ap (λ n. bucket_number (settings_of b).skipped n h) (sym count);
+      hashed = new.hashed ∙ ap (λ (f : K → ℕ). f k) (sym same);
+      absent = subst (λ es. position (λ e. eq k (key e)) es ≡ None) (sym (entries-same a b lists)) new.absent;
+    }
+
 pub fields-put : {E K S : Type 0} (eq : K → K → Bool) (laws : IsEquivalence eq) (key : E → K) (hash : K → ℕ) (c : Contents E S) (drain : Draining E) (skipped : ℕ) (inv : IsTable eq key hash c drain skipped) (d : Contents E S)
     → together (λ e. hash (key e)) c drain.waiting drain.array ≡ d → (e : E) (i : ℕ) (b : Contents E S) (p : Place) → IsPutIn c i e b p → i < bucket_count c → waits_at drain.waiting i ≡ false → overflow_of b + drain.left_overflow < 2 ^ 62 → position (λ x. eq (key e) (key x)) (entries d) ≡ None
     → IsTable eq key hash b drain skipped

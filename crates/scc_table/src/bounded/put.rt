@@ -1,12 +1,13 @@
 //! Puts of entries at the end of a list of at most 32, and moves to its end. None of these calls allocates.
 ghost use Rattle.scc_buckets.specs.Bounded.{IsListed, IsBounded};
+ghost use Rattle.scc_buckets.specs.Insertions.{IsNewIn};
 ghost use Rattle.scc_common.specs.Contents.{entries, bucket_count, key_hash, settings_of, waiting_of, IsUniqueBy, list_of};
 ghost use Rattle.scc_common.specs.Routing.{bucket_number};
 ghost use Rattle.scc_table.specs.Puts.{PutsWithin, MovesToEnd, PutsAtEnd};
 ghost use Rattle.scc_table.specs.Relocates.{left_after};
 ghost use Rattle.scc_table.specs.TwoArrays.{IsRelocated, IsWaiting, pending_targets, waits_at};
-ghost use Rattle.std.specs.List.{filter, position};
-ghost use Rattle.std.specs.Prelude.{◌≡◌, ◌==◌, ◌<◌, false, drop, None, not, length, Some, slice_get};
+ghost use Rattle.std.specs.List.{filter};
+ghost use Rattle.std.specs.Prelude.{◌≡◌, ◌==◌, ◌<◌, false, drop, not, length, Some, slice_get};
 
 use crate::Table;
 use scc_common::Keyed;
@@ -41,10 +42,8 @@ where
     /// `hash`. Allocates nothing.
     #[inline(always)]
     pub fn put_within(&mut self, bucket: usize, hash: u64, entry: E) -> (Option<E>, usize)
-        requires within { bucket < bucket_count self.old }
-        requires routed { bucket ≡ bucket_number (settings_of self.old).skipped (bucket_count self.old) hash }
-        requires hashed { hash ≡ key_hash H.BuildHasher H.Hasher.Hasher E.Key.hash_input self.old (E.key_of entry) }
-        requires absent { position (λ e. E.Key.eq (E.key_of entry) (E.key_of e)) (entries self.old) ≡ None }
+        requires new { IsNewIn E.Key.eq E.key_of (key_hash H.BuildHasher H.Hasher.Hasher E.Key.hash_input self.old) self.old
+            bucket hash (E.key_of entry) }
         requires listed { IsListed (λ e. key_hash H.BuildHasher H.Hasher.Hasher E.Key.hash_input self.old
             (E.key_of e)) self.old }
         ensures { PutsWithin E.Key.eq E.key_of (key_hash H.BuildHasher H.Hasher.Hasher E.Key.hash_input) self.old
@@ -59,11 +58,9 @@ where
     /// As `put_within`, if `bucket` waits.
     #[cold]
     fn put_after_relocation(&mut self, bucket: usize, hash: u64, entry: E) -> (Option<E>, usize)
-        requires within { bucket < bucket_count self.old }
+        requires new { IsNewIn E.Key.eq E.key_of (key_hash H.BuildHasher H.Hasher.Hasher E.Key.hash_input self.old) self.old
+            bucket hash (E.key_of entry) }
         requires waits { IsWaiting self.old bucket }
-        requires routed { bucket ≡ bucket_number (settings_of self.old).skipped (bucket_count self.old) hash }
-        requires hashed { hash ≡ key_hash H.BuildHasher H.Hasher.Hasher E.Key.hash_input self.old (E.key_of entry) }
-        requires absent { position (λ e. E.Key.eq (E.key_of entry) (E.key_of e)) (entries self.old) ≡ None }
         requires listed { IsListed (λ e. key_hash H.BuildHasher H.Hasher.Hasher E.Key.hash_input self.old
             (E.key_of e)) self.old }
         ensures { PutsWithin E.Key.eq E.key_of (key_hash H.BuildHasher H.Hasher.Hasher E.Key.hash_input) self.old
@@ -82,11 +79,9 @@ where
         entry: E,
         most: usize,
     ) -> (Option<E>, usize)
-        requires within { bucket < bucket_count self.old }
+        requires new { IsNewIn E.Key.eq E.key_of (key_hash H.BuildHasher H.Hasher.Hasher E.Key.hash_input self.old) self.old
+            bucket hash (E.key_of entry) }
         requires not_waiting { waits_at (waiting_of self.old) bucket ≡ false }
-        requires routed { bucket ≡ bucket_number (settings_of self.old).skipped (bucket_count self.old) hash }
-        requires hashed { hash ≡ key_hash H.BuildHasher H.Hasher.Hasher E.Key.hash_input self.old (E.key_of entry) }
-        requires absent { position (λ e. E.Key.eq (E.key_of entry) (E.key_of e)) (entries self.old) ≡ None }
         requires listed { IsListed (λ e. key_hash H.BuildHasher H.Hasher.Hasher E.Key.hash_input self.old
             (E.key_of e)) self.old }
         ensures { PutsWithin E.Key.eq E.key_of (key_hash H.BuildHasher H.Hasher.Hasher E.Key.hash_input) self.old
@@ -102,11 +97,9 @@ where
     /// bucket of `hash`. Allocates nothing.
     #[inline(always)]
     pub fn put_last(&mut self, bucket: usize, hash: u64, entry: E) -> (Option<E>, usize)
-        requires within { bucket < bucket_count self.old }
+        requires new { IsNewIn E.Key.eq E.key_of (key_hash H.BuildHasher H.Hasher.Hasher E.Key.hash_input self.old) self.old
+            bucket hash (E.key_of entry) }
         requires not_waiting { IsWaiting self.old bucket → ⊥ }
-        requires routed { bucket ≡ bucket_number (settings_of self.old).skipped (bucket_count self.old) hash }
-        requires hashed { hash ≡ key_hash H.BuildHasher H.Hasher.Hasher E.Key.hash_input self.old (E.key_of entry) }
-        requires absent { position (λ e. E.Key.eq (E.key_of entry) (E.key_of e)) (entries self.old) ≡ None }
         requires bounded { IsBounded self.old }
         ensures { PutsAtEnd E.Key.eq E.key_of (key_hash H.BuildHasher H.Hasher.Hasher E.Key.hash_input) self.old
             bucket entry result self.new }

@@ -1,6 +1,6 @@
 //! The insertion of an entry whose key is new, from the check for a growth down to the bucket.
-ghost use Rattle.scc_common.specs.Contents.{entries, bucket_count, key_hash, list_of, pending_of, settings_of, waiting_of, HasRoomBy};
-ghost use Rattle.scc_common.specs.Routing.{bucket_number};
+ghost use Rattle.scc_buckets.specs.Insertions.{IsNewIn};
+ghost use Rattle.scc_common.specs.Contents.{entries, key_hash, list_of, pending_of, waiting_of, HasRoomBy};
 ghost use Rattle.scc_table.specs.Insertions.{InsertsAndRelocates, InsertsThenRelocates, InsertsNew};
 ghost use Rattle.scc_table.specs.Puts.{InsertsIn};
 ghost use Rattle.scc_table.specs.TwoArrays.{IsWaiting, pending_targets, waits_at};
@@ -42,10 +42,8 @@ where
     /// As `insert_and_relocate`, if no bucket waits and `bucket` holds fewer than 32 entries. Allocates nothing.
     #[inline(always)]
     pub(crate) fn insert_with_room(&mut self, bucket: usize, hash: u64, entry: E) -> Place
-        requires within { bucket < bucket_count self.old }
-        requires routed { bucket ≡ bucket_number (settings_of self.old).skipped (bucket_count self.old) hash }
-        requires hashed { hash ≡ key_hash H.BuildHasher H.Hasher.Hasher E.Key.hash_input self.old (E.key_of entry) }
-        requires absent { position (λ e. E.Key.eq (E.key_of entry) (E.key_of e)) (entries self.old) ≡ None }
+        requires new { IsNewIn E.Key.eq E.key_of (key_hash H.BuildHasher H.Hasher.Hasher E.Key.hash_input self.old) self.old
+            bucket hash (E.key_of entry) }
         requires none { pending_of self.old ≡ 0 }
         requires short { length (list_of self.old bucket) < 32 }
         ensures { InsertsAndRelocates E.Key.eq E.key_of self.old bucket entry entry ⊥ (Ok result) self.new }
@@ -76,10 +74,8 @@ where
         hash: u64,
         entry: E,
     ) -> Result<Place, E>
-        requires within { bucket < bucket_count self.old }
-        requires routed { bucket ≡ bucket_number (settings_of self.old).skipped (bucket_count self.old) hash }
-        requires hashed { hash ≡ key_hash H.BuildHasher H.Hasher.Hasher E.Key.hash_input self.old (E.key_of entry) }
-        requires absent { position (λ e. E.Key.eq (E.key_of entry) (E.key_of e)) (entries self.old) ≡ None }
+        requires { IsNewIn E.Key.eq E.key_of (key_hash H.BuildHasher H.Hasher.Hasher E.Key.hash_input self.old) self.old
+            bucket hash (E.key_of entry) }
         ensures { InsertsAndRelocates E.Key.eq E.key_of self.old bucket entry entry
             (HasRoomBy (key_hash H.BuildHasher H.Hasher.Hasher E.Key.hash_input self.old) E.key_of self.old
             (E.key_of entry) → ⊥) result self.new }
@@ -98,10 +94,8 @@ where
         hash: u64,
         entry: E,
     ) -> Result<Place, E>
-        requires within { bucket < bucket_count self.old }
-        requires routed { bucket ≡ bucket_number (settings_of self.old).skipped (bucket_count self.old) hash }
-        requires hashed { hash ≡ key_hash H.BuildHasher H.Hasher.Hasher E.Key.hash_input self.old (E.key_of entry) }
-        requires absent { position (λ e. E.Key.eq (E.key_of entry) (E.key_of e)) (entries self.old) ≡ None }
+        requires new { IsNewIn E.Key.eq E.key_of (key_hash H.BuildHasher H.Hasher.Hasher E.Key.hash_input self.old) self.old
+            bucket hash (E.key_of entry) }
         requires waits { IsWaiting self.old bucket }
         ensures { InsertsAndRelocates E.Key.eq E.key_of self.old bucket entry entry
             (HasRoomBy (key_hash H.BuildHasher H.Hasher.Hasher E.Key.hash_input self.old) E.key_of self.old
@@ -124,10 +118,8 @@ where
         entry: E,
         most: usize,
     ) -> Result<Place, E>
-        requires within { bucket < bucket_count self.old }
-        requires routed { bucket ≡ bucket_number (settings_of self.old).skipped (bucket_count self.old) hash }
-        requires hashed { hash ≡ key_hash H.BuildHasher H.Hasher.Hasher E.Key.hash_input self.old (E.key_of entry) }
-        requires absent { position (λ e. E.Key.eq (E.key_of entry) (E.key_of e)) (entries self.old) ≡ None }
+        requires new { IsNewIn E.Key.eq E.key_of (key_hash H.BuildHasher H.Hasher.Hasher E.Key.hash_input self.old) self.old
+            bucket hash (E.key_of entry) }
         requires not_waiting { waits_at (waiting_of self.old) bucket ≡ false }
         ensures { InsertsThenRelocates E.Key.eq E.key_of self.old bucket entry entry (pending_targets self.old) most most
             (HasRoomBy (key_hash H.BuildHasher H.Hasher.Hasher E.Key.hash_input self.old) E.key_of self.old
@@ -146,10 +138,8 @@ where
     /// and not wait. Fails if the bucket is full and the overflow list can't grow; then `entry` is handed back.
     #[inline(always)]
     pub fn insert_in(&mut self, bucket: usize, hash: u64, entry: E) -> Result<Place, E>
-        requires within { bucket < bucket_count self.old }
-        requires routed { bucket ≡ bucket_number (settings_of self.old).skipped (bucket_count self.old) hash }
-        requires hashed { hash ≡ key_hash H.BuildHasher H.Hasher.Hasher E.Key.hash_input self.old (E.key_of entry) }
-        requires absent { position (λ e. E.Key.eq (E.key_of entry) (E.key_of e)) (entries self.old) ≡ None }
+        requires new { IsNewIn E.Key.eq E.key_of (key_hash H.BuildHasher H.Hasher.Hasher E.Key.hash_input self.old) self.old
+            bucket hash (E.key_of entry) }
         requires not_waiting { waits_at (waiting_of self.old) bucket ≡ false }
         ensures { InsertsIn E.Key.eq E.key_of self.old bucket entry entry
             (HasRoomBy (key_hash H.BuildHasher H.Hasher.Hasher E.Key.hash_input self.old) E.key_of self.old

@@ -1,6 +1,7 @@
 //! The insertion of an entry that is made, into an array that doubles.
 ghost use Rattle.scc_array.specs.Shelf.{empty_shelf};
 ghost use Rattle.scc_buckets.specs.Pour.{bound_for};
+ghost use Rattle.scc_buckets.specs.Insertions.{IsNewIn};
 ghost use Rattle.scc_common.specs.Contents.{entries, bucket_count, key_hash, list_of, pending_of, settings_of, waiting_of};
 ghost use Rattle.scc_common.specs.Routing.{bucket_number};
 ghost use Rattle.scc_common.specs.Sizes.{IsBucketCount};
@@ -175,11 +176,8 @@ where
         hash: u64,
         parts: E::Parts,
     ) -> Result<Place, E::Parts>
-        requires within { bucket < bucket_count self.old }
-        requires routed { bucket ≡ bucket_number (settings_of self.old).skipped (bucket_count self.old) hash }
-        requires hashed { hash ≡ key_hash H.BuildHasher H.Hasher.Hasher E.Key.hash_input self.old
-            (E.key_of (E.made_of parts)) }
-        requires absent { position (λ e. E.Key.eq (E.key_of (E.made_of parts)) (E.key_of e)) (entries self.old) ≡ None }
+        requires new { IsNewIn E.Key.eq E.key_of (key_hash H.BuildHasher H.Hasher.Hasher E.Key.hash_input self.old) self.old
+            bucket hash (E.key_of (E.made_of parts)) }
         requires pending { pending_of self.old ≡ 0 }
         requires below { 32 * bucket_count self.old < 2 ^ 63 }
         requires empty { fresh ≡ replicate (2 * bucket_count self.old) empty_shelf }

@@ -1,6 +1,6 @@
 //! The insertion of an entry that is made of its parts, from the check for a growth down to the bucket.
-ghost use Rattle.scc_common.specs.Contents.{entries, bucket_count, key_hash, pending_of, settings_of, waiting_of};
-ghost use Rattle.scc_common.specs.Routing.{bucket_number};
+ghost use Rattle.scc_buckets.specs.Insertions.{IsNewIn};
+ghost use Rattle.scc_common.specs.Contents.{entries, bucket_count, key_hash, pending_of, waiting_of};
 ghost use Rattle.scc_table.specs.Insertions.{InsertsAndRelocates, InsertsThenRelocates};
 ghost use Rattle.scc_table.specs.MadeInsertions.{InsertsMade, InsertsMadeFirst, InsertsMadeFull, InsertsMadeNoted};
 ghost use Rattle.scc_table.specs.Puts.{InsertsIn};
@@ -69,11 +69,8 @@ where
         hash: u64,
         parts: E::Parts,
     ) -> Result<Place, E::Parts>
-        requires within { bucket < bucket_count self.old }
-        requires routed { bucket ≡ bucket_number (settings_of self.old).skipped (bucket_count self.old) hash }
-        requires hashed { hash ≡ key_hash H.BuildHasher H.Hasher.Hasher E.Key.hash_input self.old
-            (E.key_of (E.made_of parts)) }
-        requires absent { position (λ e. E.Key.eq (E.key_of (E.made_of parts)) (E.key_of e)) (entries self.old) ≡ None }
+        requires new { IsNewIn E.Key.eq E.key_of (key_hash H.BuildHasher H.Hasher.Hasher E.Key.hash_input self.old) self.old
+            bucket hash (E.key_of (E.made_of parts)) }
         requires pending { pending_of self.old ≡ 0 }
         ensures { InsertsMadeFull E.Key.eq E.key_of (key_hash H.BuildHasher H.Hasher.Hasher E.Key.hash_input self.old)
             self.old hash (E.made_of parts) parts result self.new }
@@ -104,11 +101,8 @@ where
         hash: u64,
         parts: E::Parts,
     ) -> Result<Place, E::Parts>
-        requires within { bucket < bucket_count self.old }
-        requires routed { bucket ≡ bucket_number (settings_of self.old).skipped (bucket_count self.old) hash }
-        requires hashed { hash ≡ key_hash H.BuildHasher H.Hasher.Hasher E.Key.hash_input self.old
-            (E.key_of (E.made_of parts)) }
-        requires absent { position (λ e. E.Key.eq (E.key_of (E.made_of parts)) (E.key_of e)) (entries self.old) ≡ None }
+        requires { IsNewIn E.Key.eq E.key_of (key_hash H.BuildHasher H.Hasher.Hasher E.Key.hash_input self.old) self.old
+            bucket hash (E.key_of (E.made_of parts)) }
         ensures { InsertsMadeNoted E.Key.eq E.key_of self.old bucket (E.made_of parts) parts result
             self.new }
     {
@@ -126,11 +120,8 @@ where
         hash: u64,
         parts: E::Parts,
     ) -> Result<Place, E::Parts>
-        requires within { bucket < bucket_count self.old }
-        requires routed { bucket ≡ bucket_number (settings_of self.old).skipped (bucket_count self.old) hash }
-        requires hashed { hash ≡ key_hash H.BuildHasher H.Hasher.Hasher E.Key.hash_input self.old
-            (E.key_of (E.made_of parts)) }
-        requires absent { position (λ e. E.Key.eq (E.key_of (E.made_of parts)) (E.key_of e)) (entries self.old) ≡ None }
+        requires { IsNewIn E.Key.eq E.key_of (key_hash H.BuildHasher H.Hasher.Hasher E.Key.hash_input self.old) self.old
+            bucket hash (E.key_of (E.made_of parts)) }
         ensures { InsertsAndRelocates E.Key.eq E.key_of self.old bucket (E.made_of parts) parts (Unit {0}) result
             self.new }
     {
@@ -148,11 +139,8 @@ where
         hash: u64,
         parts: E::Parts,
     ) -> Result<Place, E::Parts>
-        requires within { bucket < bucket_count self.old }
-        requires routed { bucket ≡ bucket_number (settings_of self.old).skipped (bucket_count self.old) hash }
-        requires hashed { hash ≡ key_hash H.BuildHasher H.Hasher.Hasher E.Key.hash_input self.old
-            (E.key_of (E.made_of parts)) }
-        requires absent { position (λ e. E.Key.eq (E.key_of (E.made_of parts)) (E.key_of e)) (entries self.old) ≡ None }
+        requires new { IsNewIn E.Key.eq E.key_of (key_hash H.BuildHasher H.Hasher.Hasher E.Key.hash_input self.old) self.old
+            bucket hash (E.key_of (E.made_of parts)) }
         requires waits { IsWaiting self.old bucket }
         ensures { InsertsAndRelocates E.Key.eq E.key_of self.old bucket (E.made_of parts) parts (Unit {0}) result
             self.new }
@@ -174,11 +162,8 @@ where
         parts: E::Parts,
         most: usize,
     ) -> Result<Place, E::Parts>
-        requires within { bucket < bucket_count self.old }
-        requires routed { bucket ≡ bucket_number (settings_of self.old).skipped (bucket_count self.old) hash }
-        requires hashed { hash ≡ key_hash H.BuildHasher H.Hasher.Hasher E.Key.hash_input self.old
-            (E.key_of (E.made_of parts)) }
-        requires absent { position (λ e. E.Key.eq (E.key_of (E.made_of parts)) (E.key_of e)) (entries self.old) ≡ None }
+        requires new { IsNewIn E.Key.eq E.key_of (key_hash H.BuildHasher H.Hasher.Hasher E.Key.hash_input self.old) self.old
+            bucket hash (E.key_of (E.made_of parts)) }
         requires not_waiting { waits_at (waiting_of self.old) bucket ≡ false }
         ensures { InsertsThenRelocates E.Key.eq E.key_of self.old bucket (E.made_of parts) parts
             (pending_targets self.old) most most (Unit {0}) result self.new }
@@ -202,11 +187,8 @@ where
         hash: u64,
         parts: E::Parts,
     ) -> Result<Place, E::Parts>
-        requires within { bucket < bucket_count self.old }
-        requires routed { bucket ≡ bucket_number (settings_of self.old).skipped (bucket_count self.old) hash }
-        requires hashed { hash ≡ key_hash H.BuildHasher H.Hasher.Hasher E.Key.hash_input self.old
-            (E.key_of (E.made_of parts)) }
-        requires absent { position (λ e. E.Key.eq (E.key_of (E.made_of parts)) (E.key_of e)) (entries self.old) ≡ None }
+        requires new { IsNewIn E.Key.eq E.key_of (key_hash H.BuildHasher H.Hasher.Hasher E.Key.hash_input self.old) self.old
+            bucket hash (E.key_of (E.made_of parts)) }
         requires not_waiting { waits_at (waiting_of self.old) bucket ≡ false }
         ensures { InsertsIn E.Key.eq E.key_of self.old bucket (E.made_of parts) parts (Unit {0}) result
             self.new }

@@ -15,31 +15,22 @@ use Rattle.scc_cache.specs.ListSteps.{PutsPair}
 use Rattle.scc_cache.proofs.Relocations.{put-relocates}
 use Rattle.scc_cache.proofs.Owned.put_at.Goals as goal
 
-pub put_within-evicted-requires-clause-within : goal.put_within-evicted-requires-clause-within
-put_within-evicted-requires-clause-within g c =
-    let n = count-same c.bucket_within.new.self c.drop_mark_within.new.self c.drop_mark_within.ensures.lists in
-    omega (arith, c.in-Ok.ensures.within)
-
-pub put_within-evicted-requires-clause-routed : goal.put_within-evicted-requires-clause-routed
-put_within-evicted-requires-clause-routed g c =
+pub put_within-evicted-requires-clause-new : goal.put_within-evicted-requires-clause-new
+put_within-evicted-requires-clause-new g c =
     let m = c.bucket_within.new.self in
     let u = c.drop_mark_within.new.self in
-    let n = count-same m u c.drop_mark_within.ensures.lists in
-    c.in-Ok.ensures.routed ∙ ap (λ s. bucket_number s.skipped (bucket_count m) c.args.hash) (sym c.drop_mark_within.ensures.settings) ∙ ap (λ k. bucket_number (settings_of u).skipped k c.args.hash) (sym n)
-
-pub put_within-evicted-requires-clause-hashed : goal.put_within-evicted-requires-clause-hashed
-put_within-evicted-requires-clause-hashed g c =
-    let t = c.self.inside.table in
-    let u = c.drop_mark_within.new.self in
+    let r = c.drop_mark_within.ensures in
+    let n = count-same m u r.lists in
     let hashed = rw (← c.self.view_is) at c.requires.hashed in
-    hashed ∙ ap (λ s. hash_of g.H.BuildHasher g.H.Hasher.Hasher s.hasher (g.K.Hash.hash_input c.args.k)) (sym (c.drop_mark_within.ensures.settings ∙ c.bucket_within.ensures.settings))
-
-pub put_within-evicted-requires-clause-absent : goal.put_within-evicted-requires-clause-absent
-put_within-evicted-requires-clause-absent g c =
-    let m = c.bucket_within.new.self in
     let lacking = rw (← c.self.view_is) at c.requires.lacking in
-    ap (position (λ (e : g.row.K.Denot × g.row.V.Denot). g.K.PartialEq.eq c.args.k e.0)) (entries-same m c.drop_mark_within.new.self c.drop_mark_within.ensures.lists)
-    ∙ absent-permuted (λ e. g.K.PartialEq.eq c.args.k e.0) (entries c.self.inside.table) (entries m) c.bucket_within.ensures.same lacking.all
+    record {
+      within = omega (arith, c.in-Ok.ensures.within, n);
+      routed = c.in-Ok.ensures.routed ∙ ap (λ s. bucket_number s.skipped (bucket_count m) c.args.hash) (sym r.settings) ∙ ap (λ k. bucket_number (settings_of u).skipped k c.args.hash) (sym n);
+      hashed = hashed ∙ ap (λ s. hash_of g.H.BuildHasher g.H.Hasher.Hasher s.hasher (g.K.Hash.hash_input c.args.k)) (sym (r.settings ∙ c.bucket_within.ensures.settings));
+      absent =
+          ap (position (λ (e : g.row.K.Denot × g.row.V.Denot). g.K.PartialEq.eq c.args.k e.0)) (entries-same m u r.lists)
+          ∙ absent-permuted (λ e. g.K.PartialEq.eq c.args.k e.0) (entries c.self.inside.table) (entries m) c.bucket_within.ensures.same lacking.all;
+    }
 
 pub invariant_of-self : goal.invariant_of-self
 invariant_of-self g c =

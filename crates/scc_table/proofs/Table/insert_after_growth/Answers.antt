@@ -15,9 +15,14 @@ use Rattle.scc_table.proofs.InstallingLemmas.{count-up}
 use Rattle.scc_table.proofs.Targets.{all-but-two, by-two, targets-all, targets-same}
 use Rattle.scc_table.proofs.Table.insert_after_growth.Goals as goal
 
-pub insert_and_relocate-requires-clause-absent : goal.insert_and_relocate-requires-clause-absent
-insert_and_relocate-requires-clause-absent g c =
-    absent-permuted _ (entries c.args.self.now) (entries c.bucket_for_new.new.self) (rests-resizes c.args.self.now c.bucket_for_new.new.self c.bucket_for_new.ensures.rests).same c.requires.absent
+pub insert_and_relocate-requires : goal.insert_and_relocate-requires
+insert_and_relocate-requires g c =
+    record {
+      within = search rules;
+      routed = search rules;
+      hashed = search rules;
+      absent = absent-permuted _ (entries c.args.self.now) (entries c.bucket_for_new.new.self) (rests-resizes c.args.self.now c.bucket_for_new.new.self c.bucket_for_new.ensures.rests).same c.requires.absent;
+    }
 
 pub returns-in-Ok : goal.returns-in-Ok
 returns-in-Ok g c =

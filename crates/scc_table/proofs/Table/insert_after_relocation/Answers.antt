@@ -5,21 +5,11 @@ use Rattle.scc_common.specs.Routing.{bucket_number}
 use Rattle.scc_table.specs.TwoArrays.{pending_targets}
 use Rattle.scc_table.proofs.Placing.{long-none, moved-relocated, relocated-fewer, relocated-inserted, relocated-left, relocated-short, room-same}
 use Rattle.scc_table.proofs.Same.{count-same, entries-same, hash-same, if-err, if-ok, on-err, on-ok}
+use Rattle.scc_table.proofs.PuttingLemmas.{new-same}
 use Rattle.scc_table.proofs.Table.insert_after_relocation.Goals as goal
 
-pub insert_then_relocate-requires-clause-within : goal.insert_then_relocate-requires-clause-within
-insert_then_relocate-requires-clause-within g c = let n = count-same c.args.self.now c.relocate.new.self c.in-Ok.ensures.ok.lists in omega (arith, c.requires.within)
-
-pub insert_then_relocate-requires-clause-routed : goal.insert_then_relocate-requires-clause-routed
-insert_then_relocate-requires-clause-routed g c =
-    let a = c.args.self.now in
-    let b = c.relocate.new.self in
-    let r = c.in-Ok.ensures.ok in
-    c.requires.routed ∙ ap (λ s. bucket_number s.skipped (bucket_count a) c.args.hash) (sym r.settings) ∙ ap (λ n. bucket_number (settings_of b).skipped n c.args.hash) (sym (count-same a b r.lists))
-
-pub insert_then_relocate-requires-clause-absent : goal.insert_then_relocate-requires-clause-absent
-insert_then_relocate-requires-clause-absent g c =
-    subst (λ es. position (λ e. g.E.Key.PartialEq.eq (g.E.Keyed.key_of c.args.entry) (g.E.Keyed.key_of e)) es ≡ None) (sym (entries-same c.args.self.now c.relocate.new.self c.in-Ok.ensures.ok.lists)) c.requires.absent
+pub insert_then_relocate-requires-clause-new : goal.insert_then_relocate-requires-clause-new
+insert_then_relocate-requires-clause-new g c = new-same c.args.self.now c.relocate.new.self c.in-Ok.ensures.ok.lists c.in-Ok.ensures.ok.settings (hash-same g.H.BuildHasher g.H.Hasher.Hasher g.E.Key.Hash.hash_input c.args.self.now c.relocate.new.self c.in-Ok.ensures.ok.settings) c.requires.new
 
 pub returns-in-Ok : goal.returns-in-Ok
 returns-in-Ok g c =
@@ -56,9 +46,9 @@ returns-in-Err g c =
           let a = c.args.self.now in
           let ha = key_hash g.H.BuildHasher g.H.Hasher.Hasher g.E.Key.Hash.hash_input a in
           let k = g.E.Keyed.key_of c.args.entry in
-          let at = c.requires.routed ∙ ap (bucket_number (settings_of a).skipped (bucket_count a)) c.requires.hashed in
+          let at = c.requires.new.routed ∙ ap (bucket_number (settings_of a).skipped (bucket_count a)) c.requires.new.hashed in
           let long : 32 ≤ length (list_of a c.args.bucket) = omega (arith, c.in-Err.ensures.refused) in
-          long-none g.E.Keyed.key_of ha a c.list_facts.ensures.routed k c.args.bucket c.requires.within at long);
+          long-none g.E.Keyed.key_of ha a c.list_facts.ensures.routed k c.args.bucket c.requires.new.within at long);
       buckets = (search rules);
       refused = (search rules);
       fewer = (search rules);

@@ -12,23 +12,21 @@ use Rattle.scc_table.proofs.Listed.{count-listed}
 use Rattle.scc_table.proofs.Same.{entries-same, hash-same, pending-same, regrouped-same}
 use Rattle.scc_table.proofs.Table.insert_grown.Goals as goal
 
-pub insert_and_relocate-requires-clause-within : goal.insert_and_relocate-requires-clause-within
-insert_and_relocate-requires-clause-within g c =
+pub insert_and_relocate-requires : goal.insert_and_relocate-requires
+insert_and_relocate-requires g c =
     let a = c.args.self.now in
     let b = c.install.new.self in
     let d = c.note.new.self in
     let hash = λ (e : g.row.E.Denot). key_hash g.H.BuildHasher g.H.Hasher.Hasher g.E.Key.Hash.hash_input a (g.E.Keyed.key_of e) in
     let reg = regrouped-same hash c.args.count a b d c.note.ensures.lists c.note.ensures.settings c.install.ensures.lists in
     let n = reg.count in
-    c.bucket_at-bucket.ensures.within (omega (arith, c.requires.some, c.requires.more))
-
-pub insert_and_relocate-requires-clause-absent : goal.insert_and_relocate-requires-clause-absent
-insert_and_relocate-requires-clause-absent g c =
-    let a = c.args.self.now in
-    let b = c.install.new.self in
-    let d = c.note.new.self in
     let perm = subst (λ es. IsPermutation (entries a) es) (sym (entries-same b d c.note.ensures.lists)) c.install.ensures.same in
-    absent-permuted _ (entries a) (entries d) perm c.requires.absent
+    record {
+      within = c.bucket_at-bucket.ensures.within (omega (arith, c.requires.some, c.requires.more));
+      routed = search rules;
+      hashed = search rules;
+      absent = absent-permuted _ (entries a) (entries d) perm c.requires.absent;
+    }
 
 pub unreachable-requires : goal.unreachable-requires
 unreachable-requires g c =

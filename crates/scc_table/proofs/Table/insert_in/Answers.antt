@@ -6,16 +6,23 @@ use Rattle.scc_common.specs.Routing.{bucket_number}
 use Rattle.scc_table.specs.TwoArrays.{draining_of, IsTable, together}
 use Rattle.scc_table.proofs.Joining.{waiting-together}
 use Rattle.scc_table.proofs.Noting.{fields-less, owed-kept}
-use Rattle.scc_table.proofs.PuttingLemmas.{unique-answered, absent-own, fields-put, owed-put, long-full, put-together, room-own, same-together}
+use Rattle.scc_table.proofs.PuttingLemmas.{unique-answered, absent-own, fields-put, owed-put, long-full, put-together, room-own, same-together, new-own}
 use Rattle.scc_table.proofs.Same.{by-answer, hash-same, if-ok, on-err}
 use Rattle.scc_table.proofs.Viewed.{settings-seen, waiting-seen}
 use Rattle.scc_table.proofs.OneBucket.{flag-down, routed-own, within-own}
 use Rattle.scc_table.proofs.Table.insert_in.Goals as goal
 use Rattle.scc_table.proofs.Table.insert_in.Goals.{then-self-gt0+else-is_overflow_full, else-self-gt0}
 
+pub insert_in-placed-requires : goal.insert_in-placed-requires
+insert_in-placed-requires g c =
+    let t = c.self.inside in
+    let hash = λ (e : g.row.E.Denot). key_hash g.H.BuildHasher g.H.Hasher.Hasher g.E.Key.Hash.hash_input t.current (g.E.Keyed.key_of e) in
+    let settings = settings-seen hash t.current t.draining.waiting.items t.draining.array c.args.self.now c.self.view_is in
+    new-own c.self.invariant c.self.view_is (hash-same g.H.BuildHasher g.H.Hasher.Hasher g.E.Key.Hash.hash_input t.current c.args.self.now settings) c.requires.new
+
 pub list_len-listed-requires : goal.list_len-listed-requires
 list_len-listed-requires g c =
-    let within = within-own c.self.invariant c.self.view_is c.requires.within in
+    let within = within-own c.self.invariant c.self.view_is c.requires.new.within in
     within
 
 pub returns-then-is_overflow_full : goal.returns-then-is_overflow_full
@@ -36,10 +43,10 @@ returns-then-is_overflow_full g c =
           let view = c.self.view_is in
           let settings = settings-seen hash cur ws olds c.args.self.now view in
           let outer = hash-same g.H.BuildHasher g.H.Hasher.Hasher g.E.Key.Hash.hash_input cur c.args.self.now settings in
-          let within = within-own c.self.invariant c.self.view_is c.requires.within in
+          let within = within-own c.self.invariant c.self.view_is c.requires.new.within in
           let down = flag-down c.self.invariant _ c.self.view_is c.requires.not_waiting in
-          let routed = routed-own c.self.invariant _ c.self.view_is c.requires.routed in
-          let hashed : c.args.hash ≡ hk (g.E.Keyed.key_of c.args.entry) = c.requires.hashed ∙ ap (λ (h : g.row.E-Key.Denot → ℕ). h (g.E.Keyed.key_of c.args.entry)) outer in
+          let routed = routed-own c.self.invariant _ c.self.view_is c.requires.new.routed in
+          let hashed : c.args.hash ≡ hk (g.E.Keyed.key_of c.args.entry) = c.requires.new.hashed ∙ ap (λ (h : g.row.E-Key.Denot → ℕ). h (g.E.Keyed.key_of c.args.entry)) outer in
           let long : 32 ≤ length (list_of cur i) = omega (arith, c.if-is_overflow_full.ensures.full, c.list_len-listed.ensures) in
           let at : i ≡ bucket_number (settings_of cur).skipped (bucket_count cur) (hk (g.E.Keyed.key_of c.args.entry)) = routed ∙ ap (bucket_number (settings_of cur).skipped (bucket_count cur)) hashed in
           subst (λ (h : g.row.E-Key.Denot → ℕ). HasRoomBy h g.E.Keyed.key_of c.args.self.now (g.E.Keyed.key_of c.args.entry) → ⊥) (sym outer)
@@ -48,41 +55,6 @@ returns-then-is_overflow_full g c =
       owed = (search rules);
       unique = (search rules);
     }
-
-pub insert_in-placed-requires-clause-within : goal.insert_in-placed-requires-clause-within
-insert_in-placed-requires-clause-within g c =
-    let within = within-own c.self.invariant c.self.view_is c.requires.within in
-    within
-
-pub insert_in-placed-requires-clause-routed : goal.insert_in-placed-requires-clause-routed
-insert_in-placed-requires-clause-routed g c =
-    let routed = routed-own c.self.invariant _ c.self.view_is c.requires.routed in
-    routed
-
-pub insert_in-placed-requires-clause-hashed : goal.insert_in-placed-requires-clause-hashed
-insert_in-placed-requires-clause-hashed g c =
-    let t = c.self.inside in
-    let cur = t.current in
-    let ws = t.draining.waiting.items in
-    let olds = t.draining.array in
-    let hk = key_hash g.H.BuildHasher g.H.Hasher.Hasher g.E.Key.Hash.hash_input cur in
-    let hash = λ (e : g.row.E.Denot). hk (g.E.Keyed.key_of e) in
-    let view = c.self.view_is in
-    let settings = settings-seen hash cur ws olds c.args.self.now view in
-    let outer = hash-same g.H.BuildHasher g.H.Hasher.Hasher g.E.Key.Hash.hash_input cur c.args.self.now settings in
-    let hashed : c.args.hash ≡ hk (g.E.Keyed.key_of c.args.entry) = c.requires.hashed ∙ ap (λ (h : g.row.E-Key.Denot → ℕ). h (g.E.Keyed.key_of c.args.entry)) outer in
-    hashed
-
-pub insert_in-placed-requires-clause-absent : goal.insert_in-placed-requires-clause-absent
-insert_in-placed-requires-clause-absent g c =
-    let t = c.self.inside in
-    let cur = t.current in
-    let ws = t.draining.waiting.items in
-    let olds = t.draining.array in
-    let inv = c.self.invariant in
-    let hk = key_hash g.H.BuildHasher g.H.Hasher.Hasher g.E.Key.Hash.hash_input cur in
-    let view = c.self.view_is in
-    absent-own g.E.Keyed.key_of hk cur ws olds inv.arrays c.args.self.now view (λ e. g.E.Key.PartialEq.eq (g.E.Keyed.key_of c.args.entry) (g.E.Keyed.key_of e)) c.requires.absent
 
 pub invariant_of-self : goal.invariant_of-self
 invariant_of-self g c =
@@ -97,7 +69,7 @@ invariant_of-self g c =
     let view = c.self.view_is in
     let settings = settings-seen hash cur ws olds c.args.self.now view in
     let outer = hash-same g.H.BuildHasher g.H.Hasher.Hasher g.E.Key.Hash.hash_input cur c.args.self.now settings in
-    let within = within-own c.self.invariant c.self.view_is c.requires.within in
+    let within = within-own c.self.invariant c.self.view_is c.requires.new.within in
     let down = flag-down c.self.invariant _ c.self.view_is c.requires.not_waiting in
     let new = c.insert_in-placed.new.self in
     let after : settings_of new ≡ settings_of cur = by-answer c.insert_in-placed.result c.insert_in-placed.ensures.exact c.insert_in-placed.ensures.stays (λ p put. put.settings) (λ z. z.settings) in
@@ -115,7 +87,7 @@ invariant_of-self g c =
           ]
       | else-self-gt0 w ↦ let z = w.if-self-gt0.false in omega (arith, few.value, few.most)
     ] in
-    fields-put g.E.Key.PartialEq.eq g.met.E.Key.Eq.laws g.E.Keyed.key_of hk cur (draining_of t.draining) t.skipped inv c.args.self.now view c.args.entry i new p put within down left c.requires.absent)
+    fields-put g.E.Key.PartialEq.eq g.met.E.Key.Eq.laws g.E.Keyed.key_of hk cur (draining_of t.draining) t.skipped inv c.args.self.now view c.args.entry i new p put within down left c.requires.new.absent)
     (λ z. fields-less g.E.Key.PartialEq.eq g.E.Keyed.key_of hk cur new (draining_of t.draining) t.skipped z.lists (ap (λ s. s.skipped) z.settings) z.spilled inv) in
     subst (λ (h : g.row.E-Key.Denot → ℕ). IsTable g.E.Key.PartialEq.eq g.E.Keyed.key_of h new (draining_of t.draining) t.skipped) (sym inner) there
 
@@ -132,7 +104,7 @@ returns g c =
     let view = c.self.view_is in
     let settings = settings-seen hash cur ws olds c.args.self.now view in
     let outer = hash-same g.H.BuildHasher g.H.Hasher.Hasher g.E.Key.Hash.hash_input cur c.args.self.now settings in
-    let within = within-own c.self.invariant c.self.view_is c.requires.within in
+    let within = within-own c.self.invariant c.self.view_is c.requires.new.within in
     let down = flag-down c.self.invariant _ c.self.view_is c.requires.not_waiting in
     let new = c.insert_in-placed.new.self in
     let after : settings_of new ≡ settings_of cur = by-answer c.insert_in-placed.result c.insert_in-placed.ensures.exact c.insert_in-placed.ensures.stays (λ p put. put.settings) (λ z. z.settings) in
@@ -159,5 +131,5 @@ returns g c =
           subst (λ (h : g.row.E-Key.Denot → ℕ). owed_of (together (λ e. h (g.E.Keyed.key_of e)) new ws olds) ≡ owed_of c.args.self.now) (sym inner) there);
       unique = (
           subst (λ (h : g.row.E-Key.Denot → ℕ). IsDistinct g.E.Key.PartialEq.eq (map g.E.Keyed.key_of (entries (together (λ e. h (g.E.Keyed.key_of e)) new ws olds)))) (sym inner)
-          (unique-answered g.met.E.Key.Eq.laws inv view c.args.entry i new c.insert_in-placed.result c.insert_in-placed.ensures.exact c.insert_in-placed.ensures.stays within down c.requires.absent));
+          (unique-answered g.met.E.Key.Eq.laws inv view c.args.entry i new c.insert_in-placed.result c.insert_in-placed.ensures.exact c.insert_in-placed.ensures.stays within down c.requires.new.absent));
     }

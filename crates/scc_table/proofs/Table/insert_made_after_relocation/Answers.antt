@@ -4,22 +4,12 @@ use Rattle.scc_common.specs.Contents.{bucket_count, settings_of}
 use Rattle.scc_common.specs.Routing.{bucket_number}
 use Rattle.scc_table.specs.TwoArrays.{pending_targets}
 use Rattle.scc_table.proofs.Placing.{moved-relocated, relocated-fewer, relocated-inserted, relocated-left, relocated-short}
-use Rattle.scc_table.proofs.Same.{count-same, entries-same, if-err, if-ok, on-ok}
+use Rattle.scc_table.proofs.Same.{count-same, entries-same, if-err, if-ok, on-ok, hash-same}
+use Rattle.scc_table.proofs.PuttingLemmas.{new-same}
 use Rattle.scc_table.proofs.Table.insert_made_after_relocation.Goals as goal
 
-pub insert_made_then_relocate-requires-clause-within : goal.insert_made_then_relocate-requires-clause-within
-insert_made_then_relocate-requires-clause-within g c = let n = count-same c.args.self.now c.relocate.new.self c.in-Ok.ensures.ok.lists in omega (arith, c.requires.within)
-
-pub insert_made_then_relocate-requires-clause-routed : goal.insert_made_then_relocate-requires-clause-routed
-insert_made_then_relocate-requires-clause-routed g c =
-    let a = c.args.self.now in
-    let b = c.relocate.new.self in
-    let r = c.in-Ok.ensures.ok in
-    c.requires.routed ∙ ap (λ s. bucket_number s.skipped (bucket_count a) c.args.hash) (sym r.settings) ∙ ap (λ n. bucket_number (settings_of b).skipped n c.args.hash) (sym (count-same a b r.lists))
-
-pub insert_made_then_relocate-requires-clause-absent : goal.insert_made_then_relocate-requires-clause-absent
-insert_made_then_relocate-requires-clause-absent g c =
-    subst (λ es. position (λ e. g.E.Key.PartialEq.eq (g.E.Keyed.key_of (g.E.Made.made_of c.args.parts)) (g.E.Keyed.key_of e)) es ≡ None) (sym (entries-same c.args.self.now c.relocate.new.self c.in-Ok.ensures.ok.lists)) c.requires.absent
+pub insert_made_then_relocate-requires-clause-new : goal.insert_made_then_relocate-requires-clause-new
+insert_made_then_relocate-requires-clause-new g c = new-same c.args.self.now c.relocate.new.self c.in-Ok.ensures.ok.lists c.in-Ok.ensures.ok.settings (hash-same g.H.BuildHasher g.H.Hasher.Hasher g.E.Key.Hash.hash_input c.args.self.now c.relocate.new.self c.in-Ok.ensures.ok.settings) c.requires.new
 
 pub returns-in-Ok : goal.returns-in-Ok
 returns-in-Ok g c =

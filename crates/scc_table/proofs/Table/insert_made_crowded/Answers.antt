@@ -18,7 +18,7 @@ double_around-requires-clause-within g c =
     let p = c.in-Ok.place in
     let e = g.E.Made.made_of c.args.parts in
     let put = c.in-Ok.ensures.exact in
-    let l = c.requires.within in
+    let l = c.requires.new.within in
     let counted = put-count a i e m p put l in
     omega (arith, put.bucket)
 
@@ -30,7 +30,7 @@ double_around-requires-clause-slot g c =
     let p = c.in-Ok.place in
     let e = g.E.Made.made_of c.args.parts in
     let put = c.in-Ok.ensures.exact in
-    let l = c.requires.within in
+    let l = c.requires.new.within in
     let w = put-within a i e m p put l in w.slot
 
 pub double_around-requires-clause-hashed : goal.double_around-requires-clause-hashed
@@ -41,13 +41,13 @@ double_around-requires-clause-hashed g c =
     let p = c.in-Ok.place in
     let e = g.E.Made.made_of c.args.parts in
     let put = c.in-Ok.ensures.exact in
-    let l = c.requires.within in
+    let l = c.requires.new.within in
     let counted = put-count a i e m p put l in
     let outer = hash-same g.H.BuildHasher g.H.Hasher.Hasher g.E.Key.Hash.hash_input a m put.settings in
     λ x got.
     let same : Some x ≡ Some e = sym got ∙ put-here a i e m p put l in
     let here : x ≡ e = cc in
-    c.requires.hashed ∙ ap (λ (h : g.row.E-Key.Denot → ℕ). h (g.E.Keyed.key_of e)) (sym outer) ∙ ap (λ z. key_hash g.H.BuildHasher g.H.Hasher.Hasher g.E.Key.Hash.hash_input m (g.E.Keyed.key_of z)) (sym here)
+    c.requires.new.hashed ∙ ap (λ (h : g.row.E-Key.Denot → ℕ). h (g.E.Keyed.key_of e)) (sym outer) ∙ ap (λ z. key_hash g.H.BuildHasher g.H.Hasher.Hasher g.E.Key.Hash.hash_input m (g.E.Keyed.key_of z)) (sym here)
 
 pub double_around-requires-clause-pending : goal.double_around-requires-clause-pending
 double_around-requires-clause-pending g c =
@@ -61,7 +61,7 @@ double_around-requires-clause-below g c =
     let p = c.in-Ok.place in
     let e = g.E.Made.made_of c.args.parts in
     let put = c.in-Ok.ensures.exact in
-    let l = c.requires.within in
+    let l = c.requires.new.within in
     let counted = put-count a i e m p put l in
     omega (arith, c.requires.below)
 
@@ -73,7 +73,7 @@ returns-in-Ok g c =
     let p = c.in-Ok.place in
     let e = g.E.Made.made_of c.args.parts in
     let put = c.in-Ok.ensures.exact in
-    let l = c.requires.within in
+    let l = c.requires.new.within in
     let d = c.double_around.new.self in
     let q = c.double_around.result in
     let r = c.double_around.ensures in
@@ -91,10 +91,10 @@ returns-in-Ok g c =
           let counted = put-count a i e m p put l in
           λ down. r.doubled (r.due down) ∙ ap (λ n. 2 * n) counted);
       lowered = (
-          let counted = put-count c.args.self.now c.args.bucket (g.E.Made.made_of c.args.parts) c.insert_made_in.new.self c.in-Ok.place c.in-Ok.ensures.exact c.requires.within in
+          let counted = put-count c.args.self.now c.args.bucket (g.E.Made.made_of c.args.parts) c.insert_made_in.new.self c.in-Ok.place c.in-Ok.ensures.exact c.requires.new.within in
           λ up low z. c.double_around.ensures.due low (z ∙ sym counted));
       fallen = (
-          let counted = put-count c.args.self.now c.args.bucket (g.E.Made.made_of c.args.parts) c.insert_made_in.new.self c.in-Ok.place c.in-Ok.ensures.exact c.requires.within in
+          let counted = put-count c.args.self.now c.args.bucket (g.E.Made.made_of c.args.parts) c.insert_made_in.new.self c.in-Ok.place c.in-Ok.ensures.exact c.requires.new.within in
           λ ne. c.double_around.ensures.down (λ z. ne (z ∙ counted)));
       unmarked = (search rules);
       none = (
@@ -108,7 +108,7 @@ returns-in-Ok g c =
           let hash = λ (x : g.row.E.Denot). key_hash g.H.BuildHasher g.H.Hasher.Hasher g.E.Key.Hash.hash_input a (g.E.Keyed.key_of x) in
           let same = hash-same g.H.BuildHasher g.H.Hasher.Hasher g.E.Key.Hash.hash_input a m put.settings in
           λ ne short.
-          let few : AreShortBut hash (bucket_count d) q.bucket m = around-short a i e m p put l hash (bucket_count d) q.bucket (at ∙ ap (bucket_number (settings_of a).skipped (bucket_count d)) c.requires.hashed) short in
+          let few : AreShortBut hash (bucket_count d) q.bucket m = around-short a i e m p put l hash (bucket_count d) q.bucket (at ∙ ap (bucket_number (settings_of a).skipped (bucket_count d)) c.requires.new.hashed) short in
           r.spread (λ z. ne (z ∙ counted)) (subst (λ (h : g.row.E-Key.Denot → ℕ). AreShortBut (λ x. h (g.E.Keyed.key_of x)) (bucket_count d) q.bucket m) (sym same) few) ∙ ap (λ z. left_after z (range_with_len 0 (bucket_count d))) at);
       drained = (
           let counted = put-count a i e m p put l in
@@ -146,10 +146,10 @@ insert_made_in-requires-clause-not_waiting g c = not_waiting-all c.args.self.now
 
 pub double_around-requires-clause-empty : goal.double_around-requires-clause-empty
 double_around-requires-clause-empty g c =
-    let counted = put-count c.args.self.now c.args.bucket (g.E.Made.made_of c.args.parts) c.insert_made_in.new.self c.in-Ok.place c.in-Ok.ensures.exact c.requires.within in
+    let counted = put-count c.args.self.now c.args.bucket (g.E.Made.made_of c.args.parts) c.insert_made_in.new.self c.in-Ok.place c.in-Ok.ensures.exact c.requires.new.within in
     rw counted c.requires.empty
 
 pub double_around-requires-clause-flags : goal.double_around-requires-clause-flags
 double_around-requires-clause-flags g c =
-    let counted = put-count c.args.self.now c.args.bucket (g.E.Made.made_of c.args.parts) c.insert_made_in.new.self c.in-Ok.place c.in-Ok.ensures.exact c.requires.within in
+    let counted = put-count c.args.self.now c.args.bucket (g.E.Made.made_of c.args.parts) c.insert_made_in.new.self c.in-Ok.place c.in-Ok.ensures.exact c.requires.new.within in
     rw counted c.requires.flags

@@ -17,7 +17,7 @@ is_crowded-requires-clause-not_waiting g c =
 
 pub insert_made_grown-requires-clause-array : goal.insert_made_grown-requires-clause-array
 insert_made_grown-requires-clause-array g c =
-    double-array c.bucket_count-count.result c.bucket_count-count.ensures.lawful (omega (arith, c.requires.within, c.bucket_count-count.ensures.count)) (omega arith)
+    double-array c.bucket_count-count.result c.bucket_count-count.ensures.lawful (omega (arith, c.requires.new.within, c.bucket_count-count.ensures.count)) (omega arith)
 
 pub returns-then-is_crowded : goal.returns-then-is_crowded
 returns-then-is_crowded g c =
@@ -26,7 +26,7 @@ returns-then-is_crowded g c =
       err = (search rules);
       growth = (
           record {
-            first = λ none ne. absurd (omega (arith, c.requires.within));
+            first = λ none ne. absurd (omega (arith, c.requires.new.within));
             half = λ some ne. omega (arith, c.bucket_count-count.ensures.count, c.len-length.ensures.len);
             below = λ some ne. omega (arith, c.bucket_count-count.ensures.count);
             doubled = λ some ne. c.insert_made_crowded.ensures.doubled ne;
@@ -49,7 +49,7 @@ returns-then-is_crowded g c =
 
 pub fresh_waiting-requires : goal.fresh_waiting-requires
 fresh_waiting-requires g c =
-    (double-array c.bucket_count-count.result c.bucket_count-count.ensures.lawful (omega (arith, c.requires.within, c.bucket_count-count.ensures.count)) (omega arith)).most
+    (double-array c.bucket_count-count.result c.bucket_count-count.ensures.lawful (omega (arith, c.requires.new.within, c.bucket_count-count.ensures.count)) (omega arith)).most
 
 pub returns-else-is_crowded : goal.returns-else-is_crowded
 returns-else-is_crowded g c =
@@ -58,7 +58,7 @@ returns-else-is_crowded g c =
       err = (search rules);
       growth = (
           record {
-            first = λ none ne. absurd (omega (arith, c.requires.within));
+            first = λ none ne. absurd (omega (arith, c.requires.new.within));
             half = λ some ne. omega (arith, c.bucket_count-count.ensures.count, c.len-length.ensures.len);
             below = λ some ne. omega (arith, c.bucket_count-count.ensures.count);
             doubled = λ some ne. c.insert_made_grown.ensures.doubled ne ∙ ap (λ n. 2 * n) c.bucket_count-count.ensures.count;

@@ -5,21 +5,12 @@ use Rattle.scc_common.specs.Routing.{bucket_number}
 use Rattle.scc_buckets.proofs.Resizes.{rests-inserted}
 use Rattle.scc_table.specs.Places.{spot_of}
 use Rattle.scc_table.specs.TwoArrays.{waits_at}
-use Rattle.scc_table.proofs.Same.{count-same, entries-same, if-err, if-ok, pending-same, unchanged-same}
+use Rattle.scc_table.proofs.Same.{count-same, entries-same, if-err, if-ok, pending-same, unchanged-same, hash-same}
+use Rattle.scc_table.proofs.PuttingLemmas.{new-same}
 use Rattle.scc_table.proofs.Table.insert_made_noted.Goals as goal
 
-pub insert_made_and_relocate-requires-clause-within : goal.insert_made_and_relocate-requires-clause-within
-insert_made_and_relocate-requires-clause-within g c = let n = count-same c.args.self.now c.note.new.self c.note.ensures.lists in omega (arith, c.requires.within)
-
-pub insert_made_and_relocate-requires-clause-routed : goal.insert_made_and_relocate-requires-clause-routed
-insert_made_and_relocate-requires-clause-routed g c =
-    let a = c.args.self.now in
-    let d = c.note.new.self in
-    c.requires.routed ∙ ap (λ s. bucket_number s.skipped (bucket_count a) c.args.hash) (sym c.note.ensures.settings) ∙ ap (λ n. bucket_number (settings_of d).skipped n c.args.hash) (sym (count-same a d c.note.ensures.lists))
-
-pub insert_made_and_relocate-requires-clause-absent : goal.insert_made_and_relocate-requires-clause-absent
-insert_made_and_relocate-requires-clause-absent g c =
-    subst (λ es. position (λ e. g.E.Key.PartialEq.eq (g.E.Keyed.key_of (g.E.Made.made_of c.args.parts)) (g.E.Keyed.key_of e)) es ≡ None) (sym (entries-same c.args.self.now c.note.new.self c.note.ensures.lists)) c.requires.absent
+pub insert_made_and_relocate-requires : goal.insert_made_and_relocate-requires
+insert_made_and_relocate-requires g c = new-same c.args.self.now c.note.new.self c.note.ensures.lists c.note.ensures.settings (hash-same g.H.BuildHasher g.H.Hasher.Hasher g.E.Key.Hash.hash_input c.args.self.now c.note.new.self c.note.ensures.settings) c.requires
 
 pub returns : goal.returns
 returns g c =

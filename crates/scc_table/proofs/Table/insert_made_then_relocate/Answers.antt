@@ -15,17 +15,17 @@ returns-in-Ok g c =
     let r = c.relocate_some.ensures in
     let waiting = c.insert_made_in.ensures.waiting in
     record {
-      ok = (placed-at a c.args.bucket (g.E.Made.made_of c.args.parts) m p put c.requires.within c.requires.not_waiting waiting d r.lists r.settings r.fewer);
+      ok = (placed-at a c.args.bucket (g.E.Made.made_of c.args.parts) m p put c.requires.new.within c.requires.not_waiting waiting d r.lists r.settings r.fewer);
       err = (search rules);
       full = (search rules);
-      buckets = (placed-count a c.args.bucket (g.E.Made.made_of c.args.parts) m p put c.requires.within c.requires.not_waiting waiting d r.lists r.settings r.fewer);
+      buckets = (placed-count a c.args.bucket (g.E.Made.made_of c.args.parts) m p put c.requires.new.within c.requires.not_waiting waiting d r.lists r.settings r.fewer);
       refused = (search rules);
-      fewer = (placed-fewer a c.args.bucket (g.E.Made.made_of c.args.parts) m p put c.requires.within c.requires.not_waiting waiting d r.lists r.settings r.fewer);
+      fewer = (placed-fewer a c.args.bucket (g.E.Made.made_of c.args.parts) m p put c.requires.new.within c.requires.not_waiting waiting d r.lists r.settings r.fewer);
       less = (let n = pending-same c.args.self.now c.insert_made_in.new.self c.insert_made_in.ensures.waiting in omega (arith, c.relocate_some.ensures.less));
       most = (let n = pending-same c.args.self.now c.insert_made_in.new.self c.insert_made_in.ensures.waiting in omega (arith, c.relocate_some.ensures.most));
-      not_waiting = (placed-down a c.args.bucket (g.E.Made.made_of c.args.parts) m p put c.requires.within c.requires.not_waiting waiting d r.lists r.settings r.fewer);
+      not_waiting = (placed-down a c.args.bucket (g.E.Made.made_of c.args.parts) m p put c.requires.new.within c.requires.not_waiting waiting d r.lists r.settings r.fewer);
       moved = (subst (λ ts. AreMovedFrom ts c.args.most c.relocate_some.new.self) (targets-same a c.insert_made_in.new.self c.insert_made_in.ensures.waiting) c.relocate_some.ensures.moved);
-      exact = (λ short. r.exact (placed-short a c.args.bucket (g.E.Made.made_of c.args.parts) m p put c.requires.within c.requires.not_waiting waiting short) ∙ ap (drop c.args.most) (targets-same a m waiting));
+      exact = (λ short. r.exact (placed-short a c.args.bucket (g.E.Made.made_of c.args.parts) m p put c.requires.new.within c.requires.not_waiting waiting short) ∙ ap (drop c.args.most) (targets-same a m waiting));
       unique = (unique-same m d r.lists g.E.Key.PartialEq.eq g.E.Keyed.key_of c.insert_made_in.ensures.unique);
     }
 

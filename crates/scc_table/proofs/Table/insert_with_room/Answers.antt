@@ -8,33 +8,18 @@ use Rattle.scc_table.proofs.NotWaiting.{not_waiting-all}
 use Rattle.scc_table.proofs.OldSpots.{own-list}
 use Rattle.scc_table.proofs.OneBucket.{flag-down, routed-own, within-own}
 use Rattle.scc_table.proofs.Placing.{moved-nothing, none-left, placed-at, placed-count, placed-down, placed-fewer}
-use Rattle.scc_table.proofs.PuttingLemmas.{absent-own, fields-put, put-together, unique-answered}
+use Rattle.scc_table.proofs.PuttingLemmas.{absent-own, fields-put, put-together, unique-answered, new-own}
 use Rattle.scc_table.proofs.Same.{hash-same, pending-same}
 use Rattle.scc_table.proofs.Targets.{targets-same}
 use Rattle.scc_table.proofs.Viewed.{settings-seen, waiting-seen}
 use Rattle.scc_table.proofs.Table.insert_with_room.Goals as goal
 
-pub insert_with_room-requires-clause-within : goal.insert_with_room-requires-clause-within
-insert_with_room-requires-clause-within g c = within-own c.self.invariant c.self.view_is c.requires.within
-
-pub insert_with_room-requires-clause-routed : goal.insert_with_room-requires-clause-routed
-insert_with_room-requires-clause-routed g c = routed-own c.self.invariant _ c.self.view_is c.requires.routed
-
-pub insert_with_room-requires-clause-hashed : goal.insert_with_room-requires-clause-hashed
-insert_with_room-requires-clause-hashed g c =
+pub insert_with_room-requires-clause-new : goal.insert_with_room-requires-clause-new
+insert_with_room-requires-clause-new g c =
     let t = c.self.inside in
-    let cur = t.current in
-    let hk = key_hash g.H.BuildHasher g.H.Hasher.Hasher g.E.Key.Hash.hash_input cur in
-    let hash = λ (e : g.row.E.Denot). hk (g.E.Keyed.key_of e) in
-    let settings = settings-seen hash cur t.draining.waiting.items t.draining.array c.args.self.now c.self.view_is in
-    let outer = hash-same g.H.BuildHasher g.H.Hasher.Hasher g.E.Key.Hash.hash_input cur c.args.self.now settings in
-    c.requires.hashed ∙ ap (λ (h : g.row.E-Key.Denot → ℕ). h (g.E.Keyed.key_of c.args.entry)) outer
-
-pub insert_with_room-requires-clause-absent : goal.insert_with_room-requires-clause-absent
-insert_with_room-requires-clause-absent g c =
-    let t = c.self.inside in
-    let hk = key_hash g.H.BuildHasher g.H.Hasher.Hasher g.E.Key.Hash.hash_input t.current in
-    absent-own g.E.Keyed.key_of hk t.current t.draining.waiting.items t.draining.array c.self.invariant.arrays c.args.self.now c.self.view_is (λ e. g.E.Key.PartialEq.eq (g.E.Keyed.key_of c.args.entry) (g.E.Keyed.key_of e)) c.requires.absent
+    let hash = λ (e : g.row.E.Denot). key_hash g.H.BuildHasher g.H.Hasher.Hasher g.E.Key.Hash.hash_input t.current (g.E.Keyed.key_of e) in
+    let settings = settings-seen hash t.current t.draining.waiting.items t.draining.array c.args.self.now c.self.view_is in
+    new-own c.self.invariant c.self.view_is (hash-same g.H.BuildHasher g.H.Hasher.Hasher g.E.Key.Hash.hash_input t.current c.args.self.now settings) c.requires.new
 
 pub insert_with_room-requires-clause-short : goal.insert_with_room-requires-clause-short
 insert_with_room-requires-clause-short g c =
@@ -43,7 +28,7 @@ insert_with_room-requires-clause-short g c =
     let hk = key_hash g.H.BuildHasher g.H.Hasher.Hasher g.E.Key.Hash.hash_input cur in
     let hash = λ (e : g.row.E.Denot). hk (g.E.Keyed.key_of e) in
     let i = c.args.bucket in
-    let within = within-own c.self.invariant c.self.view_is c.requires.within in
+    let within = within-own c.self.invariant c.self.view_is c.requires.new.within in
     let down = flag-down c.self.invariant i c.self.view_is (not_waiting-all c.args.self.now c.requires.none i) in
     let own = ap length (sym (own-list hash cur t.draining.waiting.items t.draining.array c.self.invariant.arrays i within down)) ∙ ap (λ d. length (list_of d i)) c.self.view_is in
     omega (arith, own, c.requires.short)
@@ -55,14 +40,14 @@ invariant_of-self g c =
     let i = c.args.bucket in
     let inv = c.self.invariant in
     let hk = key_hash g.H.BuildHasher g.H.Hasher.Hasher g.E.Key.Hash.hash_input cur in
-    let within = within-own inv c.self.view_is c.requires.within in
+    let within = within-own inv c.self.view_is c.requires.new.within in
     let down = flag-down inv i c.self.view_is (not_waiting-all c.args.self.now c.requires.none i) in
     let new = c.insert_with_room.new.self in
     let put = c.insert_with_room.ensures.exact in
     let inner = hash-same g.H.BuildHasher g.H.Hasher.Hasher g.E.Key.Hash.hash_input cur new put.settings in
     let left : overflow_of new + t.draining.left_overflow < 2 ^ 62 = let s = put.short (insert_with_room-requires-clause-short g c) in omega (arith, inv.few) in
     subst (λ (h : g.row.E-Key.Denot → ℕ). IsTable g.E.Key.PartialEq.eq g.E.Keyed.key_of h new (draining_of t.draining) t.skipped) (sym inner)
-    (fields-put g.E.Key.PartialEq.eq g.met.E.Key.Eq.laws g.E.Keyed.key_of hk cur (draining_of t.draining) t.skipped inv c.args.self.now c.self.view_is c.args.entry i new c.insert_with_room.result put within down left c.requires.absent)
+    (fields-put g.E.Key.PartialEq.eq g.met.E.Key.Eq.laws g.E.Keyed.key_of hk cur (draining_of t.draining) t.skipped inv c.args.self.now c.self.view_is c.args.entry i new c.insert_with_room.result put within down left c.requires.new.absent)
 
 pub returns : goal.returns
 returns g c =
@@ -76,7 +61,7 @@ returns g c =
     let view = c.self.view_is in
     let key = g.E.Keyed.key_of in
     let hk = key_hash g.H.BuildHasher g.H.Hasher.Hasher g.E.Key.Hash.hash_input cur in
-    let within = within-own inv view c.requires.within in
+    let within = within-own inv view c.requires.new.within in
     let free = not_waiting-all a c.requires.none i in
     let down = flag-down inv i view free in
     let new = c.insert_with_room.new.self in
@@ -89,16 +74,16 @@ returns g c =
     let same : pending_of m ≡ pending_of a = pending-same a m waiting in
     let left : pending_of m ≡ 0 = same ∙ c.requires.none in
     record {
-      ok = placed-at a i c.args.entry m p put c.requires.within free waiting m refl refl (λ k up. up);
+      ok = placed-at a i c.args.entry m p put c.requires.new.within free waiting m refl refl (λ k up. up);
       err = tt;
       full = tt;
-      buckets = placed-count a i c.args.entry m p put c.requires.within free waiting m refl refl (λ k up. up);
+      buckets = placed-count a i c.args.entry m p put c.requires.new.within free waiting m refl refl (λ k up. up);
       refused = put.refused;
-      fewer = placed-fewer a i c.args.entry m p put c.requires.within free waiting m refl refl (λ k up. up);
+      fewer = placed-fewer a i c.args.entry m p put c.requires.new.within free waiting m refl refl (λ k up. up);
       less = omega (arith, same);
       most = omega (arith, same);
-      not_waiting = placed-down a i c.args.entry m p put c.requires.within free waiting m refl refl (λ k up. up);
+      not_waiting = placed-down a i c.args.entry m p put c.requires.new.within free waiting m refl refl (λ k up. up);
       moved = moved-nothing i a m c.requires.none left;
       exact = λ short. none-left i a (pending_targets m) c.requires.none (targets-same a m waiting);
-      unique = subst (λ (h : g.row.E-Key.Denot → ℕ). IsDistinct g.E.Key.PartialEq.eq (map key (entries (together (λ e. h (key e)) new ws olds)))) (sym inner) (unique-answered g.met.E.Key.Eq.laws inv view c.args.entry i new (Ok p) own tt within down c.requires.absent);
+      unique = subst (λ (h : g.row.E-Key.Denot → ℕ). IsDistinct g.E.Key.PartialEq.eq (map key (entries (together (λ e. h (key e)) new ws olds)))) (sym inner) (unique-answered g.met.E.Key.Eq.laws inv view c.args.entry i new (Ok p) own tt within down c.requires.new.absent);
     }

@@ -11,55 +11,17 @@ use Rattle.scc_table.proofs.Listing.{absent-list, own-bounded, own-listed, own-p
 use Rattle.scc_table.proofs.SearchingLemmas.{missed-listed}
 use Rattle.scc_table.proofs.Seen.{settings-seen, waiting-seen}
 use Rattle.scc_table.proofs.OneBucket.{flag-free, routed-own, within-own}
+use Rattle.scc_table.proofs.PuttingLemmas.{new-own}
+use Rattle.scc_table.proofs.Same.{hash-same}
+use Rattle.scc_table.proofs.Viewed.{settings-seen}
 use Rattle.scc_table.proofs.Table.put_last.Goals as goal
 
-pub put_last-requires-clause-within : goal.put_last-requires-clause-within
-put_last-requires-clause-within g c =
-    let within = within-own c.self.invariant c.self.view_is c.requires.within in
-    within
-
-pub put_last-requires-clause-routed : goal.put_last-requires-clause-routed
-put_last-requires-clause-routed g c =
-    let routed = routed-own c.self.invariant _ c.self.view_is c.requires.routed in
-    routed
-
-pub put_last-requires-clause-hashed : goal.put_last-requires-clause-hashed
-put_last-requires-clause-hashed g c =
+pub put_last-requires-clause-new : goal.put_last-requires-clause-new
+put_last-requires-clause-new g c =
     let t = c.self.inside in
-    let cur = t.current in
-    let ws = t.draining.waiting.items in
-    let olds = t.draining.array in
-    let hk = key_hash g.H.BuildHasher g.H.Hasher.Hasher g.E.Key.Hash.hash_input cur in
-    let key = g.E.Keyed.key_of in
-    let view = c.self.view_is in
-    let now = c.args.self.now in
-    let hash = λ (e : g.row.E.Denot). hk (key e) in
-    let set = settings-seen hash cur ws olds now view in
-    let hashed = c.requires.hashed ∙ ap (λ s. hash_of g.H.BuildHasher g.H.Hasher.Hasher s.hasher (g.E.Key.Hash.hash_input (key c.args.entry))) (sym set) in
-    hashed
-
-pub put_last-requires-clause-absent : goal.put_last-requires-clause-absent
-put_last-requires-clause-absent g c =
-    let t = c.self.inside in
-    let cur = t.current in
-    let ws = t.draining.waiting.items in
-    let olds = t.draining.array in
-    let hk = key_hash g.H.BuildHasher g.H.Hasher.Hasher g.E.Key.Hash.hash_input cur in
-    let key = g.E.Keyed.key_of in
-    let view = c.self.view_is in
-    let now = c.args.self.now in
-    let i = c.args.bucket in
-    let hash = λ (e : g.row.E.Denot). hk (key e) in
-    let down = flag-free c.self.invariant _ c.self.view_is c.requires.not_waiting in
-    let set = settings-seen hash cur ws olds now view in
-    let within = within-own c.self.invariant c.self.view_is c.requires.within in
-    let u = together hash cur ws olds in
-    let routed = routed-own c.self.invariant _ c.self.view_is c.requires.routed in
-    let passes : g.row.E.Denot → Bool = λ e. g.E.Key.PartialEq.eq (key c.args.entry) (key e) in
-    let hashed = c.requires.hashed ∙ ap (λ s. hash_of g.H.BuildHasher g.H.Hasher.Hasher s.hasher (g.E.Key.Hash.hash_input (key c.args.entry))) (sym set) in
-    let same_hash : HashOf passes hash c.args.hash = record { same = λ e w. sym (hashed ∙ ap (hash_of g.H.BuildHasher g.H.Hasher.Hasher (settings_of cur).hasher) (g.met.E.Key.Hash.respects_eq (key c.args.entry) (key e) w)) } in
-    let absent : position passes (entries u) ≡ None = subst (λ (z : Contents g.row.E.Denot g.row.H.Denot). position passes (entries z) ≡ None) (sym view) c.requires.absent in
-    missed-listed hash cur c.list_facts.ensures.routed passes c.args.hash i same_hash routed within (ap (position passes) (sym (own-list hash cur ws olds i down)) ∙ absent-list u passes i absent)
+    let hash = λ (e : g.row.E.Denot). key_hash g.H.BuildHasher g.H.Hasher.Hasher g.E.Key.Hash.hash_input t.current (g.E.Keyed.key_of e) in
+    let settings = settings-seen hash t.current t.draining.waiting.items t.draining.array c.args.self.now c.self.view_is in
+    new-own c.self.invariant c.self.view_is (hash-same g.H.BuildHasher g.H.Hasher.Hasher g.E.Key.Hash.hash_input t.current c.args.self.now settings) c.requires.new
 
 pub put_last-requires-clause-bounded : goal.put_last-requires-clause-bounded
 put_last-requires-clause-bounded g c =
@@ -94,7 +56,7 @@ invariant_of-self g c =
     let u = together hash cur ws olds in
     let bounded : IsBounded u = subst (λ (z : Contents g.row.E.Denot g.row.H.Denot). IsBounded z) (sym view) c.requires.bounded in
     let passes : g.row.E.Denot → Bool = λ e. g.E.Key.PartialEq.eq (key c.args.entry) (key e) in
-    let absent : position passes (entries u) ≡ None = subst (λ (z : Contents g.row.E.Denot g.row.H.Denot). position passes (entries z) ≡ None) (sym view) c.requires.absent in
+    let absent : position passes (entries u) ≡ None = subst (λ (z : Contents g.row.E.Denot g.row.H.Denot). position passes (entries z) ≡ None) (sym view) c.requires.new.absent in
     let d = c.put_last.new.self in
     let changes = puts-list cur d i c.args.entry c.put_last.result.0 c.put_last.ensures.step in
     let changed = changes.1 in
@@ -104,7 +66,7 @@ invariant_of-self g c =
     let first = own-puts_last hash cur d ws olds i down bounded c.args.entry c.put_last.result.0 c.put_last.ensures.step in
     let low : overflow_of d ≡ 0 = changed.bounded in
     let few : overflow_of d + t.draining.left_overflow < 2 ^ 62 = let f = inv.few in omega arith in
-    let inside : i < bucket_count u = let n = ap bucket_count view in let q = c.requires.within in omega arith in
+    let inside : i < bucket_count u = let n = ap bucket_count view in let q = c.requires.new.within in omega arith in
     subst (λ (h : g.row.E-Key.Denot → ℕ). IsTable g.E.Key.PartialEq.eq key h d (draining_of t.draining) t.skipped) (sym same)
     (own-fields g.E.Key.PartialEq.eq key hk cur d i changes.0 changed.lists stay (draining_of t.draining) down t.skipped inv few
     (unique-puts laws key u v i inside inv.unique c.args.entry c.put_last.result.0 first absent))
@@ -140,7 +102,7 @@ returns g c =
       slot = (c.put_last.ensures.slot ∙ ap length (sym (own-list (λ e. key_hash g.H.BuildHasher g.H.Hasher.Hasher g.E.Key.Hash.hash_input d (key e)) d ws olds i down)));
       listed = (
           let set = settings-seen hash cur ws olds now view in
-          let within = within-own c.self.invariant c.self.view_is c.requires.within in
+          let within = within-own c.self.invariant c.self.view_is c.requires.new.within in
           let v = together hash d ws olds in
           λ was.
           let first : IsListed hash u = subst (λ (z : Contents g.row.E.Denot g.row.H.Denot). IsListed hash z) (sym view) (subst (λ s. IsListed (λ (e : g.row.E.Denot). hash_of g.H.BuildHasher g.H.Hasher.Hasher s.hasher (g.E.Key.Hash.hash_input (key e))) now) (sym set) was) in
@@ -153,5 +115,5 @@ returns g c =
       unique = (
           let laws = g.met.E.Key.Eq.laws in
           let unique = subst (λ (z : Contents g.row.E.Denot g.row.H.Denot). IsDistinct g.E.Key.PartialEq.eq (map key (entries z))) view inv.unique in
-          unique-puts laws key now after i c.requires.within unique c.args.entry c.put_last.result.0 step c.requires.absent);
+          unique-puts laws key now after i c.requires.new.within unique c.args.entry c.put_last.result.0 step c.requires.new.absent);
     }
