@@ -13,6 +13,7 @@ ghost use Rattle.std.specs.Arc.{arc_value};
 ghost use Rattle.std.specs.Borrow.{Bor};
 ghost use Rattle.std.specs.Fn.{FnOnceTakesAt};
 ghost use Rattle.std.specs.List.Sorted.{IsPermutation};
+ghost use Rattle.std.specs.Option.{option_copied};
 ghost use Rattle.std.specs.Prelude.{◌≡◌, ◌<◌, ◌*◌, ◌↔◌, ◌⊎◌, List, [], length, Some, None, IsTrue, IsSome, IsOk, IfOk, ◌==◌, true, OnErr, MatchOption, remove, false};
 ghost use Rattle.std.specs.Result.{OnOk};
 ghost use Rattle.scc_table.specs.Arrays.{GrowsByRule, ShrinksByRule};
@@ -54,6 +55,23 @@ impl<K: Eq + Hash, V, H: BuildHasher> Model for Owned<K, V, H> {
     ghost Value = { Contents (K × V) H };
 
     ghost view = { λ m. m.table };
+}
+
+/// Returns one more owner of the version of `entry`, or `None` if there is no entry. Fails if the version has 2^63 - 1
+/// owners.
+#[inline(always)]
+fn share<K, V>(entry: Option<&SharedVersion<K, V>>) -> Result<Option<Arc<Version<K, V>>>, MakeError>
+    ensures version { IfOk result (λ o. MatchOption o (option_copied entry.entry ≡ None)
+        (λ a. option_copied entry.entry ≡ Some (arc_value a))) }
+    ensures refused { OnErr result (IsSome (option_copied entry.entry)) }
+{
+    let Some(shared) = entry else {
+        return Ok(None);
+    };
+    match shared.clone_owner() {
+        Ok(version) => Ok(Some(version)),
+        Err(_) => Err(MakeError),
+    }
 }
 
 impl<K: Eq + Hash, V, H: BuildHasher> Owned<K, V, H> {
@@ -173,13 +191,21 @@ impl<K: Eq + Hash, V, H: BuildHasher> Owned<K, V, H> {
         ensures refused { OnErr result (IsSome (find K.eq (entries self.now) k.now)) }
     {
         let hash = self.table.hash(k);
-        match self.table.find(hash, k) {
-            Some(shared) => match shared.clone_owner() {
-                Ok(version) => Ok(Some(version)),
-                Err(_) => Err(MakeError),
-            },
-            None => Ok(None),
-        }
+        share(self.table.find(hash, k))
+    }
+
+    /// Returns the version of `k` to keep, as `peek_shared` does. The search begins with `hint`, as in
+    /// `contains_by_hint`.
+    pub fn peek_shared_by_hint(
+        &self,
+        hint: u64,
+        k: &K,
+    ) -> Result<Option<Arc<Version<K, V>>>, MakeError>
+        ensures version { IfOk result (λ o. MatchOption o (find K.eq (entries self.now) k.now ≡ None)
+            (λ a. find K.eq (entries self.now) k.now ≡ Some (arc_value a))) }
+        ensures refused { OnErr result (IsSome (find K.eq (entries self.now) k.now)) }
+    {
+        share(self.table.find_by_hint(hint, k))
     }
 
     /// Returns the result of `f` on the pair of `k`. If no key equals `k`, returns `None` and doesn't call `f`.

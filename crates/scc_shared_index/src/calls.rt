@@ -26,7 +26,10 @@ impl<K: Eq + Hash, V, H: BuildHasher> HashIndex<K, V, H> {
     pub fn peek(&self, rt: &impl Wait, k: &K) -> Result<Option<Arc<Version<K, V>>>, MakeError>
         ensures key { IfOk result (λ o. IfSome o (λ a. HasKey K.eq k.now (arc_value a))) }
     {
-        self.stripes.read(rt, self.stripes.route(k)).peek_shared(k)
+        let hash = self.stripes.hash(k);
+        self.stripes
+            .read(rt, self.stripes.route_hash(hash))
+            .peek_shared_by_hint(hash, k)
     }
 
     /// Calls `f` on the pair of `k`, and returns what `f` returns. Returns `None` without calling `f` if no key equals
