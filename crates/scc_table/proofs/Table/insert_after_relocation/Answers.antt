@@ -1,5 +1,4 @@
-use Rattle.std.proofs.Common.{◌≡◌, ◌∙◌, ◌≤◌, ℕ, None, length, sym, ap, subst, arith, rules}
-use Rattle.std.specs.List.{position}
+use Rattle.std.proofs.Common.{◌∙◌, ◌≤◌, ℕ, length, sym, ap, subst, arith, rules}
 use Rattle.scc_common.specs.Contents.{HasRoomBy, bucket_count, key_hash, list_of, settings_of}
 use Rattle.scc_common.specs.Routing.{bucket_number}
 use Rattle.scc_table.specs.TwoArrays.{pending_targets}

@@ -6,7 +6,7 @@ use Rattle.scc_common.specs.Routing.{bucket_number}
 use Rattle.scc_table.specs.TwoArrays.{draining_of, IsTable, together}
 use Rattle.scc_table.proofs.Joining.{waiting-together}
 use Rattle.scc_table.proofs.Noting.{fields-less, owed-kept}
-use Rattle.scc_table.proofs.PuttingLemmas.{unique-answered, absent-own, fields-put, owed-put, long-full, put-together, room-own, same-together, new-own}
+use Rattle.scc_table.proofs.PuttingLemmas.{unique-answered, fields-put, owed-put, long-full, put-together, room-own, same-together, new-own}
 use Rattle.scc_table.proofs.Same.{by-answer, hash-same, if-ok, on-err}
 use Rattle.scc_table.proofs.Viewed.{settings-seen, waiting-seen}
 use Rattle.scc_table.proofs.OneBucket.{flag-down, routed-own, within-own}

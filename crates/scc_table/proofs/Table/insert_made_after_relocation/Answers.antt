@@ -1,7 +1,4 @@
-use Rattle.std.proofs.Common.{◌≡◌, ◌∙◌, None, sym, ap, subst, arith, rules}
-use Rattle.std.specs.List.{position}
-use Rattle.scc_common.specs.Contents.{bucket_count, settings_of}
-use Rattle.scc_common.specs.Routing.{bucket_number}
+use Rattle.std.proofs.Common.{◌∙◌, rules}
 use Rattle.scc_table.specs.TwoArrays.{pending_targets}
 use Rattle.scc_table.proofs.Placing.{moved-relocated, relocated-fewer, relocated-inserted, relocated-left, relocated-short}
 use Rattle.scc_table.proofs.Same.{count-same, entries-same, if-err, if-ok, on-ok, hash-same}

@@ -5,10 +5,10 @@ use Rattle.scc_buckets.specs.OneList.{HasSameLists, IsPutIn}
 use Rattle.scc_table.specs.TwoArrays.{draining_of, IsTable, together}
 use Rattle.scc_table.proofs.Joining.{waiting-together}
 use Rattle.scc_table.proofs.Noting.{fields-less, owed-kept}
-use Rattle.scc_table.proofs.PuttingLemmas.{unique-answered, absent-own, fields-put, owed-put, put-together, same-together, new-own}
+use Rattle.scc_table.proofs.PuttingLemmas.{unique-answered, fields-put, owed-put, put-together, same-together, new-own}
 use Rattle.scc_table.proofs.Same.{by-answer, hash-same, if-ok, on-err}
 use Rattle.scc_table.proofs.Viewed.{settings-seen, waiting-seen}
-use Rattle.scc_table.proofs.OneBucket.{flag-down, routed-own, within-own}
+use Rattle.scc_table.proofs.OneBucket.{flag-down, within-own}
 use Rattle.scc_table.proofs.Table.insert_made_in.Goals as goal
 use Rattle.scc_table.proofs.Table.insert_made_in.Goals.{then-self-gt0+else-is_overflow_full, else-self-gt0}
 

@@ -1,7 +1,4 @@
-use Rattle.std.proofs.Common.{◌≡◌, ◌∙◌, None, inl, sym, ap, subst, arith, rules}
-use Rattle.std.specs.List.{position}
-use Rattle.scc_common.specs.Contents.{bucket_count, settings_of}
-use Rattle.scc_common.specs.Routing.{bucket_number}
+use Rattle.std.proofs.Common.{◌∙◌, inl, sym, ap, arith, rules}
 use Rattle.scc_buckets.proofs.Resizes.{rests-inserted}
 use Rattle.scc_table.specs.Places.{spot_of}
 use Rattle.scc_table.specs.TwoArrays.{waits_at}

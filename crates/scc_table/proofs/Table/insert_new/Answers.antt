@@ -6,7 +6,13 @@ use Rattle.scc_table.specs.Relocates.{AreMovedBeside}
 use Rattle.scc_table.specs.TwoArrays.{pending_targets}
 use Rattle.scc_table.proofs.Listed.{count-listed}
 use Rattle.scc_table.proofs.Targets.{by-two}
+use Rattle.scc_table.proofs.Viewed.{pending-seen}
 use Rattle.scc_table.proofs.Table.insert_new.Goals as goal
+
+pub insert_with_room-requires-clause-none : goal.insert_with_room-requires-clause-none
+insert_with_room-requires-clause-none g c =
+    let t = c.self.inside in
+    pending-seen _ t.current t.draining.waiting.items t.draining.array c.args.self.now c.self.view_is ∙ sym c.self.invariant.counted ∙ c.if-self-eq0.true
 
 pub returns-then-list_len-lt32 : goal.returns-then-list_len-lt32
 returns-then-list_len-lt32 g c =

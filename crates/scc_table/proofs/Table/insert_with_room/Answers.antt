@@ -1,14 +1,14 @@
-use Rattle.std.proofs.Common.{◌≡◌, ◌∙◌, ◌<◌, ◌+◌, ◌^◌, false, length, map, refl, sym, ap, subst, arith, rules, Ok}
+use Rattle.std.proofs.Common.{◌≡◌, ◌∙◌, ◌<◌, ◌+◌, ◌^◌, ℕ, length, map, refl, sym, ap, subst, arith, Ok}
 use Rattle.std.specs.List.{IsDistinct}
-use Rattle.scc_common.specs.Contents.{bucket_count, entries, key_hash, list_of, overflow_of, pending_of, waiting_of}
+use Rattle.scc_common.specs.Contents.{entries, key_hash, list_of, overflow_of, pending_of, waiting_of}
 use Rattle.scc_buckets.specs.OneList.{IsPutIn}
-use Rattle.scc_table.specs.TwoArrays.{IsTable, draining_of, pending_targets, together, waits_at}
+use Rattle.scc_table.specs.TwoArrays.{IsTable, draining_of, pending_targets, together}
 use Rattle.scc_table.proofs.Joining.{waiting-together}
 use Rattle.scc_table.proofs.NotWaiting.{not_waiting-all}
 use Rattle.scc_table.proofs.OldSpots.{own-list}
-use Rattle.scc_table.proofs.OneBucket.{flag-down, routed-own, within-own}
+use Rattle.scc_table.proofs.OneBucket.{flag-down, within-own}
 use Rattle.scc_table.proofs.Placing.{moved-nothing, none-left, placed-at, placed-count, placed-down, placed-fewer}
-use Rattle.scc_table.proofs.PuttingLemmas.{absent-own, fields-put, put-together, unique-answered, new-own}
+use Rattle.scc_table.proofs.PuttingLemmas.{fields-put, put-together, unique-answered, new-own}
 use Rattle.scc_table.proofs.Same.{hash-same, pending-same}
 use Rattle.scc_table.proofs.Targets.{targets-same}
 use Rattle.scc_table.proofs.Viewed.{settings-seen, waiting-seen}
@@ -45,7 +45,8 @@ invariant_of-self g c =
     let new = c.insert_with_room.new.self in
     let put = c.insert_with_room.ensures.exact in
     let inner = hash-same g.H.BuildHasher g.H.Hasher.Hasher g.E.Key.Hash.hash_input cur new put.settings in
-    let left : overflow_of new + t.draining.left_overflow < 2 ^ 62 = let s = put.short (insert_with_room-requires-clause-short g c) in omega (arith, inv.few) in
+    let own = ap length (sym (own-list (λ e. hk (g.E.Keyed.key_of e)) cur t.draining.waiting.items t.draining.array inv.arrays i within down)) ∙ ap (λ d. length (list_of d i)) c.self.view_is in
+    let left : overflow_of new + t.draining.left_overflow < 2 ^ 62 = let s = put.short (omega (arith, own, c.requires.short)) in omega (arith, inv.few) in
     subst (λ (h : g.row.E-Key.Denot → ℕ). IsTable g.E.Key.PartialEq.eq g.E.Keyed.key_of h new (draining_of t.draining) t.skipped) (sym inner)
     (fields-put g.E.Key.PartialEq.eq g.met.E.Key.Eq.laws g.E.Keyed.key_of hk cur (draining_of t.draining) t.skipped inv c.args.self.now c.self.view_is c.args.entry i new c.insert_with_room.result put within down left c.requires.new.absent)
 
@@ -85,5 +86,5 @@ returns g c =
       not_waiting = placed-down a i c.args.entry m p put c.requires.new.within free waiting m refl refl (λ k up. up);
       moved = moved-nothing i a m c.requires.none left;
       exact = λ short. none-left i a (pending_targets m) c.requires.none (targets-same a m waiting);
-      unique = subst (λ (h : g.row.E-Key.Denot → ℕ). IsDistinct g.E.Key.PartialEq.eq (map key (entries (together (λ e. h (key e)) new ws olds)))) (sym inner) (unique-answered g.met.E.Key.Eq.laws inv view c.args.entry i new (Ok p) own tt within down c.requires.new.absent);
+      unique = subst (λ (h : g.row.E-Key.Denot → ℕ). IsDistinct g.E.Key.PartialEq.eq (map key (entries (together (λ e. h (key e)) new ws olds)))) (sym inner) (unique-answered {X = g.row.E.Denot} g.met.E.Key.Eq.laws inv view c.args.entry i new (Ok p) own tt within down c.requires.new.absent);
     }

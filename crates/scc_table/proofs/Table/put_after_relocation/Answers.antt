@@ -1,10 +1,7 @@
-use Rattle.std.proofs.Common.{◌≡◌, ◌∙◌, None, sym, ap, subst, arith, rules}
-use Rattle.std.specs.List.{position}
-use Rattle.scc_common.specs.Contents.{bucket_count, settings_of}
-use Rattle.scc_common.specs.Routing.{bucket_number}
+use Rattle.std.proofs.Common.{arith, rules}
 use Rattle.scc_table.specs.TwoArrays.{pending_targets}
 use Rattle.scc_table.proofs.Placing.{relocated-left}
-use Rattle.scc_table.proofs.Same.{count-same, entries-same, hash-same}
+use Rattle.scc_table.proofs.Same.{hash-same}
 use Rattle.scc_table.proofs.Short.{puts-from}
 use Rattle.scc_table.proofs.PuttingLemmas.{new-same}
 use Rattle.scc_table.proofs.Table.put_after_relocation.Goals as goal

@@ -1,19 +1,16 @@
 use Rattle.std.proofs.Common.{◌≡◌, ℕ, ◌+◌, ◌^◌, ◌<◌, Bool, None, length, map, sym, ap, ◌∙◌, subst, arith}
 use Rattle.std.specs.List.{position, IsDistinct}
 use Rattle.scc_buckets.specs.Bounded.{IsBounded, IsListed, PutsLast}
-use Rattle.scc_common.specs.Contents.{Contents, bucket_count, entries, owed_of, key_hash, settings_of, overflow_of}
+use Rattle.scc_common.specs.Contents.{Contents, bucket_count, entries, owed_of, key_hash, overflow_of}
 use Rattle.scc_common.specs.Hashing.{hash_of}
-use Rattle.scc_buckets.proofs.FindingLemmas.{HashOf}
 use Rattle.scc_table.specs.TwoArrays.{draining_of, together, IsTable}
 use Rattle.scc_table.proofs.CurrentChanges.{own-fields, own-owed, own-list}
 use Rattle.scc_table.proofs.Joining.{settings-together, waiting-together}
-use Rattle.scc_table.proofs.Listing.{absent-list, own-bounded, own-listed, own-puts_last, puts-list, unique-puts}
-use Rattle.scc_table.proofs.SearchingLemmas.{missed-listed}
+use Rattle.scc_table.proofs.Listing.{own-bounded, own-listed, own-puts_last, puts-list, unique-puts}
 use Rattle.scc_table.proofs.Seen.{settings-seen, waiting-seen}
-use Rattle.scc_table.proofs.OneBucket.{flag-free, routed-own, within-own}
+use Rattle.scc_table.proofs.OneBucket.{flag-free, within-own}
 use Rattle.scc_table.proofs.PuttingLemmas.{new-own}
 use Rattle.scc_table.proofs.Same.{hash-same}
-use Rattle.scc_table.proofs.Viewed.{settings-seen}
 use Rattle.scc_table.proofs.Table.put_last.Goals as goal
 
 pub put_last-requires-clause-new : goal.put_last-requires-clause-new
@@ -21,7 +18,7 @@ put_last-requires-clause-new g c =
     let t = c.self.inside in
     let hash = λ (e : g.row.E.Denot). key_hash g.H.BuildHasher g.H.Hasher.Hasher g.E.Key.Hash.hash_input t.current (g.E.Keyed.key_of e) in
     let settings = settings-seen hash t.current t.draining.waiting.items t.draining.array c.args.self.now c.self.view_is in
-    new-own c.self.invariant c.self.view_is (hash-same g.H.BuildHasher g.H.Hasher.Hasher g.E.Key.Hash.hash_input t.current c.args.self.now settings) c.requires.new
+    new-own c.self.invariant c.self.view_is (hash-same g.H.BuildHasher g.H.Hasher.Hasher g.E.Key.Hash.hash_input t.current c.args.self.now (sym settings)) c.requires.new
 
 pub put_last-requires-clause-bounded : goal.put_last-requires-clause-bounded
 put_last-requires-clause-bounded g c =
