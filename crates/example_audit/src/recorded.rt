@@ -1,8 +1,7 @@
 //! A recorded index, and the audit of its run.
-ghost use Rattle.std.specs.Prelude.{◌≡◌, IfOk, Some, map};
-ghost use Rattle.scc.specs.Finished.{IsFinished, make_kind};
+ghost use Rattle.std.specs.Prelude.{◌≡◌, IfOk, Some};
+ghost use Rattle.scc.specs.Finished.{IsFinishedRun};
 ghost use Rattle.scc.specs.Setups.{request_of};
-ghost use Rattle.scc.specs.Routing.{stripe_of};
 
 use crate::input::Line;
 use scc::hash_index::Owned;
@@ -33,11 +32,7 @@ fn audit<C: Calls + Drop, L: Ledger, M: Site<C::Hasher>>(
 ) -> io::Result<Finished<C>>
 where
     C::Hasher: Drop,
-    ensures { IfOk result (λ f. IsFinished (make_kind C.limits C.empty C.key_of C.means C.resizes C.whole C.whole_means
-        C.whole_resizes C.setting C.state C.Call.eq C.Reply.eq (stripe_of C.Hasher.BuildHasher C.Hasher.Hasher.Hasher
-        C.Key.Hash.hash_input))
-        (λ p. p.log.number) (λ p. p.log.receipts.items) recorded.hasher recorded.passes
-        (map (λ h. h.items) f.histories.items) passes.items M.chosen f.parts.items f.opened.items f.order.items) }
+    ensures { IfOk result (IsFinishedRun recorded.hasher recorded.passes passes.items M.chosen) }
 {
     match recorded.finish(passes) {
         Ok(finished) => Ok(finished),

@@ -5,7 +5,7 @@ ghost use Rattle.scc_history.specs.Orders.{IsOnlyStampOrder, steps_at};
 ghost use Rattle.scc_history.specs.Receipts.{AreAll, calls_of};
 ghost use Rattle.scc_history.specs.Stamps.{calls_in};
 ghost use Rattle.scc_recorded.specs.Closing.{AllMatch};
-ghost use Rattle.scc_recorded.specs.Finished.{IsFinished, IsRefused, make_kind};
+ghost use Rattle.scc_recorded.specs.Finished.{IsFinishedRun, IsRefusedRun};
 ghost use Rattle.std.specs.List.{sum_by};
 ghost use Rattle.std.specs.Prelude.{◌≡◌, ◌+◌, ◌<◌, ◌≤◌, [], length, map, Err, IfOk, IfErr, Some, vec_len, vec_capacity};
 
@@ -58,16 +58,9 @@ where
         ensures parts { IfOk result (λ f. (f.parts.items ≡ map (λ s. s.stripe.container) self.stripes.items)
             × (map (λ h. h.items) f.histories.items ≡ map (λ s. s.stripe.history.items) self.stripes.items)
             × (f.opened.items ≡ map (λ s. s.stripe.opened) self.stripes.items)) }
-        ensures finished { IfOk result (λ f. IsFinished (make_kind C.limits C.empty C.key_of C.means C.resizes C.whole
-            C.whole_means C.whole_resizes C.setting C.state C.Call.eq C.Reply.eq
-            (stripe_of C.Hasher.BuildHasher C.Hasher.Hasher.Hasher C.Key.Hash.hash_input))
-            (λ p. p.log.number) (λ p. p.log.receipts.items) self.hasher self.passes
-            (map (λ h. h.items) f.histories.items) passes.items M.chosen f.parts.items f.opened.items f.order.items) }
+        ensures finished { IfOk result (IsFinishedRun self.hasher self.passes passes.items M.chosen) }
         ensures back { IfErr result (λ u. (u.recorded ≡ self) × (u.passes ≡ passes)) }
-        ensures refused { IfErr result (λ u. IsRefused (make_kind C.limits C.empty C.key_of C.means C.resizes C.whole
-            C.whole_means C.whole_resizes C.setting C.state C.Call.eq C.Reply.eq
-            (stripe_of C.Hasher.BuildHasher C.Hasher.Hasher.Hasher C.Key.Hash.hash_input))
-            (λ p. p.log.number) (λ p. p.log.receipts.items) u.recorded.hasher u.recorded.passes
+        ensures refused { IfErr result (λ u. IsRefusedRun u.recorded.hasher u.recorded.passes
             (map (λ s. s.stripe.history.items) u.recorded.stripes.items) u.passes.items u.cause) }
         ensures counted { IfErr result (λ u. AreAll u.recorded.passes (map (λ p. p.log.number) u.passes.items)
             → sum_by (λ s. calls_in s.stripe.history.items) u.recorded.stripes.items
@@ -100,16 +93,9 @@ where
         ensures parts { IfOk result (λ f. (f.parts.items ≡ map (λ s. s.stripe.container) self.stripes.items)
             × (map (λ h. h.items) f.histories.items ≡ map (λ s. s.stripe.history.items) self.stripes.items)
             × (f.opened.items ≡ map (λ s. s.stripe.opened) self.stripes.items)) }
-        ensures finished { IfOk result (λ f. IsFinished (make_kind C.limits C.empty C.key_of C.means C.resizes C.whole
-            C.whole_means C.whole_resizes C.setting C.state C.Call.eq C.Reply.eq
-            (stripe_of C.Hasher.BuildHasher C.Hasher.Hasher.Hasher C.Key.Hash.hash_input))
-            (λ p. p.log.number) (λ p. p.log.receipts.items) self.hasher self.passes
-            (map (λ h. h.items) f.histories.items) passes.items M.chosen f.parts.items f.opened.items f.order.items) }
+        ensures finished { IfOk result (IsFinishedRun self.hasher self.passes passes.items M.chosen) }
         ensures back { IfErr result (λ u. (u.recorded ≡ self) × (u.passes ≡ passes)) }
-        ensures refused { IfErr result (λ u. IsRefused (make_kind C.limits C.empty C.key_of C.means C.resizes C.whole
-            C.whole_means C.whole_resizes C.setting C.state C.Call.eq C.Reply.eq
-            (stripe_of C.Hasher.BuildHasher C.Hasher.Hasher.Hasher C.Key.Hash.hash_input))
-            (λ p. p.log.number) (λ p. p.log.receipts.items) u.recorded.hasher u.recorded.passes
+        ensures refused { IfErr result (λ u. IsRefusedRun u.recorded.hasher u.recorded.passes
             (map (λ s. s.stripe.history.items) u.recorded.stripes.items) u.passes.items u.cause) }
     {
         let order = match self.order_of(passes.as_slice()) {
@@ -164,11 +150,8 @@ where
         ensures receipts { IfOk result (λ v. AllMatch C.Call.eq C.Reply.eq (λ p. p.log.number)
             (λ p. p.log.receipts.items) passes.now
             (λ n. calls_of n (steps_at (map (λ s. s.stripe.history.items) self.now.stripes.items) v.items))) }
-        ensures refused { IfErr result (λ cause. IsRefused (make_kind C.limits C.empty C.key_of C.means C.resizes
-            C.whole C.whole_means C.whole_resizes C.setting C.state C.Call.eq C.Reply.eq
-            (stripe_of C.Hasher.BuildHasher C.Hasher.Hasher.Hasher C.Key.Hash.hash_input))
-            (λ p. p.log.number) (λ p. p.log.receipts.items) self.now.hasher self.now.passes
-            (map (λ s. s.stripe.history.items) self.now.stripes.items) passes.now cause) }
+        ensures refused { IfErr result (IsRefusedRun self.now.hasher self.now.passes
+            (map (λ s. s.stripe.history.items) self.now.stripes.items) passes.now) }
     {
         let Ok(complete) = are_all(self.alloc, passes, self.passes) else {
             return Err(FinishError::Memory);
@@ -204,18 +187,11 @@ where
     /// Returns what the run was: [`Recorded::close`], and then [`Closed::finish`], with its costs and its errors. If
     /// it fails, the stripes come back without their locks, so a further try is made by [`Closed::finish`].
     pub fn finish(self, passes: Vec<Pass<C, L>>) -> Result<Finished<C>, Unfinished<C, L, M>>
-        ensures finished { IfOk result (λ f. IsFinished (make_kind C.limits C.empty C.key_of C.means C.resizes C.whole
-            C.whole_means C.whole_resizes C.setting C.state C.Call.eq C.Reply.eq
-            (stripe_of C.Hasher.BuildHasher C.Hasher.Hasher.Hasher C.Key.Hash.hash_input))
-            (λ p. p.log.number) (λ p. p.log.receipts.items) self.hasher self.passes
-            (map (λ h. h.items) f.histories.items) passes.items M.chosen f.parts.items f.opened.items f.order.items) }
+        ensures finished { IfOk result (IsFinishedRun self.hasher self.passes passes.items M.chosen) }
         ensures stripes { IfOk result (λ f. vec_len f.parts ≡ self.stripes) }
         ensures back { IfErr result (λ u. (u.passes ≡ passes) × (vec_len u.recorded.stripes ≡ self.stripes)
             × (u.recorded.passes ≡ self.passes) × (u.recorded.hasher ≡ self.hasher)) }
-        ensures refused { IfErr result (λ u. IsRefused (make_kind C.limits C.empty C.key_of C.means C.resizes C.whole
-            C.whole_means C.whole_resizes C.setting C.state C.Call.eq C.Reply.eq
-            (stripe_of C.Hasher.BuildHasher C.Hasher.Hasher.Hasher C.Key.Hash.hash_input))
-            (λ p. p.log.number) (λ p. p.log.receipts.items) u.recorded.hasher u.recorded.passes
+        ensures refused { IfErr result (λ u. IsRefusedRun u.recorded.hasher u.recorded.passes
             (map (λ s. s.stripe.history.items) u.recorded.stripes.items) u.passes.items u.cause) }
         ensures counted { IfErr result (λ u. AreAll u.recorded.passes (map (λ p. p.log.number) u.passes.items)
             → sum_by (λ s. calls_in s.stripe.history.items) u.recorded.stripes.items
