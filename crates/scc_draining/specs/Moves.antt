@@ -1,10 +1,10 @@
 -- Moves of the entries of one bucket of a new array out of an old one.
-use Rattle.std.specs.Prelude.{◌≡◌, ◌==◌, ℕ, ◌+◌, ◌*◌, ◌<◌, ◌≤◌, ◌⊎◌, not, List, [], length, slice_set}
+use Rattle.std.specs.Prelude.{◌≡◌, ◌==◌, ℕ, ◌+◌, ◌*◌, ◌^◌, ◌<◌, ◌≤◌, ◌⊎◌, Bool, not, List, [], length, slice_set, IsTrue}
 use Rattle.std.specs.List.{filter, flat_map}
 use Rattle.scc_array.specs.Shelves.{shelf_of}
 use Rattle.scc_array.specs.Shelf.{Shelf, shelf_entries}
 use Rattle.scc_common.specs.Contents.{Contents, bucket_count, lists_of, refused_of, settings_of}
-use Rattle.scc_buckets.specs.Pour.{bound_for, Extends}
+use Rattle.scc_buckets.specs.Pour.{bound_for, Extends, IsPacked}
 use Rattle.scc_common.specs.Routing.{bucket_number}
 use Rattle.scc_buckets.specs.Tables.{IsOwn}
 
@@ -39,6 +39,25 @@ pub record IsWithinSources {E : Type 0} (hash : E → ℕ) (t n i first last : �
 -- the old buckets from `first` up to before `last` hold only entries that belong to bucket i of n
 pub record AreJoined {E : Type 0} (hash : E → ℕ) (t n i first last : ℕ) (olds : List (Shelf E)) : Type 0 where
   pub all : (j : ℕ) → first ≤ j → j < last → bound_for hash t n i (shelf_entries (shelf_of olds j)) ≡ shelf_entries (shelf_of olds j)
+
+-- the entries that belong to bucket i of n stand in the old buckets from `first` up to before `last`, if `whole` alone
+-- there, and each old bucket holds only its own entries
+pub record IsDrainable {E : Type 0} (hash : E → ℕ) (t n i first last : ℕ) (whole : Bool) (olds : List (Shelf E)) : Type 0 where
+  pub bits : t < 64
+  pub sources : IsWithinSources hash t n i first last olds
+  pub joined : IsTrue whole → AreJoined hash t n i first last olds
+  pub few : (j : ℕ) → length (shelf_of olds j).overflow < 2 ^ 62
+  pub own : AreOwn hash t olds
+
+-- bucket i of `into` has room for the entries of old bucket j that belong to bucket i of n
+pub record IsPullable {E : Type 0} (hash : E → ℕ) (t n i j : ℕ) (olds into : List (Shelf E)) : Type 0 where
+  pub bits : t < 64
+  pub source : j < length olds
+  pub few : length (shelf_of olds j).overflow < 2 ^ 62
+  pub own : IsOwn hash t (length olds) j (shelf_of olds j)
+  pub target : i < length into
+  pub packed : IsPacked hash (shelf_of into i)
+  pub room : length (shelf_entries (shelf_of into i)) + length (bound_for hash t n i (shelf_entries (shelf_of olds j))) ≤ 32 + (shelf_of into i).room
 
 -- i and k are the two buckets that share an old bucket when the array doubles
 abbrev pub AreSiblings : ℕ → ℕ → Type 0

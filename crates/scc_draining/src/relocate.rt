@@ -3,11 +3,11 @@ ghost use Rattle.scc_array.specs.Shelf.{empty_shelf, shelf_entries};
 ghost use Rattle.scc_array.specs.Shelves.{shelf_of};
 ghost use Rattle.scc_array.specs.Sifts.{ups};
 ghost use Rattle.scc_buckets.specs.Pour.{IsPacked, bound_for};
-ghost use Rattle.scc_buckets.specs.Tables.{overflow_in, IsOwn};
+ghost use Rattle.scc_buckets.specs.Tables.{overflow_in};
 ghost use Rattle.scc_common.specs.Contents.{bucket_count, key_hash, list_of, lists_of, settings_of, overflow_of};
 ghost use Rattle.scc_common.specs.Routing.{bucket_number};
 ghost use Rattle.scc_common.specs.Sizes.{IsBucketCount};
-ghost use Rattle.scc_draining.specs.Moves.{AreJoined, AreMultiples, AreOwn, AreSiblings, Drains, IsWithinSources, Pulls};
+ghost use Rattle.scc_draining.specs.Moves.{AreMultiples, AreOwn, AreSiblings, Drains, IsDrainable, IsPullable, IsWithinSources, Pulls};
 ghost use Rattle.scc_draining.specs.Filling.{Fills, MovesTarget};
 ghost use Rattle.std.specs.List.{flat_map, IsDistinct};
 ghost use Rattle.std.specs.Prelude.{◌≡◌, ◌==◌, ◌<◌, ◌≤◌, ◌+◌, ◌^◌, ◌*◌, ◌⊎◌, ℕ, [], length, map, take, false, slice_get, slice_index_or, slice_set, Some, IsTrue, OnOk, OnErr};
@@ -71,17 +71,8 @@ fn pull_each<E: Keyed, H: BuildHasher>(
 )
 where
     E::Key: Eq + Hash,
-    requires bits { task.skipped < 64 }
-    requires source { source < length old.old }
-    requires few { length (shelf_of old.old source).overflow < 2 ^ 62 }
-    requires own { IsOwn (λ e. key_hash H.BuildHasher H.Hasher.Hasher E.Key.hash_input table.now (E.key_of e))
-        task.skipped (length old.old) source (shelf_of old.old source) }
-    requires target { task.target < length into.old }
-    requires packed { IsPacked (λ e. key_hash H.BuildHasher H.Hasher.Hasher E.Key.hash_input table.now (E.key_of e))
-        (shelf_of into.old task.target) }
-    requires room { length (shelf_entries (shelf_of into.old task.target)) + length (bound_for (λ e. key_hash
-        H.BuildHasher H.Hasher.Hasher E.Key.hash_input table.now (E.key_of e)) task.skipped count task.target
-        (shelf_entries (shelf_of old.old source))) ≤ 32 + (shelf_of into.old task.target).room }
+    requires { IsPullable (λ e. key_hash H.BuildHasher H.Hasher.Hasher E.Key.hash_input table.now (E.key_of e))
+        task.skipped count task.target source old.old into.old }
     ensures pulls { Pulls (λ e. key_hash H.BuildHasher H.Hasher.Hasher E.Key.hash_input table.now (E.key_of e))
         task.skipped count task.target source old.old (shelf_of into.old task.target) old.new (shelf_of into.new
         task.target) }
@@ -113,20 +104,11 @@ fn pull<E: Keyed, H: BuildHasher>(
 )
 where
     E::Key: Eq + Hash,
-    requires bits { task.skipped < 64 }
-    requires source { source < length old.old }
-    requires few { length (shelf_of old.old source).overflow < 2 ^ 62 }
-    requires own { IsOwn (λ e. key_hash H.BuildHasher H.Hasher.Hasher E.Key.hash_input table.now (E.key_of e))
-        task.skipped (length old.old) source (shelf_of old.old source) }
+    requires pullable { IsPullable (λ e. key_hash H.BuildHasher H.Hasher.Hasher E.Key.hash_input table.now (E.key_of
+        e)) task.skipped count task.target source old.old into.old }
     requires joined { IsTrue task.whole → bound_for (λ e. key_hash H.BuildHasher H.Hasher.Hasher E.Key.hash_input
         table.now (E.key_of e)) task.skipped count task.target (shelf_entries (shelf_of old.old source)) ≡ shelf_entries
         (shelf_of old.old source) }
-    requires target { task.target < length into.old }
-    requires packed { IsPacked (λ e. key_hash H.BuildHasher H.Hasher.Hasher E.Key.hash_input table.now (E.key_of e))
-        (shelf_of into.old task.target) }
-    requires room { length (shelf_entries (shelf_of into.old task.target)) + length (bound_for (λ e. key_hash
-        H.BuildHasher H.Hasher.Hasher E.Key.hash_input table.now (E.key_of e)) task.skipped count task.target
-        (shelf_entries (shelf_of old.old source))) ≤ 32 + (shelf_of into.old task.target).room }
     ensures pulls { Pulls (λ e. key_hash H.BuildHasher H.Hasher.Hasher E.Key.hash_input table.now (E.key_of e))
         task.skipped count task.target source old.old (shelf_of into.old task.target) old.new (shelf_of into.new
         task.target) }
@@ -161,14 +143,8 @@ fn drain<E: Keyed, H: BuildHasher>(
 )
 where
     E::Key: Eq + Hash,
-    requires bits { task.skipped < 64 }
-    requires sources { IsWithinSources (λ e. key_hash H.BuildHasher H.Hasher.Hasher E.Key.hash_input table.now (E.key_of
-        e)) task.skipped count task.target task.first task.last old.old }
-    requires joined { IsTrue task.whole → AreJoined (λ e. key_hash H.BuildHasher H.Hasher.Hasher E.Key.hash_input
-        table.now (E.key_of e)) task.skipped count task.target task.first task.last old.old }
-    requires few { (j : ℕ) → length (shelf_of old.old j).overflow < 2 ^ 62 }
-    requires own { AreOwn (λ e. key_hash H.BuildHasher H.Hasher.Hasher E.Key.hash_input table.now (E.key_of e))
-        task.skipped old.old }
+    requires drainable { IsDrainable (λ e. key_hash H.BuildHasher H.Hasher.Hasher E.Key.hash_input table.now (E.key_of
+        e)) task.skipped count task.target task.first task.last task.whole old.old }
     requires target { task.target < length into.old }
     requires packed { IsPacked (λ e. key_hash H.BuildHasher H.Hasher.Hasher E.Key.hash_input table.now (E.key_of e))
         (shelf_of into.old task.target) }
@@ -223,14 +199,8 @@ fn fill<E: Keyed, H: BuildHasher>(
 ) -> Result<(), AllocError>
 where
     E::Key: Eq + Hash,
-    requires bits { task.skipped < 64 }
-    requires sources { IsWithinSources (λ e. key_hash H.BuildHasher H.Hasher.Hasher E.Key.hash_input table.now (E.key_of
-        e)) task.skipped count task.target task.first task.last old.old }
-    requires joined { IsTrue task.whole → AreJoined (λ e. key_hash H.BuildHasher H.Hasher.Hasher E.Key.hash_input
-        table.now (E.key_of e)) task.skipped count task.target task.first task.last old.old }
-    requires few { (j : ℕ) → length (shelf_of old.old j).overflow < 2 ^ 62 }
-    requires own { AreOwn (λ e. key_hash H.BuildHasher H.Hasher.Hasher E.Key.hash_input table.now (E.key_of e))
-        task.skipped old.old }
+    requires drainable { IsDrainable (λ e. key_hash H.BuildHasher H.Hasher.Hasher E.Key.hash_input table.now (E.key_of
+        e)) task.skipped count task.target task.first task.last task.whole old.old }
     requires target { task.target < length into.old }
     requires empty { shelf_of into.old task.target
         ≡ record empty_shelf { room = (shelf_of into.old task.target).room } }
@@ -257,17 +227,11 @@ fn move_in<E: Keyed, H: BuildHasher>(
 ) -> Result<usize, AllocError>
 where
     E::Key: Eq + Hash,
-    requires bits { task.skipped < 64 }
+    requires drainable { IsDrainable (λ e. key_hash H.BuildHasher H.Hasher.Hasher E.Key.hash_input current.old
+        (E.key_of e)) task.skipped (bucket_count current.old) task.target task.first task.last task.whole old.old }
     requires skips { task.skipped ≡ (settings_of current.old).skipped }
     requires target { task.target < bucket_count current.old }
     requires bare { list_of current.old task.target ≡ [] }
-    requires sources { IsWithinSources (λ e. key_hash H.BuildHasher H.Hasher.Hasher E.Key.hash_input current.old
-        (E.key_of e)) task.skipped (bucket_count current.old) task.target task.first task.last old.old }
-    requires joined { IsTrue task.whole → AreJoined (λ e. key_hash H.BuildHasher H.Hasher.Hasher E.Key.hash_input
-        current.old (E.key_of e)) task.skipped (bucket_count current.old) task.target task.first task.last old.old }
-    requires few { (j : ℕ) → length (shelf_of old.old j).overflow < 2 ^ 62 }
-    requires own { AreOwn (λ e. key_hash H.BuildHasher H.Hasher.Hasher E.Key.hash_input current.old (E.key_of e))
-        task.skipped old.old }
     requires coming { length (bound_for (λ e. key_hash H.BuildHasher H.Hasher.Hasher E.Key.hash_input current.old
         (E.key_of e)) task.skipped (bucket_count current.old) task.target (flat_map shelf_entries old.old)) ≤ coming }
     requires aside { overflow_of current.old + aside < 2 ^ 62 }
@@ -432,14 +396,8 @@ fn count_coming<E: Keyed, H: BuildHasher>(
 ) -> usize
 where
     E::Key: Eq + Hash,
-    requires bits { task.skipped < 64 }
-    requires sources { IsWithinSources (λ e. key_hash H.BuildHasher H.Hasher.Hasher E.Key.hash_input table.now (E.key_of
-        e)) task.skipped count task.target task.first task.last old.now }
-    requires joined { IsTrue task.whole → AreJoined (λ e. key_hash H.BuildHasher H.Hasher.Hasher E.Key.hash_input
-        table.now (E.key_of e)) task.skipped count task.target task.first task.last old.now }
-    requires few { (j : ℕ) → length (shelf_of old.now j).overflow < 2 ^ 62 }
-    requires own { AreOwn (λ e. key_hash H.BuildHasher H.Hasher.Hasher E.Key.hash_input table.now (E.key_of e))
-        task.skipped old.now }
+    requires drainable { IsDrainable (λ e. key_hash H.BuildHasher H.Hasher.Hasher E.Key.hash_input table.now (E.key_of
+        e)) task.skipped count task.target task.first task.last task.whole old.now }
     requires most { length (flat_map shelf_entries old.now) < 2 ^ 64 }
     ensures enough { length (bound_for (λ e. key_hash H.BuildHasher H.Hasher.Hasher E.Key.hash_input table.now (E.key_of
         e)) task.skipped count task.target (flat_map shelf_entries old.now)) ≤ result }
@@ -489,7 +447,8 @@ where
     requires spilled { overflow_in old.old ≤ aside }
     requires aside { overflow_of current.old + aside < 2 ^ 62 }
     requires flags { length waiting.now ≡ bucket_count current.old }
-    requires not_waiting { (i : ℕ) → i < bucket_count current.old → slice_index_or waiting.now i false ≡ false → bound_for
+    requires not_waiting { (i : ℕ) → i < bucket_count current.old → slice_index_or waiting.now i false ≡ false →
+        bound_for
         (λ e. key_hash H.BuildHasher H.Hasher.Hasher E.Key.hash_input current.old (E.key_of e)) skipped (bucket_count
         current.old) i (flat_map shelf_entries old.old) ≡ [] }
     requires unique { IsDistinct E.Key.eq (map E.key_of (flat_map (λ l. l) (slice_set (lists_of current.old) target

@@ -12,29 +12,17 @@ use Rattle.scc_draining.proofs.Buckets.{still-within}
 use Rattle.scc_draining.proofs.Arriving.{count-were, list-were, is-bare, landed-from, landed-list, landed-spilled, landed-table, distinct-landed, IsDistinct-nil, lists-set, same-contents, same-lists, any-ok}
 use Rattle.scc_draining.proofs.relocate.move_in.Goals as goal
 
-pub install-fresh-requires-clause-unique : goal.install-fresh-requires-clause-unique
-install-fresh-requires-clause-unique g c =
-    subst (λ (z : List (Shelf g.row.E.Denot)). IsDistinct g.E.Key.PartialEq.eq (map g.E.Keyed.key_of (flat_map shelf_entries z))) (sym c.none.ensures) (IsDistinct-nil g.E.Key.PartialEq.eq)
-
-pub fill-filled-requires-clause-sources : goal.fill-filled-requires-clause-sources
-fill-filled-requires-clause-sources g c =
-    let cur = c.args.current.now in
-    let bs = c.install-fresh.result.0 in
-    let i = c.args.task.target in
-    let hash = λ (e : g.row.E.Denot). key_hash g.H.BuildHasher g.H.Hasher.Hasher g.E.Key.Hash.hash_input cur (g.E.Keyed.key_of e) in
-    let were = c.install-fresh.ensures.were in
-    let counted = count-were cur bs were in
-    let l : i < length bs = omega (arith, c.requires.target) in
-    let buckets : c.len-buckets.result ≡ bucket_count cur = let z : c.len-buckets.result ≡ length bs = search rules in z ∙ sym counted in
-    rw (c.install-fresh.ensures.settings, buckets) c.requires.sources
-
-pub fill-filled-requires-clause-joined : goal.fill-filled-requires-clause-joined
-fill-filled-requires-clause-joined g c =
+pub fill-filled-requires-clause-drainable : goal.fill-filled-requires-clause-drainable
+fill-filled-requires-clause-drainable g c =
     let cur = c.args.current.now in
     let bs = c.install-fresh.result.0 in
     let counted = count-were cur bs c.install-fresh.ensures.were in
     let buckets : c.len-buckets.result ≡ bucket_count cur = let z : c.len-buckets.result ≡ length bs = search rules in z ∙ sym counted in
-    rw (c.install-fresh.ensures.settings, buckets) c.requires.joined
+    rw (c.install-fresh.ensures.settings, buckets) c.requires.drainable
+
+pub install-fresh-requires-clause-unique : goal.install-fresh-requires-clause-unique
+install-fresh-requires-clause-unique g c =
+    subst (λ (z : List (Shelf g.row.E.Denot)). IsDistinct g.E.Key.PartialEq.eq (map g.E.Keyed.key_of (flat_map shelf_entries z))) (sym c.none.ensures) (IsDistinct-nil g.E.Key.PartialEq.eq)
 
 pub fill-filled-requires-clause-empty : goal.fill-filled-requires-clause-empty
 fill-filled-requires-clause-empty g c =

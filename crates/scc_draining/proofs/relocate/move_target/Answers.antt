@@ -2,10 +2,53 @@ use Rattle.std.proofs.Common.{◌^◌, ◌<◌, ◌∙◌, sym, arith, rules}
 use Rattle.std.proofs.lemmas.Result.{on_ok_weaker, on_err_weaker}
 use Rattle.scc_common.specs.Contents.{bucket_count, key_hash}
 use Rattle.scc_buckets.specs.Tables.{overflow_in}
+use Rattle.scc_draining.specs.Moves.{IsDrainable}
 use Rattle.scc_draining.proofs.Counted.{short-counted}
 use Rattle.scc_draining.proofs.FromBuckets.{within-sources, few-each, most-entry_count}
 use Rattle.scc_draining.proofs.Joined.{whole-joined}
 use Rattle.scc_draining.proofs.relocate.move_target.Goals as goal
+
+pub count_coming-coming-requires-clause-drainable : goal.count_coming-coming-requires-clause-drainable
+count_coming-coming-requires-clause-drainable g c =
+    let cur = c.args.current.now in
+    let olds = c.args.old.now in
+    let hash = λ (e : g.row.E.Denot). key_hash g.H.BuildHasher g.H.Hasher.Hasher g.E.Key.Hash.hash_input cur (g.E.Keyed.key_of e) in
+    let first = c.sources-first.result.0 in
+    let end = c.sources-first.result.1 in
+    let last = rw c.len-before.ensures.count at c.sources-first.ensures.within in
+    let only = rw (c.len-before.ensures.count, c.bucket_count-count.ensures.count) at c.sources-first.ensures.only in
+    let all = rw (c.len-before.ensures.count, c.bucket_count-count.ensures.count) at c.sources-first.ensures.joined in
+    let two = rw (c.len-before.ensures.count, c.bucket_count-count.ensures.count) at c.sources-first.ensures.doubled in
+    let whole = rw (c.len-before.ensures.count, c.bucket_count-count.ensures.count) at c.is_whole-whole.ensures in
+    let drainable : IsDrainable hash c.args.skipped (bucket_count cur) c.args.target first end c.is_whole-whole.result olds = record {
+      bits = c.requires.bits;
+      sources = within-sources hash c.args.skipped (bucket_count cur) c.args.target first end olds c.requires.own c.sources-first.ensures.order last only;
+      joined = whole-joined hash c.args.skipped (bucket_count cur) c.args.target first end olds c.args.waiting.now c.is_whole-whole.result c.requires.own last all two c.requires.not_waiting whole;
+      few = few-each olds c.args.aside c.requires.spilled (let f = c.requires.aside in omega arith);
+      own = c.requires.own;
+    } in
+    rw c.bucket_count-count.ensures.count drainable
+
+pub move_in-requires-clause-drainable : goal.move_in-requires-clause-drainable
+move_in-requires-clause-drainable g c =
+    let cur = c.args.current.now in
+    let olds = c.args.old.now in
+    let hash = λ (e : g.row.E.Denot). key_hash g.H.BuildHasher g.H.Hasher.Hasher g.E.Key.Hash.hash_input cur (g.E.Keyed.key_of e) in
+    let first = c.sources-first.result.0 in
+    let end = c.sources-first.result.1 in
+    let last = rw c.len-before.ensures.count at c.sources-first.ensures.within in
+    let only = rw (c.len-before.ensures.count, c.bucket_count-count.ensures.count) at c.sources-first.ensures.only in
+    let all = rw (c.len-before.ensures.count, c.bucket_count-count.ensures.count) at c.sources-first.ensures.joined in
+    let two = rw (c.len-before.ensures.count, c.bucket_count-count.ensures.count) at c.sources-first.ensures.doubled in
+    let whole = rw (c.len-before.ensures.count, c.bucket_count-count.ensures.count) at c.is_whole-whole.ensures in
+    let drainable : IsDrainable hash c.args.skipped (bucket_count cur) c.args.target first end c.is_whole-whole.result olds = record {
+      bits = c.requires.bits;
+      sources = within-sources hash c.args.skipped (bucket_count cur) c.args.target first end olds c.requires.own c.sources-first.ensures.order last only;
+      joined = whole-joined hash c.args.skipped (bucket_count cur) c.args.target first end olds c.args.waiting.now c.is_whole-whole.result c.requires.own last all two c.requires.not_waiting whole;
+      few = few-each olds c.args.aside c.requires.spilled (let f = c.requires.aside in omega arith);
+      own = c.requires.own;
+    } in
+    drainable
 
 pub sources-first-requires-clause-some : goal.sources-first-requires-clause-some
 sources-first-requires-clause-some g c = let z = c.requires.sized in omega (arith, z.least, c.len-before.ensures.count)
@@ -19,19 +62,6 @@ sources-first-requires-clause-target g c = omega (arith, c.requires.target, c.bu
 pub sources-first-requires-clause-multiples : goal.sources-first-requires-clause-multiples
 sources-first-requires-clause-multiples g c = rw (c.len-before.ensures.count, c.bucket_count-count.ensures.count) c.requires.multiples
 
-pub count_coming-coming-requires-clause-sources : goal.count_coming-coming-requires-clause-sources
-count_coming-coming-requires-clause-sources g c =
-    let cur = c.args.current.now in
-    let olds = c.args.old.now in
-    let hash = λ (e : g.row.E.Denot). key_hash g.H.BuildHasher g.H.Hasher.Hasher g.E.Key.Hash.hash_input cur (g.E.Keyed.key_of e) in
-    let only = rw (c.len-before.ensures.count, c.bucket_count-count.ensures.count) at c.sources-first.ensures.only in
-    let last = rw c.len-before.ensures.count at c.sources-first.ensures.within in
-    let sources = within-sources hash c.args.skipped (bucket_count cur) c.args.target c.sources-first.result.0 c.sources-first.result.1 olds c.requires.own c.sources-first.ensures.order last only in
-    rw c.bucket_count-count.ensures.count sources
-
-pub count_coming-coming-requires-clause-few : goal.count_coming-coming-requires-clause-few
-count_coming-coming-requires-clause-few g c = few-each c.args.old.now c.args.aside c.requires.spilled (let f = c.requires.aside in omega arith)
-
 pub count_coming-coming-requires-clause-most : goal.count_coming-coming-requires-clause-most
 count_coming-coming-requires-clause-most g c =
     let hash = λ (e : g.row.E.Denot). key_hash g.H.BuildHasher g.H.Hasher.Hasher g.E.Key.Hash.hash_input c.args.current.now (g.E.Keyed.key_of e) in
@@ -39,44 +69,8 @@ count_coming-coming-requires-clause-most g c =
     let m = most-entry_count hash c.args.skipped c.args.old.now c.requires.sized c.requires.own low in
     omega arith
 
-pub move_in-requires-clause-sources : goal.move_in-requires-clause-sources
-move_in-requires-clause-sources g c =
-    let cur = c.args.current.now in
-    let olds = c.args.old.now in
-    let hash = λ (e : g.row.E.Denot). key_hash g.H.BuildHasher g.H.Hasher.Hasher g.E.Key.Hash.hash_input cur (g.E.Keyed.key_of e) in
-    let only = rw (c.len-before.ensures.count, c.bucket_count-count.ensures.count) at c.sources-first.ensures.only in
-    let last = rw c.len-before.ensures.count at c.sources-first.ensures.within in
-    within-sources hash c.args.skipped (bucket_count cur) c.args.target c.sources-first.result.0 c.sources-first.result.1 olds c.requires.own c.sources-first.ensures.order last only
-
-pub move_in-requires-clause-few : goal.move_in-requires-clause-few
-move_in-requires-clause-few g c = few-each c.args.old.now c.args.aside c.requires.spilled (let f = c.requires.aside in omega arith)
-
 pub is_whole-whole-requires-clause-flags : goal.is_whole-whole-requires-clause-flags
 is_whole-whole-requires-clause-flags g c = c.requires.flags ∙ sym c.bucket_count-count.ensures.count
-
-pub count_coming-coming-requires-clause-joined : goal.count_coming-coming-requires-clause-joined
-count_coming-coming-requires-clause-joined g c =
-    let cur = c.args.current.now in
-    let olds = c.args.old.now in
-    let hash = λ (e : g.row.E.Denot). key_hash g.H.BuildHasher g.H.Hasher.Hasher g.E.Key.Hash.hash_input cur (g.E.Keyed.key_of e) in
-    let all = rw (c.len-before.ensures.count, c.bucket_count-count.ensures.count) at c.sources-first.ensures.joined in
-    let two = rw (c.len-before.ensures.count, c.bucket_count-count.ensures.count) at c.sources-first.ensures.doubled in
-    let last = rw c.len-before.ensures.count at c.sources-first.ensures.within in
-    let whole = rw (c.len-before.ensures.count, c.bucket_count-count.ensures.count) at c.is_whole-whole.ensures in
-    let joined = whole-joined hash c.args.skipped (bucket_count cur) c.args.target c.sources-first.result.0 c.sources-first.result.1 olds c.args.waiting.now c.is_whole-whole.result c.requires.own last all two c.requires.not_waiting whole in
-    rw c.bucket_count-count.ensures.count joined
-
-pub move_in-requires-clause-joined : goal.move_in-requires-clause-joined
-move_in-requires-clause-joined g c =
-    let cur = c.args.current.now in
-    let olds = c.args.old.now in
-    let hash = λ (e : g.row.E.Denot). key_hash g.H.BuildHasher g.H.Hasher.Hasher g.E.Key.Hash.hash_input cur (g.E.Keyed.key_of e) in
-    let all = rw (c.len-before.ensures.count, c.bucket_count-count.ensures.count) at c.sources-first.ensures.joined in
-    let two = rw (c.len-before.ensures.count, c.bucket_count-count.ensures.count) at c.sources-first.ensures.doubled in
-    let last = rw c.len-before.ensures.count at c.sources-first.ensures.within in
-    let whole = rw (c.len-before.ensures.count, c.bucket_count-count.ensures.count) at c.is_whole-whole.ensures in
-    let joined = whole-joined hash c.args.skipped (bucket_count cur) c.args.target c.sources-first.result.0 c.sources-first.result.1 olds c.args.waiting.now c.is_whole-whole.result c.requires.own last all two c.requires.not_waiting whole in
-    joined
 
 pub returns : goal.returns
 returns g c =
