@@ -1,5 +1,7 @@
 -- Lemmas about an entry, whatever its guard is.
 use Rattle.std.proofs.Common.{◌≡◌, ℕ, Bool, Some, Result, Ok, Err, refl, sym, ap, subst, ◌∙◌}
+use mathlib.Core.Option.{some}
+use Rattle.std.specs.Borrow.{MutBor}
 use Rattle.std.specs.Prelude.{IfOk, IfErr}
 use Rattle.std.specs.Cmp.{IsEquivalence}
 use Rattle.std.specs.List.{IsDistinct, slice_get}
@@ -30,6 +32,10 @@ use Rattle.scc_map.specs.declared.held.HeldVacant.{HeldVacant}
 -- a write of a value leaves the waiting buckets as they are
 pub waiting-put : {K V S : Type 0} (m : Contents (K × V) S) (p : Place) (v : V) (n : Contents (K × V) S) → n ≡ with_write_at with_pair_value m p v → waiting_of n ≡ waiting_of m
 waiting-put m p v n made = ap waiting_of made ∙ waiting-write with_pair_value m p v
+
+-- equal references have one name, in the form in which the check asks for it of a returned entry
+pub same-name : {A : Type 0} {x y : MutBor A} → x ≡ y → some y.ghost_name ≡ some x.ghost_name
+same-name is = ap (λ z. some z.ghost_name) (sym is)
 
 module _ {G N K V S T : Type 0} {d : guard.Ghosts G (Contents (K × V) S)} {g : eq.Ghosts K} {h : hash.Ghosts K} {b : builder.Ghosts S T} {w : hasher.Ghosts T} where
   -- if p stands at the entry's place in the contents behind the guard, p is the entry's pair

@@ -1,12 +1,12 @@
-use Rattle.std.proofs.Common.{Some, refl, sym, ap}
+use Rattle.std.proofs.Common.{refl, ap}
 use Rattle.scc_common.specs.Contents.{entries}
-use Rattle.scc_map.proofs.Entries.{occupied-at}
+use Rattle.scc_map.proofs.Entries.{same-name, occupied-at}
 use Rattle.scc_buckets.proofs.Lookups.{find-position_none}
 use Rattle.scc_map.proofs.Owned.get_sync.Goals as goal
 
 pub returns-in-Some : goal.returns-in-Some
 returns-in-Some g c = (
-  (ap (λ x. Some x.ghost_name) (sym c.at.ensures.guard), λ w. refl, tt),
+  (same-name c.at.ensures.guard, λ w. refl, tt),
   record {
     same_map = ap (λ x. x.ghost_name) c.at.ensures.guard;
     entry = occupied-at g.met.K.Eq.laws c.args.k.now c.at.result _ _ c.at.ensures.guard c.at.ensures.place (rw c.self.view_is at c.search.ensures.unique) (rw c.self.view_is at c.in-Some.ensures.place);

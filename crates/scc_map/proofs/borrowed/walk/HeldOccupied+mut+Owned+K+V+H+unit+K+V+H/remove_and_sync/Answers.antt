@@ -1,14 +1,14 @@
-use Rattle.std.proofs.Common.{Some, refl, sym, ap, ◌∙◌}
+use Rattle.std.proofs.Common.{refl, ap, ◌∙◌}
 use Rattle.scc_common.specs.Contents.{waiting_of}
 use Rattle.scc_table.proofs.AtPlaces.{back-none, left-there}
-use Rattle.scc_map.proofs.Entries.{pair-is}
+use Rattle.scc_map.proofs.Entries.{same-name, pair-is}
 use Rattle.scc_map.proofs.EntrySteps.{next-past}
 use Rattle.scc_map.proofs.borrowed.walk.HeldOccupied+mut+Owned+K+V+H+unit+K+V+H.remove_and_sync.Goals as goal
 
 pub returns-in-Some : goal.returns-in-Some
 returns-in-Some g c =
     let next = rw c.in-Some.is at c.take_with_next-pair.ensures.next in (
-      (ap (λ x. Some x.ghost_name) (sym c.at.ensures.guard), λ w. refl, tt),
+      (same-name c.at.ensures.guard, λ w. refl, tt),
       record {
         removes = record {
           pair = pair-is c.args.self c.args.self.guard.now c.take_with_next-pair.result.0 refl c.take_with_next-pair.ensures.pair;
