@@ -50,3 +50,54 @@ pub enum HeldReplace<G: Guard<Inner = Owned<K, V, H>>, N, K: Eq + Hash, V, H: Bu
     Replaced(HeldOccupied<G, N, K, V, H>, K),
     NotReplaced(HeldVacant<G, N, K, V, H>),
 }
+
+impl<G: Guard<Inner = Owned<K, V, H>>, N, K: Eq + Hash, V, H: BuildHasher> HeldOccupied<
+    G,
+    N,
+    K,
+    V,
+    H,
+> {
+    /// Makes the entry at a place of the cache of `guard`.
+    #[inline(always)]
+    pub(crate) fn at(guard: G, place: Place, rest: N) -> Self
+        requires { IsPlace (G.inner guard).contents place }
+        ensures guard { result.guard ≡ guard }
+        ensures place { result.place ≡ place }
+        ensures rest { result.rest ≡ rest }
+    {
+        HeldOccupied {
+            guard,
+            place,
+            rest,
+            of: PhantomData,
+        }
+    }
+}
+
+impl<G: Guard<Inner = Owned<K, V, H>>, N, K: Eq + Hash, V, H: BuildHasher> HeldVacant<
+    G,
+    N,
+    K,
+    V,
+    H,
+> {
+    /// Makes the entry of a key that the cache of `guard` lacks, and whose hash is `hash`.
+    #[inline(always)]
+    pub(crate) fn of_key(guard: G, key: K, hash: u64, rest: N) -> Self
+        requires lacking { IsLacking (key_hash H.BuildHasher H.Hasher.Hasher K.hash_input (G.inner guard).contents) K.eq
+            (G.inner guard).contents key }
+        requires hashed { hash ≡ key_hash H.BuildHasher H.Hasher.Hasher K.hash_input (G.inner guard).contents key }
+        ensures guard { result.guard ≡ guard }
+        ensures key { result.key ≡ key }
+        ensures rest { result.rest ≡ rest }
+    {
+        HeldVacant {
+            guard,
+            key,
+            hash,
+            rest,
+            of: PhantomData,
+        }
+    }
+}

@@ -1,5 +1,7 @@
 -- Lemmas about an entry, whatever its guard is.
-use Rattle.std.proofs.Common.{◌≡◌, Bool, true, Some, Result, Ok, Err, suc, take, drop, refl, sym, ap, subst, ◌∙◌}
+use Rattle.std.proofs.Common.{◌≡◌, ℕ, Bool, true, Some, Result, Ok, Err, suc, take, drop, refl, sym, ap, subst, ◌∙◌}
+use mathlib.Core.Option.{some}
+use Rattle.std.specs.Borrow.{MutBor}
 use Rattle.std.specs.Prelude.{IfOk, IfErr, ⊤}
 use Rattle.std.specs.Result.{OnErr}
 use Rattle.std.specs.Cmp.{IsEquivalence}
@@ -9,18 +11,19 @@ use Rattle.std.specs.declared.cmp.PartialEq as eq
 use Rattle.std.specs.declared.hash.Hash as hash
 use Rattle.std.specs.declared.hash.Hasher as hasher
 use Rattle.std.specs.declared.hash.BuildHasher as builder
-use Rattle.scc_common.specs.Contents.{Contents, entries, key_hash, waiting_of}
+use Rattle.scc_common.specs.Contents.{Contents, entries, hash_in, key_hash, waiting_of}
 use Rattle.scc_array.specs.ShelfWrites.{put_whole}
 use Rattle.scc_buckets.specs.Placed as spots
 use Rattle.scc_table.specs.Placed.{front_of, back_of, IsPlace-with_write_at}
 use Rattle.scc_table.specs.Places.{IsPlace, IsFoundAt, IsInsertedAt, index_of, with_write_at}
+use Rattle.scc_buckets.specs.declared.place.Place.{Place}
 use Rattle.scc_common.specs.declared.guard.Guard as guard
 use Rattle.scc_buckets.proofs.PairSplits.{set_value-at, set_key-split, apart-at, without-at}
 use Rattle.scc_table.proofs.AtPlaces.{place-found, place-prop, entry_of-is, splits-there, written-there, put-there}
 use Rattle.scc_common.specs.declared.errors.InsertError.{InsertError}
 use Rattle.scc_common.specs.Pairs.{IsUnique}
 use Rattle.scc_table.specs.Relocations.{Relocates, RelocatesTwo}
-use Rattle.scc_index.specs.Entries.{Memory, Occupied, Vacant, entry_guard, entry_key, occupied_pair, GrowsThrough, IsGrownFor, IsOccupiedAt, IsUpdated, IsInserted, IsVacant, OrInserts, OrInsertsSome, RefusesSome, RelocatesThrough}
+use Rattle.scc_index.specs.Entries.{Memory, Occupied, Vacant, entry_guard, entry_key, occupied_pair, GrowsThrough, IsGrownFor, InsertsAtVacant, IsOccupiedAt, IsUpdated, IsInserted, IsVacant, OrInserts, OrInsertsSome, RefusesSome, RelocatesThrough}
 use Rattle.scc_table.proofs.Relocations.{waiting-write}
 use Rattle.scc_index.proofs.Updates.{finds-replaced}
 use Rattle.scc_index.specs.declared.held.HeldOccupied.{HeldOccupied}
@@ -43,16 +46,20 @@ pub any-err : {A B : Type 0} (r : Result A B) → OnErr r ⊤
 any-err (Ok a) = tt
 any-err (Err e) = tt
 
+-- equal references have one name, in the form in which the check asks for it of a returned entry
+pub same-name : {A : Type 0} {x y : MutBor A} → x ≡ y → some y.ghost_name ≡ some x.ghost_name
+same-name is = ap (λ z. some z.ghost_name) (sym is)
+
 module _ {G N K V S T : Type 0} {d : guard.Ghosts G (Contents (K × V) S)} {g : eq.Ghosts K} {h : hash.Ghosts K} {b : builder.Ghosts S T} {w : hasher.Ghosts T} where
   -- if p stands at the entry's place in the contents behind the guard, p is the entry's pair
   pub pair-is : (o : HeldOccupied G N K V S T d g h b w) (m : Contents (K × V) S) (p : K × V) → m ≡ d.inner o.guard → slice_get (entries m) (index_of m o.place) ≡ Some p → p ≡ occupied_pair o
   pair-is o m p is got = sym (entry_of-is (d.inner o.guard) o.place o.within p (subst (λ (c : Contents (K × V) S). slice_get (entries c) (index_of c o.place) ≡ Some p) is got))
 
-  -- if a search for k found the place of an entry, the entry is the entry of k
-  pub occupied-at : {same : K → K → Bool} (laws : IsEquivalence same) (k : K) (o : HeldOccupied G N K V S T d g h b w) → IsDistinct same (keys_of (entries (d.inner o.guard))) → IsFoundAt (λ e. same k e.0) (d.inner o.guard) o.place
+  -- if an occupied entry stands at the place of k, it is the entry of k
+  occupied-by : {same : K → K → Bool} (laws : IsEquivalence same) (k : K) (o : HeldOccupied G N K V S T d g h b w) → IsDistinct same (keys_of (entries (d.inner o.guard))) → IsFoundAt (λ e. same k e.0) (d.inner o.guard) o.place
       → IsOccupiedAt same (d.inner o.guard) k o
   unfolding spots.front_of_spot spots.back_of_spot
-  occupied-at {same = same} laws k o u found =
+  occupied-by {same = same} laws k o u found =
       let c : Contents (K × V) S = d.inner o.guard in
       let f = place-found same c k o.place found in
       let e : occupied_pair o ≡ f.0 = entry_of-is c o.place o.within f.0 f.1 in
@@ -64,6 +71,11 @@ module _ {G N K V S T : Type 0} {d : guard.Ghosts G (Contents (K × V) S)} {g : 
         updates = λ q v. sym (ap (λ l. set_key (same k) l q) (set_value-at laws k (entries c) (index_of c o.place) u f v) ∙ set_key-split (same k) (take (index_of c o.place) (entries c)) (f.0.0, v) (drop (suc (index_of c o.place)) (entries c)) q (apart-at laws k (entries c) (index_of c o.place) u f) f.3);
         removes = sym (without-at laws k (entries c) (index_of c o.place) u f);
       }
+
+  -- if a search for k in the index of x found the place p, an entry with the guard x and the place p is the entry of k
+  pub occupied-at : {same : K → K → Bool} (laws : IsEquivalence same) (k : K) (o : HeldOccupied G N K V S T d g h b w) (x : G) (p : Place) → o.guard ≡ x → o.place ≡ p → IsDistinct same (keys_of (entries (d.inner x))) → IsFoundAt (λ e. same k e.0) (d.inner x) p
+      → IsOccupiedAt same (d.inner x) k o
+  occupied-at {same = same} laws k o x p guarded placed u found = rw (← guarded) (occupied-by laws k o (rw guarded u) (rw (guarded, placed) found))
 
   -- after a version is written at a place through the guard, the place is still a place
   pub within-after : (o : HeldOccupied G N K V S T d g h b w) (m n : Contents (K × V) S) (e : K × V) → m ≡ d.inner o.guard → n ≡ with_write_at put_whole m o.place e → IsPlace (d.inner (d.with_inner o.guard n)) o.place
@@ -99,6 +111,21 @@ module _ {G N K V S T : Type 0} {d : guard.Ghosts G (Contents (K × V) S)} {g : 
         same_guard = guarded ∙ ap (d.with_inner e.guard) (sym k);
         rest = rests;
         at = put-there (d.inner e.guard) (e.key, v) (d.inner o.guard) o.place o.within (subst (λ c. IsInsertedAt c (e.key, v) (d.inner o.guard) o.place) is (subst (λ c. IsInsertedAt m (e.key, v) c o.place) (sym k) i));
+      }
+
+  -- if a new pair was inserted at q through the guard, an entry with that guard and the place q meets the contract of
+  -- `insert_entry`
+  pub inserts-at-vacant : (same : K → K → Bool) (hash_of : S → K → ℕ) (e : HeldVacant G N K V S T d g h b w) (m n : Contents (K × V) S) (v : V) (o : HeldOccupied G N K V S T d g h b w) (q : Place) → o.guard ≡ d.with_inner e.guard n → o.place ≡ q → o.rest ≡ e.rest
+      → m ≡ d.inner e.guard → IsInsertedAt m (e.key, v) n q → IsGrownFor (hash_in hash_of m) m e.key n → Relocates m n → RelocatesTwo (hash_in hash_of m e.key) m n → IsUnique same n → InsertsAtVacant same hash_of e v (Ok o)
+  inserts-at-vacant same hash_of e m n v o q guarded placed rests is i growth relocates two unique =
+      let k : d.inner o.guard ≡ n = ap d.inner guarded ∙ d.inner_law e.guard n in
+      record {
+        inserted = inserted-after e m n v o guarded rests is (rw placed i);
+        growth = rw (k, ← is) growth;
+        relocates = rw (k, ← is) relocates;
+        two = rw (k, ← is) two;
+        unique = rw k unique;
+        refused = tt;
       }
 
   -- an entry that is made again from its parts is equal to the entry

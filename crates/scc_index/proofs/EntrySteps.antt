@@ -1,5 +1,5 @@
 -- Entries that stand one after another, under any guard.
-use Rattle.std.proofs.Common.{◌≡◌, ◌∙◌, suc, [], ◌∷◌, refl}
+use Rattle.std.proofs.Common.{◌≡◌, Bool, ◌∙◌, suc, [], ◌∷◌, refl, ap}
 use Rattle.std.specs.List.{remove}
 use Rattle.std.specs.declared.cmp.PartialEq as eq
 use Rattle.std.specs.declared.hash.Hash as hash
@@ -9,25 +9,39 @@ use Rattle.scc_common.specs.Contents.{Contents, entries, refused_of}
 use Rattle.scc_table.specs.Placed.{entry_of, back_of}
 use Rattle.scc_table.specs.Places.{IsPlace, index_of}
 use Rattle.scc_buckets.specs.declared.place.Place.{Place}
+use Rattle.scc_common.specs.PairWalks.{PassesAt, PassesFirst}
 use Rattle.scc_common.specs.Steps.{HoldsExactly}
 use Rattle.scc_common.specs.declared.guard.Guard as guard
-use Rattle.scc_table.proofs.AtPlaces.{splits-there, next-there, past-there}
+use Rattle.scc_table.proofs.AtPlaces.{splits-there, front-none, next-there, past-there}
+use Rattle.scc_table.proofs.WalkReached.{passes-at}
+use Rattle.scc_index.specs.Entries.{occupied_front, occupied_pair}
 use Rattle.scc_index.specs.EntrySteps.{StandsIn, IsNext, IsNextPastRemoved}
 use Rattle.scc_index.specs.declared.held.HeldOccupied.{HeldOccupied}
 
 module _ {G N K V S T : Type 0} {d : guard.Ghosts G (Contents (K × V) S)} {g : eq.Ghosts K} {h : hash.Ghosts K} {b : builder.Ghosts S T} {w : hasher.Ghosts T} where
-  -- the list is the pairs before an entry, then the pair of the entry, then the pairs after the entry
-  pub stands-in : (o : HeldOccupied G N K V S T d g h b w) → StandsIn (d.inner o.guard) o
-  stands-in o = record { contents = refl; at = splits-there (d.inner o.guard) o.place o.within }
+  -- the list of the index of x is the pairs before an entry with the guard x, then its pair, then the pairs after it
+  pub stands-in : (o : HeldOccupied G N K V S T d g h b w) (x : G) → o.guard ≡ x → StandsIn (d.inner x) o
+  stands-in o x guarded = record { contents = ap d.inner guarded; at = splits-there (d.inner o.guard) o.place o.within }
 
-  -- if p stands at the index after o, p is the next entry after o
-  pub next-at : (o p : HeldOccupied G N K V S T d g h b w) → p.guard ≡ d.with_inner o.guard (d.inner p.guard) → d.inner p.guard ≡ d.inner o.guard → index_of (d.inner o.guard) p.place ≡ suc (index_of (d.inner o.guard) o.place) → IsNext o p
-  next-at o p same now index = record { same_guard = same; at = next-there (d.inner o.guard) o.place o.within (d.inner p.guard) p.place p.within now index }
+  -- if q is the first place of the index of x, an entry with the guard x and the place q is the first entry
+  pub stands-first : (o : HeldOccupied G N K V S T d g h b w) (x : G) (q : Place) → o.guard ≡ x → o.place ≡ q → index_of (d.inner x) q ≡ 0 → StandsIn (d.inner x) o × (occupied_front o ≡ [])
+  stands-first o x q guarded placed first = (stands-in o x guarded, front-none (d.inner o.guard) o.place (rw (guarded, placed) first))
 
-  -- if the pair of o was removed, and p stands at its index, p is the next entry after the removed entry
-  pub next-past : (o p : HeldOccupied G N K V S T d g h b w) → p.guard ≡ d.with_inner o.guard (d.inner p.guard) → HoldsExactly (d.inner o.guard) (remove (entries (d.inner o.guard)) (index_of (d.inner o.guard) o.place)) (d.inner p.guard)
-      → refused_of (d.inner p.guard) ≡ refused_of (d.inner o.guard) → index_of (d.inner p.guard) p.place ≡ index_of (d.inner o.guard) o.place → IsNextPastRemoved o p
-  next-past o p same others noted index = record { same_guard = same; at = past-there (d.inner o.guard) o.place (d.inner p.guard) p.place p.within others noted index }
+  -- if q is the place of the first pair of the index of x on which a closure returns true, an entry with the guard x and
+  -- the place q stands at that pair
+  pub passes-here : {F : Type 0} {C : F → K × V → Bool → F → Type 0} {f : F} (o : HeldOccupied G N K V S T d g h b w) (x : G) (q : Place) → o.guard ≡ x → o.place ≡ q → PassesFirst C f (entries (d.inner x)) (index_of (d.inner x) q)
+      → PassesAt C f (occupied_front o) (occupied_pair o)
+  passes-here {C = C} {f = f} o x q guarded placed first = let here : PassesFirst C f (entries (d.inner o.guard)) (index_of (d.inner o.guard) o.place) = rw (guarded, placed) first in passes-at _ _ _ here
+
+  -- if the place q stands at the index after o, an entry p with the guard x and the place q is the next entry after o
+  pub next-at : (o p : HeldOccupied G N K V S T d g h b w) (x : G) (q : Place) → p.guard ≡ x → p.place ≡ q → x ≡ d.with_inner o.guard (d.inner x) → d.inner x ≡ d.inner o.guard → index_of (d.inner o.guard) q ≡ suc (index_of (d.inner o.guard) o.place) → IsNext o p
+  next-at o p x q guarded placed same now index = record { same_guard = rw guarded same; at = next-there (d.inner o.guard) o.place o.within (d.inner p.guard) p.place p.within (rw guarded now) (rw placed index) }
+
+  -- if the pair of o was removed from the index of x, and the place q stands at its index, an entry p with the guard x
+  -- and the place q is the next entry after the removed entry
+  pub next-past : (o p : HeldOccupied G N K V S T d g h b w) (x : G) (q : Place) → p.guard ≡ x → p.place ≡ q → x ≡ d.with_inner o.guard (d.inner x) → HoldsExactly (d.inner o.guard) (remove (entries (d.inner o.guard)) (index_of (d.inner o.guard) o.place)) (d.inner x)
+      → refused_of (d.inner x) ≡ refused_of (d.inner o.guard) → index_of (d.inner x) q ≡ index_of (d.inner o.guard) o.place → IsNextPastRemoved o p
+  next-past o p x q guarded placed same others noted index = record { same_guard = rw guarded same; at = past-there (d.inner o.guard) o.place (d.inner p.guard) p.place p.within (rw guarded others) (rw guarded noted) (rw (guarded, placed) index) }
 
 module _ {K V S P : Type 0} (c : Contents (K × V) S) (p q : Place) where
   -- if q stands at the index after p, there are pairs after p

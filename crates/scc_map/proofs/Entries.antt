@@ -1,5 +1,7 @@
 -- Lemmas about an entry, whatever its guard is.
-use Rattle.std.proofs.Common.{◌≡◌, Bool, Some, Result, Ok, Err, refl, sym, ap, subst, ◌∙◌}
+use Rattle.std.proofs.Common.{◌≡◌, ℕ, Bool, Some, Result, Ok, Err, refl, sym, ap, subst, ◌∙◌}
+use mathlib.Core.Option.{some}
+use Rattle.std.specs.Borrow.{MutBor}
 use Rattle.std.specs.Prelude.{IfOk, IfErr}
 use Rattle.std.specs.Cmp.{IsEquivalence}
 use Rattle.std.specs.List.{IsDistinct, slice_get}
@@ -8,11 +10,12 @@ use Rattle.std.specs.declared.cmp.PartialEq as eq
 use Rattle.std.specs.declared.hash.Hash as hash
 use Rattle.std.specs.declared.hash.Hasher as hasher
 use Rattle.std.specs.declared.hash.BuildHasher as builder
-use Rattle.scc_common.specs.Contents.{Contents, entries, waiting_of}
-use Rattle.scc_common.specs.Pairs.{with_pair_value}
+use Rattle.scc_common.specs.Contents.{Contents, entries, hash_in, waiting_of}
+use Rattle.scc_common.specs.Pairs.{with_pair_value, IsUnique}
 use Rattle.scc_buckets.specs.Placed as spots
 use Rattle.scc_table.specs.Places.{IsPlace, IsFoundAt, IsInsertedAt, index_of}
 use Rattle.scc_table.specs.Places.{with_write_at}
+use Rattle.scc_table.specs.Relocations.{Relocates, RelocatesTwo}
 use Rattle.scc_buckets.specs.declared.place.Place.{Place}
 use Rattle.scc_common.specs.declared.errors.InsertError.{InsertError}
 use Rattle.scc_common.specs.declared.guard.Guard as guard
@@ -21,7 +24,7 @@ use Rattle.scc_buckets.proofs.PairSplits.{set_value-at, without-at}
 use Rattle.scc_buckets.proofs.PairWrites.{IsPlaceOf}
 use Rattle.scc_table.proofs.AtPlaces.{place-prop, entry_of-is, written-there, put-there}
 use Rattle.scc_table.proofs.Relocations.{waiting-write}
-use Rattle.scc_map.specs.Entries.{Occupied, Vacant, Memory, entry_key, occupied_pair, IsOccupiedAt, IsWritten, IsInserted, OrInserts, OrInsertsSome, written_map, still_within, with_value}
+use Rattle.scc_map.specs.Entries.{Occupied, Vacant, Memory, entry_key, occupied_pair, IsOccupiedAt, IsGrownFor, InsertsAtVacant, IsWritten, IsInserted, OrInserts, OrInsertsSome, written_map, still_within, with_value}
 use Rattle.scc_map.specs.declared.held.HeldOccupied.{HeldOccupied}
 use Rattle.scc_map.specs.declared.held.HeldEntry.{HeldEntry}
 use Rattle.scc_map.specs.declared.held.HeldVacant.{HeldVacant}
@@ -29,6 +32,10 @@ use Rattle.scc_map.specs.declared.held.HeldVacant.{HeldVacant}
 -- a write of a value leaves the waiting buckets as they are
 pub waiting-put : {K V S : Type 0} (m : Contents (K × V) S) (p : Place) (v : V) (n : Contents (K × V) S) → n ≡ with_write_at with_pair_value m p v → waiting_of n ≡ waiting_of m
 waiting-put m p v n made = ap waiting_of made ∙ waiting-write with_pair_value m p v
+
+-- equal references have one name, in the form in which the check asks for it of a returned entry
+pub same-name : {A : Type 0} {x y : MutBor A} → x ≡ y → some y.ghost_name ≡ some x.ghost_name
+same-name is = ap (λ z. some z.ghost_name) (sym is)
 
 module _ {G N K V S T : Type 0} {d : guard.Ghosts G (Contents (K × V) S)} {g : eq.Ghosts K} {h : hash.Ghosts K} {b : builder.Ghosts S T} {w : hasher.Ghosts T} where
   -- if p stands at the entry's place in the contents behind the guard, p is the entry's pair
@@ -50,10 +57,14 @@ module _ {G N K V S T : Type 0} {d : guard.Ghosts G (Contents (K × V) S)} {g : 
         removes = sym (without-at laws k (entries c) (index_of c o.place) u f);
       }
 
-  -- if a search for k found the place of an entry, the entry is the entry of k
-  pub occupied-at : {same : K → K → Bool} (laws : IsEquivalence same) (k : K) (o : HeldOccupied G N K V S T d g h b w) → IsDistinct same (keys_of (entries (d.inner o.guard))) → IsFoundAt (λ e. same k e.0) (d.inner o.guard) o.place
-      → IsOccupiedAt same (d.inner o.guard) k o
-  occupied-at {same = same} laws k o u found = occupied-by laws k o u (place-found same (d.inner o.guard) k o.place found)
+  -- if a search for k in the map of x found the place p, an entry with the guard x and the place p is the entry of k
+  pub occupied-at : {same : K → K → Bool} (laws : IsEquivalence same) (k : K) (o : HeldOccupied G N K V S T d g h b w) (x : G) (p : Place) → o.guard ≡ x → o.place ≡ p → IsDistinct same (keys_of (entries (d.inner x))) → IsFoundAt (λ e. same k e.0) (d.inner x) p
+      → IsOccupiedAt same (d.inner x) k o
+  occupied-at {same = same} laws k o x p guarded placed u found = rw (← guarded) (occupied-by laws k o (rw guarded u) (place-found same (d.inner o.guard) k o.place (rw (guarded, placed) found)))
+
+  -- if p stands at the place q in the map of x, it is the pair of an entry with the guard x and the place q
+  pub pair-at : (o : HeldOccupied G N K V S T d g h b w) (x : G) (q : Place) → o.guard ≡ x → o.place ≡ q → (p : K × V) → slice_get (entries (d.inner x)) (index_of (d.inner x) q) ≡ Some p → occupied_pair o ≡ p
+  pair-at o x q guarded placed p got = entry_of-is (d.inner o.guard) o.place o.within p (rw (guarded, placed) got)
 
   -- after a write through the guard, the place of the entry is still a place
   pub within-written : (o : HeldOccupied G N K V S T d g h b w) (m : Contents (K × V) S) (v : V) → m ≡ d.inner o.guard → IsPlace (d.inner (d.with_inner o.guard (with_write_at with_pair_value m o.place v))) o.place
@@ -93,6 +104,22 @@ module _ {G N K V S T : Type 0} {d : guard.Ghosts G (Contents (K × V) S)} {g : 
         same_guard = guarded ∙ ap (d.with_inner e.guard) (sym k);
         rest = rests;
         at = put-there (d.inner e.guard) (e.key, v) (d.inner o.guard) o.place o.within (subst (λ c. IsInsertedAt c (e.key, v) (d.inner o.guard) o.place) is (subst (λ c. IsInsertedAt m (e.key, v) c o.place) (sym k) i));
+      }
+
+  -- if a new pair was inserted at q through the guard, an entry with that guard and the place q meets the contract of
+  -- `insert_entry`
+  pub inserts-at-vacant : (same : K → K → Bool) (hash_of : S → K → ℕ) (e : HeldVacant G N K V S T d g h b w) (m n : Contents (K × V) S) (v : V) (o : HeldOccupied G N K V S T d g h b w) (q : Place) → o.guard ≡ d.with_inner e.guard n → o.place ≡ q → o.rest ≡ e.rest
+      → m ≡ d.inner e.guard → IsInsertedAt m (e.key, v) n q → IsGrownFor (hash_in hash_of m) m e.key n → Relocates m n → RelocatesTwo (hash_in hash_of m e.key) m n → IsUnique same n → InsertsAtVacant same hash_of e v (Ok o)
+  inserts-at-vacant same hash_of e m n v o q guarded placed rests is i growth relocates two unique =
+      let k : d.inner o.guard ≡ n = ap d.inner guarded ∙ d.inner_law e.guard n in
+      record {
+        inserted = inserted-after e m n v o guarded rests is (rw placed i);
+        growth = rw (k, ← is) growth;
+        relocates = rw (k, ← is) relocates;
+        two = rw (k, ← is) two;
+        unique = rw k unique;
+        refused = tt;
+        full = tt;
       }
 
   -- an entry that is made again from its parts is equal to the entry

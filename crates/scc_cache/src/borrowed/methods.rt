@@ -13,7 +13,6 @@ use crate::held::{HeldEntry, HeldOccupied, HeldReplace, HeldVacant};
 use crate::{EvictedEntry, Owned};
 use scc_common::{Hashes, InsertError};
 use std::hash::{BuildHasher, Hash};
-use std::marker::PhantomData;
 
 impl<K: Eq + Hash, V, H: BuildHasher> Owned<K, V, H> {
     /// Returns the entry of `k`: occupied at the stored pair, which becomes the most recent of its bucket, or vacant
@@ -27,19 +26,8 @@ impl<K: Eq + Hash, V, H: BuildHasher> Owned<K, V, H> {
     {
         let hash = self.table.hash(&k);
         match self.refresh(hash, &k) {
-            Some(place) => HeldEntry::Occupied(HeldOccupied {
-                guard: self,
-                place,
-                rest: (),
-                of: PhantomData,
-            }),
-            None => HeldEntry::Vacant(HeldVacant {
-                guard: self,
-                key: k,
-                hash,
-                rest: (),
-                of: PhantomData,
-            }),
+            Some(place) => HeldEntry::Occupied(HeldOccupied::at(self, place, ())),
+            None => HeldEntry::Vacant(HeldVacant::of_key(self, k, hash, ())),
         }
     }
 
@@ -56,12 +44,7 @@ impl<K: Eq + Hash, V, H: BuildHasher> Owned<K, V, H> {
     {
         let hash = self.table.hash(k);
         match self.refresh(hash, k) {
-            Some(place) => Some(HeldOccupied {
-                guard: self,
-                place,
-                rest: (),
-                of: PhantomData,
-            }),
+            Some(place) => Some(HeldOccupied::at(self, place, ())),
             None => None,
         }
     }
@@ -78,23 +61,9 @@ impl<K: Eq + Hash, V, H: BuildHasher> Owned<K, V, H> {
         match self.refresh(hash, &k) {
             Some(place) => {
                 let old = self.replace_key_at(place, k);
-                HeldReplace::Replaced(
-                    HeldOccupied {
-                        guard: self,
-                        place,
-                        rest: (),
-                        of: PhantomData,
-                    },
-                    old,
-                )
+                HeldReplace::Replaced(HeldOccupied::at(self, place, ()), old)
             }
-            None => HeldReplace::NotReplaced(HeldVacant {
-                guard: self,
-                key: k,
-                hash,
-                rest: (),
-                of: PhantomData,
-            }),
+            None => HeldReplace::NotReplaced(HeldVacant::of_key(self, k, hash, ())),
         }
     }
 }
@@ -182,15 +151,7 @@ impl<'a, K: Eq + Hash, V, H: BuildHasher> HeldVacant<&'a mut Owned<K, V, H>, (),
             of: _,
         } = self;
         match guard.put_at(hash, key, value) {
-            Ok((evicted, place)) => Ok((
-                evicted,
-                HeldOccupied {
-                    guard,
-                    place,
-                    rest,
-                    of: PhantomData,
-                },
-            )),
+            Ok((evicted, place)) => Ok((evicted, HeldOccupied::at(guard, place, rest))),
             Err(pair) => Err(InsertError::Memory(pair)),
         }
     }

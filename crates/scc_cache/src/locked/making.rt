@@ -10,7 +10,6 @@ use crate::Owned;
 use crate::held::{HeldEntry, HeldOccupied, HeldReplace, HeldVacant};
 use scc_common::{Guard, Hashes};
 use std::hash::{BuildHasher, Hash};
-use std::marker::PhantomData;
 
 impl<G: Guard<Inner = Owned<K, V, H>>, N, K: Eq + Hash, V, H: BuildHasher> HeldEntry<
     G,
@@ -32,19 +31,8 @@ impl<G: Guard<Inner = Owned<K, V, H>>, N, K: Eq + Hash, V, H: BuildHasher> HeldE
         let mut guard = guard;
         let hash = guard.look().hash_of(&k);
         match guard.lend().refresh(hash, &k) {
-            Some(place) => HeldEntry::Occupied(HeldOccupied {
-                guard,
-                place,
-                rest,
-                of: PhantomData,
-            }),
-            None => HeldEntry::Vacant(HeldVacant {
-                guard,
-                key: k,
-                hash,
-                rest,
-                of: PhantomData,
-            }),
+            Some(place) => HeldEntry::Occupied(HeldOccupied::at(guard, place, rest)),
+            None => HeldEntry::Vacant(HeldVacant::of_key(guard, k, hash, rest)),
         }
     }
 }
@@ -72,12 +60,7 @@ impl<G: Guard<Inner = Owned<K, V, H>>, N, K: Eq + Hash, V, H: BuildHasher> HeldO
         let mut guard = guard;
         let hash = guard.look().hash_of(k);
         match guard.lend().refresh(hash, k) {
-            Some(place) => Some(HeldOccupied {
-                guard,
-                place,
-                rest,
-                of: PhantomData,
-            }),
+            Some(place) => Some(HeldOccupied::at(guard, place, rest)),
             None => None,
         }
     }
@@ -102,23 +85,9 @@ impl<G: Guard<Inner = Owned<K, V, H>>, N, K: Eq + Hash, V, H: BuildHasher> HeldR
         match guard.lend().refresh(hash, &k) {
             Some(place) => {
                 let old = guard.lend().replace_key_at(place, k);
-                HeldReplace::Replaced(
-                    HeldOccupied {
-                        guard,
-                        place,
-                        rest,
-                        of: PhantomData,
-                    },
-                    old,
-                )
+                HeldReplace::Replaced(HeldOccupied::at(guard, place, rest), old)
             }
-            None => HeldReplace::NotReplaced(HeldVacant {
-                guard,
-                key: k,
-                hash,
-                rest,
-                of: PhantomData,
-            }),
+            None => HeldReplace::NotReplaced(HeldVacant::of_key(guard, k, hash, rest)),
         }
     }
 }

@@ -9,7 +9,6 @@ use crate::locked::OccupiedEntry;
 use crate::{EvictedEntry, Owned};
 use scc_common::{InsertError, Shared};
 use std::hash::{BuildHasher, Hash};
-use std::marker::PhantomData;
 use std::sync::RwLockWriteGuard;
 
 impl<'a, K: Eq + Hash, V, H: BuildHasher> HeldOccupied<
@@ -83,15 +82,7 @@ impl<'a, K: Eq + Hash, V, H: BuildHasher> HeldVacant<
             of: _,
         } = self;
         match guard.put_at(hash, key, value) {
-            Ok((evicted, place)) => Ok((
-                evicted,
-                HeldOccupied {
-                    guard,
-                    place,
-                    rest,
-                    of: PhantomData,
-                },
-            )),
+            Ok((evicted, place)) => Ok((evicted, HeldOccupied::at(guard, place, rest))),
             Err(pair) => Err(InsertError::Memory(pair)),
         }
     }

@@ -14,7 +14,6 @@ use crate::borrowed::{Entry, OccupiedEntry};
 use crate::held::{HeldEntry, HeldOccupied, HeldVacant};
 use scc_common::{Hashes, InsertError};
 use std::hash::{BuildHasher, Hash};
-use std::marker::PhantomData;
 
 impl<K: Eq + Hash, V, H: BuildHasher> Owned<K, V, H> {
     /// Returns the entry of `k`: occupied at the stored pair, or vacant with `k`. Allocates nothing and makes no
@@ -28,19 +27,8 @@ impl<K: Eq + Hash, V, H: BuildHasher> Owned<K, V, H> {
     {
         let hash = self.table.hash(&k);
         match self.table.search(hash, &k) {
-            Some(place) => HeldEntry::Occupied(HeldOccupied {
-                guard: self,
-                place,
-                rest: (),
-                of: PhantomData,
-            }),
-            None => HeldEntry::Vacant(HeldVacant {
-                guard: self,
-                key: k,
-                hash,
-                rest: (),
-                of: PhantomData,
-            }),
+            Some(place) => HeldEntry::Occupied(HeldOccupied::at(self, place, ())),
+            None => HeldEntry::Vacant(HeldVacant::of_key(self, k, hash, ())),
         }
     }
 
@@ -55,12 +43,7 @@ impl<K: Eq + Hash, V, H: BuildHasher> Owned<K, V, H> {
     {
         let hash = self.table.hash(k);
         match self.table.search(hash, k) {
-            Some(place) => Some(HeldOccupied {
-                guard: self,
-                place,
-                rest: (),
-                of: PhantomData,
-            }),
+            Some(place) => Some(HeldOccupied::at(self, place, ())),
             None => None,
         }
     }
@@ -110,12 +93,7 @@ impl<'a, K: Eq + Hash, V, H: BuildHasher> HeldVacant<&'a mut Owned<K, V, H>, (),
             of: _,
         } = self;
         match guard.insert_new(hash, key, value) {
-            Ok(place) => Ok(HeldOccupied {
-                guard,
-                place,
-                rest,
-                of: PhantomData,
-            }),
+            Ok(place) => Ok(HeldOccupied::at(guard, place, rest)),
             Err(pair) => Err(InsertError::Memory(pair)),
         }
     }

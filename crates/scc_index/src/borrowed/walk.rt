@@ -12,7 +12,6 @@ use crate::Owned;
 use crate::borrowed::OccupiedEntry;
 use crate::held::HeldOccupied;
 use std::hash::{BuildHasher, Hash};
-use std::marker::PhantomData;
 
 impl<K: Eq + Hash, V, H: BuildHasher> Owned<K, V, H> {
     /// Returns the first entry of the index's list, or `None` if the index is empty.
@@ -24,12 +23,7 @@ impl<K: Eq + Hash, V, H: BuildHasher> Owned<K, V, H> {
             self.entry result) }
     {
         match self.table.first_place() {
-            Some(place) => Some(HeldOccupied {
-                guard: self,
-                place,
-                rest: (),
-                of: PhantomData,
-            }),
+            Some(place) => Some(HeldOccupied::at(self, place, ())),
             None => None,
         }
     }
@@ -47,12 +41,7 @@ impl<K: Eq + Hash, V, H: BuildHasher> Owned<K, V, H> {
     {
         let mut p = p;
         match self.first_passing(&mut p) {
-            Some(place) => Some(HeldOccupied {
-                guard: self,
-                place,
-                rest: (),
-                of: PhantomData,
-            }),
+            Some(place) => Some(HeldOccupied::at(self, place, ())),
             None => None,
         }
     }
@@ -73,12 +62,7 @@ impl<'a, K: Eq + Hash, V, H: BuildHasher> HeldOccupied<&'a mut Owned<K, V, H>, (
             of: _,
         } = self;
         match guard.next_place(place) {
-            Some(place) => Some(HeldOccupied {
-                guard,
-                place,
-                rest,
-                of: PhantomData,
-            }),
+            Some(place) => Some(HeldOccupied::at(guard, place, rest)),
             None => None,
         }
     }
@@ -103,12 +87,7 @@ impl<'a, K: Eq + Hash, V, H: BuildHasher> HeldOccupied<&'a mut Owned<K, V, H>, (
             of: _,
         } = self;
         match guard.take_with_next(place) {
-            Some(place) => Some(HeldOccupied {
-                guard,
-                place,
-                rest,
-                of: PhantomData,
-            }),
+            Some(place) => Some(HeldOccupied::at(guard, place, rest)),
             None => None,
         }
     }

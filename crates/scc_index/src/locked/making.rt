@@ -13,7 +13,6 @@ use crate::Owned;
 use crate::held::{HeldEntry, HeldOccupied, HeldVacant};
 use scc_common::Guard;
 use std::hash::{BuildHasher, Hash};
-use std::marker::PhantomData;
 
 impl<G: Guard<Inner = Owned<K, V, H>>, N, K: Eq + Hash, V, H: BuildHasher> HeldEntry<
     G,
@@ -34,19 +33,8 @@ impl<G: Guard<Inner = Owned<K, V, H>>, N, K: Eq + Hash, V, H: BuildHasher> HeldE
     {
         let hash = guard.look().hash_of(&k);
         match guard.look().place_of(hash, &k) {
-            Some(place) => HeldEntry::Occupied(HeldOccupied {
-                guard,
-                place,
-                rest,
-                of: PhantomData,
-            }),
-            None => HeldEntry::Vacant(HeldVacant {
-                guard,
-                key: k,
-                hash,
-                rest,
-                of: PhantomData,
-            }),
+            Some(place) => HeldEntry::Occupied(HeldOccupied::at(guard, place, rest)),
+            None => HeldEntry::Vacant(HeldVacant::of_key(guard, k, hash, rest)),
         }
     }
 }
@@ -72,12 +60,7 @@ impl<G: Guard<Inner = Owned<K, V, H>>, N, K: Eq + Hash, V, H: BuildHasher> HeldO
     {
         let hash = guard.look().hash_of(k);
         match guard.look().place_of(hash, k) {
-            Some(place) => Some(HeldOccupied {
-                guard,
-                place,
-                rest,
-                of: PhantomData,
-            }),
+            Some(place) => Some(HeldOccupied::at(guard, place, rest)),
             None => None,
         }
     }
@@ -92,12 +75,7 @@ impl<G: Guard<Inner = Owned<K, V, H>>, N, K: Eq + Hash, V, H: BuildHasher> HeldO
         ensures empty { IfErr result (λ n. (n ≡ rest) × (entries (G.inner guard) ≡ [])) }
     {
         match guard.look().first_place() {
-            Some(place) => Ok(HeldOccupied {
-                guard,
-                place,
-                rest,
-                of: PhantomData,
-            }),
+            Some(place) => Ok(HeldOccupied::at(guard, place, rest)),
             None => Err(rest),
         }
     }
@@ -115,12 +93,7 @@ impl<G: Guard<Inner = Owned<K, V, H>>, N, K: Eq + Hash, V, H: BuildHasher> HeldO
             × Declines (CalledOn P.FnMut) p.old (entries (G.inner guard)) p.new) }
     {
         match guard.look().first_passing(p) {
-            Some(place) => Ok(HeldOccupied {
-                guard,
-                place,
-                rest,
-                of: PhantomData,
-            }),
+            Some(place) => Ok(HeldOccupied::at(guard, place, rest)),
             None => Err(rest),
         }
     }

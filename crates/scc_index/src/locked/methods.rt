@@ -8,7 +8,6 @@ use crate::locked::OccupiedEntry;
 use scc_common::{Hashes, InsertError, Shared};
 use scc_stripes::Seat;
 use std::hash::{BuildHasher, Hash};
-use std::marker::PhantomData;
 use std::sync::RwLockWriteGuard;
 
 impl<'a, K: Eq + Hash, V, H: BuildHasher> HeldOccupied<
@@ -69,12 +68,7 @@ impl<'a, K: Eq + Hash, V, H: BuildHasher> HeldVacant<
             of: _,
         } = self;
         match guard.insert_new(hash, key, value) {
-            Ok(place) => Ok(HeldOccupied {
-                guard,
-                place,
-                rest,
-                of: PhantomData,
-            }),
+            Ok(place) => Ok(HeldOccupied::at(guard, place, rest)),
             Err(pair) => Err(InsertError::Memory(pair)),
         }
     }

@@ -12,7 +12,6 @@ use crate::borrowed::{Entry, OccupiedEntry, ReplaceResult};
 use crate::held::{HeldEntry, HeldOccupied, HeldReplace, HeldVacant};
 use scc_common::{Hashes, InsertError};
 use std::hash::{BuildHasher, Hash};
-use std::marker::PhantomData;
 
 impl<K: Eq + Hash, V, H: BuildHasher> Owned<K, V, H> {
     /// Returns the entry of `k`: occupied at the stored pair, or vacant with `k`. Allocates nothing and makes no
@@ -26,19 +25,8 @@ impl<K: Eq + Hash, V, H: BuildHasher> Owned<K, V, H> {
     {
         let hash = self.table.hash(&k);
         match self.table.search(hash, &k) {
-            Some(place) => HeldEntry::Occupied(HeldOccupied {
-                guard: self,
-                place,
-                rest: (),
-                of: PhantomData,
-            }),
-            None => HeldEntry::Vacant(HeldVacant {
-                guard: self,
-                key: k,
-                hash,
-                rest: (),
-                of: PhantomData,
-            }),
+            Some(place) => HeldEntry::Occupied(HeldOccupied::at(self, place, ())),
+            None => HeldEntry::Vacant(HeldVacant::of_key(self, k, hash, ())),
         }
     }
 
@@ -53,12 +41,7 @@ impl<K: Eq + Hash, V, H: BuildHasher> Owned<K, V, H> {
     {
         let hash = self.table.hash(k);
         match self.table.search(hash, k) {
-            Some(place) => Some(HeldOccupied {
-                guard: self,
-                place,
-                rest: (),
-                of: PhantomData,
-            }),
+            Some(place) => Some(HeldOccupied::at(self, place, ())),
             None => None,
         }
     }
@@ -76,23 +59,9 @@ impl<K: Eq + Hash, V, H: BuildHasher> Owned<K, V, H> {
         match self.table.search(hash, &k) {
             Some(place) => {
                 let old = self.replace_key_at(place, k);
-                HeldReplace::Replaced(
-                    HeldOccupied {
-                        guard: self,
-                        place,
-                        rest: (),
-                        of: PhantomData,
-                    },
-                    old,
-                )
+                HeldReplace::Replaced(HeldOccupied::at(self, place, ()), old)
             }
-            None => HeldReplace::NotReplaced(HeldVacant {
-                guard: self,
-                key: k,
-                hash,
-                rest: (),
-                of: PhantomData,
-            }),
+            None => HeldReplace::NotReplaced(HeldVacant::of_key(self, k, hash, ())),
         }
     }
 }
@@ -143,12 +112,7 @@ impl<'a, K: Eq + Hash, V, H: BuildHasher> HeldVacant<&'a mut Owned<K, V, H>, (),
             of: _,
         } = self;
         match guard.insert_new(hash, key, value) {
-            Ok(place) => Ok(HeldOccupied {
-                guard,
-                place,
-                rest,
-                of: PhantomData,
-            }),
+            Ok(place) => Ok(HeldOccupied::at(guard, place, rest)),
             Err(pair) => Err(InsertError::Memory(pair)),
         }
     }

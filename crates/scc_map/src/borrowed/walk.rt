@@ -11,7 +11,6 @@ use crate::Owned;
 use crate::borrowed::OccupiedEntry;
 use crate::held::HeldOccupied;
 use std::hash::{BuildHasher, Hash};
-use std::marker::PhantomData;
 
 impl<K: Eq + Hash, V, H: BuildHasher> Owned<K, V, H> {
     /// Returns the first entry of the map's list, or `None` if the map is empty.
@@ -23,12 +22,7 @@ impl<K: Eq + Hash, V, H: BuildHasher> Owned<K, V, H> {
             self.entry result) }
     {
         match self.table.first_place() {
-            Some(place) => Some(HeldOccupied {
-                guard: self,
-                place,
-                rest: (),
-                of: PhantomData,
-            }),
+            Some(place) => Some(HeldOccupied::at(self, place, ())),
             None => None,
         }
     }
@@ -46,12 +40,7 @@ impl<K: Eq + Hash, V, H: BuildHasher> Owned<K, V, H> {
     {
         let mut p = p;
         match self.first_passing(&mut p) {
-            Some(place) => Some(HeldOccupied {
-                guard: self,
-                place,
-                rest: (),
-                of: PhantomData,
-            }),
+            Some(place) => Some(HeldOccupied::at(self, place, ())),
             None => None,
         }
     }
@@ -72,12 +61,7 @@ impl<'a, K: Eq + Hash, V, H: BuildHasher> HeldOccupied<&'a mut Owned<K, V, H>, (
             of: _,
         } = self;
         match guard.next_place(place) {
-            Some(place) => Some(HeldOccupied {
-                guard,
-                place,
-                rest,
-                of: PhantomData,
-            }),
+            Some(place) => Some(HeldOccupied::at(guard, place, rest)),
             None => None,
         }
     }
@@ -97,15 +81,7 @@ impl<'a, K: Eq + Hash, V, H: BuildHasher> HeldOccupied<&'a mut Owned<K, V, H>, (
         } = self;
         let (pair, next) = guard.take_with_next(place);
         match next {
-            Some(place) => Ok((
-                pair,
-                HeldOccupied {
-                    guard,
-                    place,
-                    rest,
-                    of: PhantomData,
-                },
-            )),
+            Some(place) => Ok((pair, HeldOccupied::at(guard, place, rest))),
             None => Err(pair),
         }
     }

@@ -12,7 +12,6 @@ use crate::locked::OccupiedEntry;
 use scc_common::Shared;
 use scc_stripes::Seat;
 use std::hash::{BuildHasher, Hash};
-use std::marker::PhantomData;
 use std::sync::{RwLockWriteGuard, Wait};
 
 /// Returns the first entry of the stripes after the stripe of `seat`, with the seat of its own stripe, or `None` if
@@ -58,12 +57,7 @@ impl<'a, K: Eq + Hash, V, H: BuildHasher> HeldOccupied<
             of: _,
         } = self;
         match guard.next_place(place) {
-            Some(place) => Some(HeldOccupied {
-                guard,
-                place,
-                rest,
-                of: PhantomData,
-            }),
+            Some(place) => Some(HeldOccupied::at(guard, place, rest)),
             None => {
                 drop(guard);
                 first_later(rt, rest)
@@ -89,15 +83,7 @@ impl<'a, K: Eq + Hash, V, H: BuildHasher> HeldOccupied<
         } = self;
         let (pair, next) = guard.take_with_next(place);
         match next {
-            Some(place) => (
-                pair,
-                Some(HeldOccupied {
-                    guard,
-                    place,
-                    rest,
-                    of: PhantomData,
-                }),
-            ),
+            Some(place) => (pair, Some(HeldOccupied::at(guard, place, rest))),
             None => {
                 drop(guard);
                 (pair, first_later(rt, rest))

@@ -1,10 +1,10 @@
-use Rattle.std.proofs.Common.{refl}
-use Rattle.scc_index.proofs.EntrySteps.{stands-in}
-use Rattle.scc_table.proofs.WalkReached.{passes-at}
+use Rattle.std.proofs.Common.{refl, ap}
+use Rattle.scc_index.proofs.Entries.{same-name}
+use Rattle.scc_index.proofs.EntrySteps.{stands-in, passes-here}
 use Rattle.scc_index.proofs.Owned.any_sync.Goals as goal
 
 pub returns-in-Some : goal.returns-in-Some
-returns-in-Some g c = ((refl, λ w. refl, tt), record { same_index = refl; here = stands-in _; first = passes-at _ _ _ c.in-Some.ensures.1; none = tt; kept = tt })
+returns-in-Some g c = ((same-name c.at.ensures.guard, λ w. refl, tt), record { same_index = ap (λ x. x.ghost_name) c.at.ensures.guard; here = stands-in c.at.result _ c.at.ensures.guard; first = passes-here c.at.result _ _ c.at.ensures.guard c.at.ensures.place c.in-Some.ensures.1; none = tt; kept = tt })
 
 pub returns : goal.returns
 returns g c = ((refl, λ _. tt, refl), record { same_index = tt; here = tt; first = tt; none = record { last = _; declines = c.in-None.ensures }; kept = tt })

@@ -1,15 +1,15 @@
-use Rattle.std.proofs.Common.{refl}
+use Rattle.std.proofs.Common.{refl, ap}
 use Rattle.scc_common.specs.Contents.{entries}
-use Rattle.scc_map.proofs.Entries.{occupied-at}
+use Rattle.scc_map.proofs.Entries.{same-name, occupied-at}
 use Rattle.scc_buckets.proofs.Lookups.{find-position_none}
 use Rattle.scc_map.proofs.Owned.get_sync.Goals as goal
 
 pub returns-in-Some : goal.returns-in-Some
 returns-in-Some g c = (
-  (refl, λ w. refl, tt),
+  (same-name c.at.ensures.guard, λ w. refl, tt),
   record {
-    same_map = refl;
-    entry = occupied-at g.met.K.Eq.laws c.args.k.now _ (rw c.self.view_is at c.search.ensures.unique) (rw c.self.view_is at c.in-Some.ensures.place);
+    same_map = ap (λ x. x.ghost_name) c.at.ensures.guard;
+    entry = occupied-at g.met.K.Eq.laws c.args.k.now c.at.result _ _ c.at.ensures.guard c.at.ensures.place (rw c.self.view_is at c.search.ensures.unique) (rw c.self.view_is at c.in-Some.ensures.place);
     unique = rw c.self.view_is at c.search.ensures.unique;
     missing = tt;
     kept = tt;
@@ -19,5 +19,5 @@ returns-in-Some g c = (
 pub returns-in-None : goal.returns-in-None
 returns-in-None g c = ((refl, λ _. tt, refl), record { same_map = tt; entry = tt; unique = rw c.self.view_is at c.search.ensures.unique; missing = rw (← c.self.view_is) (find-position_none (g.K.PartialEq.eq c.args.k.now) (entries c.self.inside.table) c.in-None.ensures.place); kept = tt })
 
-pub invariant_of-self : goal.invariant_of-self
-invariant_of-self g c = let found = rw c.self.view_is at c.in-Some.ensures.place in record { within = found.within }
+pub at-requires : goal.at-requires
+at-requires g c = let found = rw c.self.view_is at c.in-Some.ensures.place in found.within

@@ -4,8 +4,9 @@ use Rattle.std.specs.List.{slice_get}
 use Rattle.scc_common.specs.Pairs.{find, with_pair_key}
 use Rattle.scc_table.specs.Places.{IsPlace, index_of, with_write_at}
 use Rattle.scc_table.specs.Placed.{IsPlace-with_write_at}
-use Rattle.scc_table.proofs.AtPlaces.{entry_of-is, place-found, key-written, key-unique, key-got, noted-write}
+use Rattle.scc_table.proofs.AtPlaces.{place-found, key-written, key-unique, key-got, noted-write}
 use Rattle.scc_table.proofs.Relocations.{waiting-write}
+use Rattle.scc_map.proofs.Entries.{pair-at}
 use Rattle.scc_map.proofs.held.HeldReplace.of.Goals as goal
 
 pub replace_key_at-old-requires-clause-within : goal.replace_key_at-old-requires-clause-within
@@ -17,10 +18,10 @@ replace_key_at-old-requires-clause-same g c =
     let f = place-found g.K.PartialEq.eq (g.G.Guard.inner c.args.guard) c.args.k c.in-Some.place found in
     rw c.lend.ensures.value (λ p got. let s : Some f.0 ≡ Some p = sym f.1 ∙ got in let w : f.0 ≡ p = cc in rw (← w) f.3)
 
-pub invariant_of-result : goal.invariant_of-result
-invariant_of-result g c =
+pub at-requires : goal.at-requires
+at-requires g c =
     let found = rw c.look-2.ensures at c.in-Some.ensures.place in
-    record { within = subst (λ m. IsPlace m c.in-Some.place) (sym (g.G.Guard.inner_law c.args.guard c.replace_key_at-old.new.self ∙ c.replace_key_at-old.ensures.new ∙ ap (λ m. with_write_at with_pair_key m c.in-Some.place c.args.k) c.lend.ensures.value)) (IsPlace-with_write_at with_pair_key (g.G.Guard.inner c.args.guard) c.in-Some.place c.args.k found.within) }
+    subst (λ m. IsPlace m c.in-Some.place) (sym (g.G.Guard.inner_law c.args.guard c.replace_key_at-old.new.self ∙ c.replace_key_at-old.ensures.new ∙ ap (λ m. with_write_at with_pair_key m c.in-Some.place c.args.k) c.lend.ensures.value)) (IsPlace-with_write_at with_pair_key (g.G.Guard.inner c.args.guard) c.in-Some.place c.args.k found.within)
 
 pub returns-in-Some-clause-step : goal.returns-in-Some-clause-step
 returns-in-Some-clause-step g c =
@@ -30,6 +31,7 @@ returns-in-Some-clause-step g c =
     let unique = rw c.look-2.ensures at c.place_of.ensures.unique in
     let f = place-found g.K.PartialEq.eq m c.args.k c.in-Some.place found in
     let is = g.G.Guard.inner_law c.args.guard c.replace_key_at-old.new.self ∙ c.replace_key_at-old.ensures.new ∙ ap (λ m. with_write_at with_pair_key m c.in-Some.place c.args.k) c.lend.ensures.value in
+    let made = ap g.G.Guard.inner c.at.ensures.guard ∙ is in
     let old = rw c.lend.ensures.value at c.replace_key_at-old.ensures.old in
     let same : Some f.0 ≡ Some old.0 = sym f.1 ∙ old.1 in
     let first : f.0 ≡ old.0 = cc in
@@ -37,20 +39,20 @@ returns-in-Some-clause-step g c =
       old.0.1,
       here,
       (
-        entry_of-is _ c.in-Some.place _ (c.args.k, old.0.1) (ap (λ n. slice_get (entries n) (index_of n c.in-Some.place)) is ∙ key-got m c.in-Some.place found.within c.args.k old.0 old.1),
-        rw is (key-written laws m c.in-Some.place found.within c.args.k unique f c.args.k),
+        pair-at c.at.result _ _ c.at.ensures.guard c.at.ensures.place (c.args.k, old.0.1) (ap (λ n. slice_get (entries n) (index_of n c.in-Some.place)) is ∙ key-got m c.in-Some.place found.within c.args.k old.0 old.1),
+        rw made (key-written laws m c.in-Some.place found.within c.args.k unique f c.args.k),
       ),
     )
 
 pub returns-in-Some-clause-noted : goal.returns-in-Some-clause-noted
 returns-in-Some-clause-noted g c =
-    let is = g.G.Guard.inner_law c.args.guard c.replace_key_at-old.new.self ∙ c.replace_key_at-old.ensures.new ∙ ap (λ m. with_write_at with_pair_key m c.in-Some.place c.args.k) c.lend.ensures.value in
-    ap refused_of is ∙ noted-write with_pair_key (g.G.Guard.inner c.args.guard) c.in-Some.place c.args.k
+    let made = ap g.G.Guard.inner c.at.ensures.guard ∙ g.G.Guard.inner_law c.args.guard c.replace_key_at-old.new.self ∙ c.replace_key_at-old.ensures.new ∙ ap (λ m. with_write_at with_pair_key m c.in-Some.place c.args.k) c.lend.ensures.value in
+    ap refused_of made ∙ noted-write with_pair_key (g.G.Guard.inner c.args.guard) c.in-Some.place c.args.k
 
 pub returns-in-Some-clause-waiting : goal.returns-in-Some-clause-waiting
 returns-in-Some-clause-waiting g c =
-    let is = g.G.Guard.inner_law c.args.guard c.replace_key_at-old.new.self ∙ c.replace_key_at-old.ensures.new ∙ ap (λ m. with_write_at with_pair_key m c.in-Some.place c.args.k) c.lend.ensures.value in
-    ap waiting_of is ∙ waiting-write with_pair_key (g.G.Guard.inner c.args.guard) c.in-Some.place c.args.k
+    let made = ap g.G.Guard.inner c.at.ensures.guard ∙ g.G.Guard.inner_law c.args.guard c.replace_key_at-old.new.self ∙ c.replace_key_at-old.ensures.new ∙ ap (λ m. with_write_at with_pair_key m c.in-Some.place c.args.k) c.lend.ensures.value in
+    ap waiting_of made ∙ waiting-write with_pair_key (g.G.Guard.inner c.args.guard) c.in-Some.place c.args.k
 
 pub returns-in-Some-clause-unique : goal.returns-in-Some-clause-unique
 returns-in-Some-clause-unique g c =
@@ -59,5 +61,5 @@ returns-in-Some-clause-unique g c =
     let found = rw c.look-2.ensures at c.in-Some.ensures.place in
     let unique = rw c.look-2.ensures at c.place_of.ensures.unique in
     let f = place-found g.K.PartialEq.eq m c.args.k c.in-Some.place found in
-    let is = g.G.Guard.inner_law c.args.guard c.replace_key_at-old.new.self ∙ c.replace_key_at-old.ensures.new ∙ ap (λ m. with_write_at with_pair_key m c.in-Some.place c.args.k) c.lend.ensures.value in
-    rw is (key-unique laws m c.in-Some.place found.within c.args.k unique f c.args.k f.3)
+    let made = ap g.G.Guard.inner c.at.ensures.guard ∙ g.G.Guard.inner_law c.args.guard c.replace_key_at-old.new.self ∙ c.replace_key_at-old.ensures.new ∙ ap (λ m. with_write_at with_pair_key m c.in-Some.place c.args.k) c.lend.ensures.value in
+    rw made (key-unique laws m c.in-Some.place found.within c.args.k unique f c.args.k f.3)

@@ -1,19 +1,12 @@
 use Rattle.std.proofs.Common.{refl}
-use Rattle.scc_index.proofs.Entries.{inserted-after}
+use Rattle.scc_index.proofs.Entries.{same-name, inserts-at-vacant}
 use Rattle.scc_index.proofs.borrowed.methods.HeldVacant+mut+Owned+K+V+H+unit+K+V+H.insert_entry.Goals as goal
 
 pub returns-in-Ok : goal.returns-in-Ok
 returns-in-Ok g c = (
-  (refl, λ w. refl, tt),
+  (same-name c.at.ensures.guard, λ w. refl, tt),
   record {
-    inserts = record {
-      inserted = inserted-after c.args.self c.args.self.guard.now c.insert_new.new.self c.args.value _ refl refl refl c.in-Ok.ensures.ok;
-      growth = record { grows = c.in-Ok.ensures.grows; first = c.in-Ok.ensures.first };
-      relocates = c.insert_new.ensures.relocates;
-      two = c.in-Ok.ensures.two;
-      unique = c.in-Ok.ensures.unique;
-      refused = tt;
-    };
+    inserts = inserts-at-vacant g.K.PartialEq.eq _ c.args.self c.args.self.guard.now c.insert_new.new.self c.args.value c.at.result _ c.at.ensures.guard c.at.ensures.place c.at.ensures.rest refl c.in-Ok.ensures.ok record { grows = c.in-Ok.ensures.grows; first = c.in-Ok.ensures.first } c.insert_new.ensures.relocates c.in-Ok.ensures.two c.in-Ok.ensures.unique;
     kept = tt;
   },
 )

@@ -9,7 +9,7 @@ take_with_next-requires g c = rw c.deref_mut.ensures.value c.args.self.within
 pub returns-in-Some-clause-next : goal.returns-in-Some-clause-next
 returns-in-Some-clause-next g c = λ some.
     let at = rw (c.in-Some.is, c.deref_mut.ensures.value) at c.take_with_next.ensures.next in
-    next-past c.args.self _ refl (rw c.deref_mut.ensures.value at c.take_with_next.ensures.others) (rw c.deref_mut.ensures.value at c.take_with_next.ensures.noted) at.index
+    next-past c.args.self c.at.result _ _ c.at.ensures.guard c.at.ensures.place refl (rw c.deref_mut.ensures.value at c.take_with_next.ensures.others) (rw c.deref_mut.ensures.value at c.take_with_next.ensures.noted) at.index
 
 pub returns-in-Some-clause-later : goal.returns-in-Some-clause-later
 returns-in-Some-clause-later g c = λ none.

@@ -1,19 +1,20 @@
-use Rattle.std.proofs.Common.{refl}
+use Rattle.std.proofs.Common.{refl, ap, ◌∙◌}
+use Rattle.scc_common.specs.Contents.{waiting_of}
 use Rattle.scc_table.proofs.AtPlaces.{back-none, left-there}
-use Rattle.scc_map.proofs.Entries.{pair-is}
+use Rattle.scc_map.proofs.Entries.{same-name, pair-is}
 use Rattle.scc_map.proofs.EntrySteps.{next-past}
 use Rattle.scc_map.proofs.borrowed.walk.HeldOccupied+mut+Owned+K+V+H+unit+K+V+H.remove_and_sync.Goals as goal
 
 pub returns-in-Some : goal.returns-in-Some
 returns-in-Some g c =
     let next = rw c.in-Some.is at c.take_with_next-pair.ensures.next in (
-      (refl, λ w. refl, tt),
+      (same-name c.at.ensures.guard, λ w. refl, tt),
       record {
         removes = record {
           pair = pair-is c.args.self c.args.self.guard.now c.take_with_next-pair.result.0 refl c.take_with_next-pair.ensures.pair;
-          next = next-past c.args.self _ refl c.take_with_next-pair.ensures.others c.take_with_next-pair.ensures.noted next.index;
-          waiting = c.take_with_next-pair.ensures.waiting;
-          unique = c.take_with_next-pair.ensures.unique;
+          next = next-past c.args.self c.at.result _ _ c.at.ensures.guard c.at.ensures.place refl c.take_with_next-pair.ensures.others c.take_with_next-pair.ensures.noted next.index;
+          waiting = ap (λ x. waiting_of x.now) c.at.ensures.guard ∙ c.take_with_next-pair.ensures.waiting;
+          unique = rw c.at.ensures.guard c.take_with_next-pair.ensures.unique;
           last = tt;
         };
         kept = tt;

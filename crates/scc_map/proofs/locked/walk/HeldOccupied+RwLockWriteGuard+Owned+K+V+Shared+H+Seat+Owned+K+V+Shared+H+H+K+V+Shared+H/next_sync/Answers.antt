@@ -6,11 +6,11 @@ use Rattle.scc_map.proofs.locked.walk.HeldOccupied+RwLockWriteGuard+Owned+K+V+Sh
 pub next_place-requires : goal.next_place-requires
 next_place-requires g c = rw c.deref.ensures c.args.self.within
 
-pub invariant_of-result : goal.invariant_of-result
-invariant_of-result g c = let at = rw c.deref.ensures at c.in-Some.ensures in record { within = at.within }
+pub at-requires : goal.at-requires
+at-requires g c = let at = rw c.deref.ensures at c.in-Some.ensures in at.within
 
 pub returns-in-Some-clause-next : goal.returns-in-Some-clause-next
-returns-in-Some-clause-next g c = λ some. let at = rw c.deref.ensures at c.in-Some.ensures in next-at c.args.self _ refl refl at.index
+returns-in-Some-clause-next g c = λ some. let at = rw c.deref.ensures at c.in-Some.ensures in next-at c.args.self c.at.result _ _ c.at.ensures.guard c.at.ensures.place refl refl at.index
 
 pub returns-in-Some-clause-later : goal.returns-in-Some-clause-later
 returns-in-Some-clause-later g c = λ none. let at = rw c.deref.ensures at c.in-Some.ensures in none-after _ c.args.self.place c.in-Some.place c.args.self.within at.within at.index none

@@ -16,7 +16,7 @@ returns-in-None-clause-pair g c = pair-is c.args.self c.deref_mut.result.now c.t
 pub returns-in-Some-clause-next : goal.returns-in-Some-clause-next
 returns-in-Some-clause-next g c = λ some.
     let at = rw (c.in-Some.is, c.deref_mut.ensures.value) at c.take_with_next-pair.ensures.next in
-    next-past c.args.self _ refl (rw c.deref_mut.ensures.value at c.take_with_next-pair.ensures.others) (rw c.deref_mut.ensures.value at c.take_with_next-pair.ensures.noted) at.index
+    next-past c.args.self c.at.result _ _ c.at.ensures.guard c.at.ensures.place refl (rw c.deref_mut.ensures.value at c.take_with_next-pair.ensures.others) (rw c.deref_mut.ensures.value at c.take_with_next-pair.ensures.noted) at.index
 
 pub returns-in-Some-clause-later : goal.returns-in-Some-clause-later
 returns-in-Some-clause-later g c = λ none.
