@@ -1,5 +1,6 @@
 -- Lemmas about an entry, whatever its guard is.
 use Rattle.std.proofs.Common.{◌≡◌, ℕ, zero, suc, ◌+◌, ◌<◌, List, [], ◌∷◌, ◌++◌, length, Bool, Option, true, None, Some, Result, Ok, Err, refl, sym, ap, subst, ◌∙◌, arith, length-append, length-set, get_or-set_same}
+use mathlib.Core.Option.{some}
 use Rattle.std.specs.Prelude.{IfOk, IfErr}
 use Rattle.std.specs.Borrow.{MutBor}
 use Rattle.std.specs.Result.{OnErr}
@@ -148,6 +149,17 @@ module _ {N K V S T : Type 0} {d : guard.Ghosts (MutBor (Cached (K × V) S)) (Ca
   pub refused-through : {A B : Type 0} (s : HeldEntry (MutBor (Cached (K × V) S)) N K V S T d g h b w) (e : HeldVacant (MutBor (Cached (K × V) S)) N K V S T d g h b w) (r : Result A B) (x : Cached (K × V) S) → s ≡ Vacant e → OnErr r (x ≡ e.guard.now) → OnErr r (x ≡ (entry_guard s).now)
   refused-through s e r x is left = subst (λ (y : HeldEntry (MutBor (Cached (K × V) S)) N K V S T d g h b w). OnErr r (x ≡ (entry_guard y).now)) (sym is) left
 
+-- equal references have one name, in the form in which the check asks for it of a returned entry
+pub same-name : {A : Type 0} {x y : MutBor A} → x ≡ y → some y.ghost_name ≡ some x.ghost_name
+same-name is = ap (λ z. some z.ghost_name) (sym is)
+
+-- if a guard is s with another value, it has that value, and is s with its value
+pub inner-made : {G C : Type 0} (d : guard.Ghosts G C) {s x : G} {n : C} → x ≡ d.with_inner s n → d.inner x ≡ n
+inner-made d {s = s} {n = n} guarded = ap d.inner guarded ∙ d.inner_law s n
+
+pub same-guard : {G C : Type 0} (d : guard.Ghosts G C) {s x : G} {n : C} → x ≡ d.with_inner s n → x ≡ d.with_inner s (d.inner x)
+same-guard d {s = s} guarded = guarded ∙ ap (d.with_inner s) (sym (inner-made d guarded))
+
 module _ {G N K V S T : Type 0} {d : guard.Ghosts G (Cached (K × V) S)} {g : eq.Ghosts K} {h : hash.Ghosts K} {b : builder.Ghosts S T} {w : hasher.Ghosts T} where
   -- if p stands at the entry's place in the contents behind the guard, p is the entry's pair
   pub pair-is : (o : HeldOccupied G N K V S T d g h b w) (m : Cached (K × V) S) (p : K × V) → m ≡ d.inner o.guard → slice_get (list_of m.contents (spot_of m.contents o.place).bucket) (spot_of m.contents o.place).slot ≡ Some p → p ≡ occupied_pair o
@@ -185,10 +197,12 @@ module _ {G N K V S T : Type 0} {d : guard.Ghosts G (Cached (K × V) S)} {g : eq
       )
 
   -- if k is written over the key of the moved pair, the key that the call returns is the key that k replaced
-  pub replaced_as : (same : K → K → Bool) (c m : Cached (K × V) S) (k old : K) (o : HeldOccupied G N K V S T d g h b w) → IsLastAt (key_hash b w h.hash_input c.contents) same c k m o.place → RelocatesOne (key_hash b w h.hash_input c.contents k) c.contents m.contents
-      → (p : K × V) × (slice_get (list_of m.contents (spot_of m.contents o.place).bucket) (spot_of m.contents o.place).slot ≡ Some p) × (old ≡ p.0) → d.inner o.guard ≡ with_key_at m o.place k → IsReplacedBy same c k old o
-  replaced_as same c m k old o s r (p, got, is) made =
-      let moved = replaced-at same c m k o s r made in
+  pub replaced_as : (same : K → K → Bool) (c m : Cached (K × V) S) (k old : K) (o : HeldOccupied G N K V S T d g h b w) (q : Place) → o.place ≡ q → IsLastAt (key_hash b w h.hash_input c.contents) same c k m q → RelocatesOne (key_hash b w h.hash_input c.contents k) c.contents m.contents
+      → (p : K × V) × (slice_get (list_of m.contents (spot_of m.contents q).bucket) (spot_of m.contents q).slot ≡ Some p) × (old ≡ p.0) → d.inner o.guard ≡ with_key_at m q k → IsReplacedBy same c k old o
+  replaced_as same c m k old o q placed last r (p, found, is) made =
+      let s = subst (λ x. IsLastAt (key_hash b w h.hash_input c.contents) same c k m x) (sym placed) last in
+      let got = subst (λ x. slice_get (list_of m.contents (spot_of m.contents x).bucket) (spot_of m.contents x).slot ≡ Some p) (sym placed) found in
+      let moved = replaced-at same c m k o s r (made ∙ ap (λ x. with_key_at m x k) (sym placed)) in
       let shown : p ≡ s.pair = let z : Some p ≡ Some s.pair = sym got ∙ s.here in cc in
       let pair : s.pair ≡ (old, s.pair.1) = ap (λ x. (x, s.pair.1)) (sym (is ∙ ap (λ q. q.0) shown)) in
       record { value = s.pair.1; pair = moved.0; moved = subst (λ q. IsMoved same c k q o) pair moved.1 }
@@ -237,16 +251,16 @@ module _ {G N K V S T : Type 0} {d : guard.Ghosts G (Cached (K × V) S)} {g : eq
   written-with o v = written-after o (d.inner o.guard) (written_cache o v) v refl refl (still_within o v)
 
   -- if a pair is put through the guard, the returned entry stands at that pair
-  pub put-after : (same : K → K → Bool) (e : HeldVacant G N K V S T d g h b w) (m n : Cached (K × V) S) (v : V) (x : Option (K × V)) (o : HeldOccupied G N K V S T d g h b w) → o.guard ≡ d.with_inner e.guard n → o.rest ≡ e.rest → m ≡ d.inner e.guard
-      → PutsNew (key_hash b w h.hash_input m.contents) same m (e.key, v) x n → RelocatesTwoWithin (key_hash b w h.hash_input m.contents e.key) m.contents n.contents → slice_get (list_of n.contents (spot_of n.contents o.place).bucket) (spot_of n.contents o.place).slot ≡ Some (e.key, v) → IsPut same e v x o
-  put-after same e m n v x o guarded rests is step moved got =
+  pub put-after : (same : K → K → Bool) (e : HeldVacant G N K V S T d g h b w) (m n : Cached (K × V) S) (v : V) (x : Option (K × V)) (o : HeldOccupied G N K V S T d g h b w) (q : Place) → o.guard ≡ d.with_inner e.guard n → o.place ≡ q → o.rest ≡ e.rest → m ≡ d.inner e.guard
+      → PutsNew (key_hash b w h.hash_input m.contents) same m (e.key, v) x n → RelocatesTwoWithin (key_hash b w h.hash_input m.contents e.key) m.contents n.contents → slice_get (list_of n.contents (spot_of n.contents q).bucket) (spot_of n.contents q).slot ≡ Some (e.key, v) → IsPut same e v x o
+  put-after same e m n v x o q guarded placed rests is step moved got =
       let k : d.inner o.guard ≡ n = ap d.inner guarded ∙ d.inner_law e.guard n in
       record {
         same_guard = guarded ∙ ap (d.with_inner e.guard) (sym k);
         rest = rests;
         step = subst (λ c. PutsNew (key_hash b w h.hash_input c.contents) same c (e.key, v) x (d.inner o.guard)) is (subst (λ c. PutsNew (key_hash b w h.hash_input m.contents) same m (e.key, v) x c) (sym k) step);
         relocates = subst (λ c. RelocatesTwoWithin (key_hash b w h.hash_input c.contents e.key) c.contents (d.inner o.guard).contents) is (subst (λ c. RelocatesTwoWithin (key_hash b w h.hash_input m.contents e.key) m.contents c.contents) (sym k) moved);
-        pair = sym (pair-is o n (e.key, v) (sym k) got);
+        pair = sym (pair-is o n (e.key, v) (sym k) (subst (λ a. slice_get (list_of n.contents (spot_of n.contents a).bucket) (spot_of n.contents a).slot ≡ Some (e.key, v)) (sym placed) got));
       }
 
   -- an entry that is made again from its parts is equal to the entry
@@ -254,12 +268,13 @@ module _ {G N K V S T : Type 0} {d : guard.Ghosts G (Cached (K × V) S)} {g : eq
   same-entry o p = ap (λ r. record o { within = r }) (place-prop (d.inner o.guard).contents o.place p o.within)
 
   -- if the pair of k was moved through the guard s, the entry of the guard that results stands at the moved pair
-  pub refreshed-under : (same : K → K → Bool) (s : G) (m n : Cached (K × V) S) (k : K) (o : HeldOccupied G N K V S T d g h b w) → m ≡ d.inner s → o.guard ≡ d.with_inner s n → IsLastAt (key_hash b w h.hash_input m.contents) same m k n o.place → RelocatesOne (key_hash b w h.hash_input m.contents k) m.contents n.contents → IsRefreshed same (d.inner s) k o
-  refreshed-under same s m n k o is guarded at r =
+  pub refreshed-under : (same : K → K → Bool) (s : G) (m n : Cached (K × V) S) (k : K) (o : HeldOccupied G N K V S T d g h b w) (q : Place) → m ≡ d.inner s → o.guard ≡ d.with_inner s n → o.place ≡ q → IsLastAt (key_hash b w h.hash_input m.contents) same m k n q → RelocatesOne (key_hash b w h.hash_input m.contents k) m.contents n.contents → IsRefreshed same (d.inner s) k o
+  refreshed-under same s m n k o q is guarded placed at r =
       let kept : d.inner o.guard ≡ n = ap d.inner guarded ∙ d.inner_law s n in
       let Last : Cached (K × V) S → Cached (K × V) S → Type 0 = λ c x. IsLastAt (key_hash b w h.hash_input c.contents) same c k x o.place in
+      let there : Last m n = subst (λ p. IsLastAt (key_hash b w h.hash_input m.contents) same m k n p) (sym placed) at in
       let One : Cached (K × V) S → Cached (K × V) S → Type 0 = λ c x. RelocatesOne (key_hash b w h.hash_input c.contents k) c.contents x.contents in
-      refreshed_at same (d.inner s) k o (subst (λ c. Last c (d.inner o.guard)) is (subst (Last m) (sym kept) at)) (subst (λ c. One c (d.inner o.guard)) is (subst (One m) (sym kept) r))
+      refreshed_at same (d.inner s) k o (subst (λ c. Last c (d.inner o.guard)) is (subst (Last m) (sym kept) there)) (subst (λ c. One c (d.inner o.guard)) is (subst (One m) (sym kept) r))
 
   -- an occupied entry is returned unchanged
   module _ (same-key : K → K → Bool) (e : HeldEntry G N K V S T d g h b w) (o : HeldOccupied G N K V S T d g h b w) (r : Result (Option (K × V) × HeldOccupied G N K V S T d g h b w) (InsertError K V)) (is : e ≡ Occupied o) (same : r ≡ Ok (None, o)) where

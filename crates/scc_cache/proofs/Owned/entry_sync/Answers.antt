@@ -1,5 +1,6 @@
-use Rattle.scc_cache.proofs.Entries.{refreshed_at}
+use Rattle.std.proofs.Common.{refl}
+use Rattle.scc_cache.proofs.Entries.{refreshed-under}
 use Rattle.scc_cache.proofs.Owned.entry_sync.Goals as goal
 
 pub returns-in-Some-clause-entry : goal.returns-in-Some-clause-entry
-returns-in-Some-clause-entry g c = refreshed_at g.K.PartialEq.eq c.args.self.now c.args.k _ c.in-Some.ensures.step c.in-Some.ensures.relocates
+returns-in-Some-clause-entry g c = refreshed-under g.K.PartialEq.eq c.args.self c.args.self.now c.refresh.new.self c.args.k c.at.result _ refl c.at.ensures.guard c.at.ensures.place c.in-Some.ensures.step c.in-Some.ensures.relocates
