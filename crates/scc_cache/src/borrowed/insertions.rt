@@ -1,5 +1,5 @@
 //! The puts through an entry of a borrowed cache. Each goes on from the search that made the entry.
-ghost use Rattle.scc_cache.specs.Entries.{entry_guard, entry_key, IsVacant, OrPuts, OrPutsSome, Refuses, RefusesSome, SetsEntry, rests_if_refused};
+ghost use Rattle.scc_cache.specs.Entries.{entry_guard, entry_key, IsVacant, OrPuts, OrPutsSome, Refuses, RefusesSome, SetsEntry, rests_if_refused, occupied_guard};
 ghost use Rattle.std.specs.Borrow.{sem};
 ghost use Rattle.std.specs.Fn.{FnOnceTakesAt, FnOnceReturnsAt};
 ghost use Rattle.std.specs.Prelude.{◌≡◌, None, Ok, IfOk, IfErr};
@@ -136,7 +136,7 @@ impl<'a, K: Eq + Hash, V, H: BuildHasher> HeldOccupied<&'a mut Owned<K, V, H>, (
     fn as_it_is(self) -> Result<(EvictedEntry<K, V>, OccupiedEntry<'a, K, V, H>), InsertError<K, V>>
         ensures same { result ≡ Ok (None, self.entry) }
         ensures* kept { sem 𝓛 (rests_if_refused K.row V.row H.row H.Hasher.row K.Hash H.BuildHasher H.Hasher.Hasher
-            self.entry.guard result) }
+            (occupied_guard self.entry) result) }
     {
         let HeldOccupied {
             guard,

@@ -141,7 +141,7 @@ impl<'a, K: Eq + Hash, V, H: BuildHasher> HeldVacant<&'a mut Owned<K, V, H>, (),
         ensures refused { IfErr result (λ e. (e ≡ Memory (vacant_key self.entry, value))
             × (bucket_count (vacant_guard self.entry).now.contents ≡ 0)) }
         ensures* kept { sem 𝓛 (rests_if_refused K.row V.row H.row H.Hasher.row K.Hash H.BuildHasher H.Hasher.Hasher
-            self.entry.guard result) }
+            (vacant_guard self.entry) result) }
     {
         let HeldVacant {
             guard,

@@ -1,5 +1,5 @@
 use Rattle.std.proofs.Common.{refl}
-use Rattle.scc_cache.proofs.Entries.{none-refused, or-handed, or-put, or-refused}
+use Rattle.scc_cache.proofs.Entries.{refused-through, none-refused, or-handed, or-put, or-refused}
 use Rattle.scc_cache.proofs.borrowed.insertions.HeldEntry+mut+Owned+K+V+H+unit+K+V+H.or_put.Goals as goal
 
 pub returns-in-Occupied : goal.returns-in-Occupied
@@ -18,4 +18,4 @@ returns-in-Vacant g c =
     let r = c.put_entry.result in
     let is = c.in-Vacant.is in
     let p = c.put_entry.ensures in
-    ((refl, c.put_entry.follows.holds, rw is c.put_entry.follows.holds-at-none), record { entry = or-put self x r is g.K.PartialEq.eq c.args.default p.put; refused = or-refused self x r is c.args.default p.refused; kept = tt })
+    ((refl, c.put_entry.follows.holds, refused-through self x r _ is c.put_entry.follows.holds-at-none), record { entry = or-put self x r is g.K.PartialEq.eq c.args.default p.put; refused = or-refused self x r is c.args.default p.refused; kept = tt })

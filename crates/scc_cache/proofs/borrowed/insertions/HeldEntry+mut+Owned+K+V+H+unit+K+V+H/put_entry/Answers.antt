@@ -1,5 +1,5 @@
 use Rattle.std.proofs.Common.{refl}
-use Rattle.scc_cache.proofs.Entries.{or-refused, sets-put, within-after, written-after}
+use Rattle.scc_cache.proofs.Entries.{refused-through, or-refused, sets-put, within-after, written-after}
 use Rattle.scc_cache.proofs.borrowed.insertions.HeldEntry+mut+Owned+K+V+H+unit+K+V+H.put_entry.Goals as goal
 
 pub invariant_of-self : goal.invariant_of-self
@@ -16,4 +16,4 @@ returns-in-Vacant g c =
     let r = c.put_entry.result in
     let is = c.in-Vacant.is in
     let p = c.put_entry.ensures in
-    ((refl, c.put_entry.follows.holds, rw is c.put_entry.follows.holds-at-none), record { entry = sets-put self x r is g.K.PartialEq.eq c.args.value p.put; refused = or-refused self x r is c.args.value p.refused; kept = tt })
+    ((refl, c.put_entry.follows.holds, refused-through self x r _ is c.put_entry.follows.holds-at-none), record { entry = sets-put self x r is g.K.PartialEq.eq c.args.value p.put; refused = or-refused self x r is c.args.value p.refused; kept = tt })

@@ -1,4 +1,4 @@
-use Rattle.std.proofs.Common.{refl, ap}
+use Rattle.std.proofs.Common.{refl}
 use Rattle.scc_table.proofs.AtPlaces.{back-none}
 use Rattle.scc_index.proofs.Entries.{same-name}
 use Rattle.scc_index.proofs.EntrySteps.{next-at}

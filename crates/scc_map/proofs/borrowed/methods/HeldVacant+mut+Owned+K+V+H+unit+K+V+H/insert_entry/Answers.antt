@@ -1,4 +1,4 @@
-use Rattle.std.proofs.Common.{refl, ap}
+use Rattle.std.proofs.Common.{refl}
 use Rattle.scc_map.proofs.Entries.{same-name, inserts-at-vacant}
 use Rattle.scc_map.proofs.borrowed.methods.HeldVacant+mut+Owned+K+V+H+unit+K+V+H.insert_entry.Goals as goal
 
