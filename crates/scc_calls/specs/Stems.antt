@@ -1,6 +1,6 @@
 -- How the reply that a caller gets stems from the reply that the step gives: a read answers a clone of what is stored,
 -- each other call the very reply.
-use Rattle.std.proofs.Common.{◌≡◌, ◌⊎◌, Bool, true, Option, None, Some, inl, inr}
+use Rattle.std.proofs.Common.{◌≡◌, Bool, true, Option, None, Some, inl, inr}
 use Rattle.scc_common.specs.Copies.{IsCopied}
 use Rattle.scc_calls.specs.Copies.{Alike, ClonesEqual}
 use Rattle.scc_calls.specs.declared.replies.Reply.{Reply}

@@ -1,15 +1,14 @@
 //! The calls of the owned cache as values.
-ghost use Rattle.std.specs.Prelude.{◌≡◌, ◌⊎◌, true, None, Some, IfOk, IsSome, OnErr};
-ghost use Rattle.std.specs.Cmp.{IsPartialEquivalence};
-ghost use Rattle.scc_common.specs.Contents.{bucket_count, list_of, lists_of, key_hash};
+ghost use Rattle.std.specs.Prelude.{◌≡◌, true, IfOk, OnErr};
+ghost use Rattle.scc_common.specs.Contents.{bucket_count, list_of, key_hash};
 ghost use Rattle.scc_common.specs.Hashing.{hash_of};
 ghost use Rattle.scc_cache.specs.CacheSteps.{list_number, IsAbsent};
-ghost use Rattle.scc_calls.specs.CacheCalls.{cache_answer, cache_key, first_of_full};
+ghost use Rattle.scc_calls.specs.CacheCalls.{first_of_full};
 ghost use Rattle.scc_calls.specs.Copies.{ClonesEqual, MayNotClone};
 ghost use Rattle.scc_calls.specs.Preparations.{CachePreparesCall};
 ghost use Rattle.scc_calls.specs.declared.replies.Reply.TheVariants.{Evicted};
 
-use crate::replies::equal_replies;
+use crate::replies::{CopiesReply, clone_pair, copies, equals};
 use crate::{CacheCall, Calls, Refused, Reply};
 use scc_cache::Owned;
 use scc_cache::borrowed::{Entry, ReplaceResult};
@@ -218,11 +217,6 @@ impl<K: Eq + Hash + Clone, V: Clone + PartialEq, H: BuildHasher> Calls for Owned
         (K.hash_input k))) i b };
 }
 
-// States what `==` is. Does nothing.
-fn equals<X: PartialEq>()
-    ensures { IsPartialEquivalence X.eq }
-{}
-
 // Makes the first array or the growth that `call` would have to make, if `call` may add a key. Fails if memory is
 // refused.
 fn prepare<K: Eq + Hash, V, H: BuildHasher>(
@@ -241,81 +235,39 @@ fn prepare<K: Eq + Hash, V, H: BuildHasher>(
     }
 }
 
-// Returns two copies of the reply that `call` gives next. Fails if a clone is refused.
-fn copies<K: Eq + Hash + Clone, V: Clone + PartialEq, H: BuildHasher>(
-    cache: &Owned<K, V, H>,
-    call: &CacheCall<K, V>,
-) -> Result<(Reply<K, V>, Reply<K, V>), Refused>
-    requires clones { ClonesEqual ⟦<Reply<K, V> as Clone>⟧.is_clone ⟦<Reply<K, V> as PartialEq>⟧.eq }
-    ensures ok { IfOk result (λ r. (⟦<Reply<K, V> as PartialEq>⟧.eq
-        (cache_answer K.eq (list_number (key_hash H.BuildHasher H.Hasher.Hasher K.hash_input cache.now.contents)
-        cache.now.contents) (lists_of cache.now.contents) call.now) r.0 ≡ true)
-        × (⟦<Reply<K, V> as PartialEq>⟧.eq
-        (cache_answer K.eq (list_number (key_hash H.BuildHasher H.Hasher.Hasher K.hash_input cache.now.contents)
-        cache.now.contents) (lists_of cache.now.contents) call.now) r.1 ≡ true)) }
-    ensures refused { OnErr result (IsSome (cache_key call.now) × MayNotClone ⟦<Reply<K, V> as Clone>⟧.is_infallible
-        (cache_answer K.eq (list_number (key_hash H.BuildHasher H.Hasher.Hasher K.hash_input cache.now.contents)
-        cache.now.contents) (lists_of cache.now.contents) call.now)) }
-{
-    equal_replies::<Reply<K, V>>();
-    let first = copy(cache, call)?;
-    if let Ok(second) = first.clone() {
-        return Ok((first, second));
-    }
-    // A refused clone of the copy says nothing of the reply, so the reply is copied once more.
-    let second = copy(cache, call)?;
-    Ok((first, second))
-}
+impl<K: Eq + Hash + Clone, V: Clone + PartialEq, H: BuildHasher> CopiesReply for Owned<K, V, H> {
+    type Call = CacheCall<K, V>;
 
-// Returns a copy of the reply that `call` gives next. Fails if a clone is refused.
-fn copy<K: Eq + Hash + Clone, V: Clone + PartialEq, H: BuildHasher>(
-    cache: &Owned<K, V, H>,
-    call: &CacheCall<K, V>,
-) -> Result<Reply<K, V>, Refused>
-    requires clones { ClonesEqual ⟦<Reply<K, V> as Clone>⟧.is_clone ⟦<Reply<K, V> as PartialEq>⟧.eq }
-    ensures ok { IfOk result (λ r. ⟦<Reply<K, V> as PartialEq>⟧.eq
-        (cache_answer K.eq (list_number (key_hash H.BuildHasher H.Hasher.Hasher K.hash_input cache.now.contents)
-        cache.now.contents) (lists_of cache.now.contents) call.now) r ≡ true) }
-    ensures refused { OnErr result (IsSome (cache_key call.now) × MayNotClone ⟦<Reply<K, V> as Clone>⟧.is_infallible
-        (cache_answer K.eq (list_number (key_hash H.BuildHasher H.Hasher.Hasher K.hash_input cache.now.contents)
-        cache.now.contents) (lists_of cache.now.contents) call.now)) }
-{
-    match call {
-        CacheCall::Put(k, v) => {
-            if !cache.contains_sync(k) {
-                return copy_evicted(cache, k);
+    type Reply = Reply<K, V>;
+
+    ghost use Rattle.std.specs.Prelude.{IsSome};
+    ghost use Rattle.scc_common.specs.Contents.{key_hash, lists_of};
+    ghost use Rattle.scc_cache.specs.CacheSteps.{list_number};
+    ghost use Rattle.scc_calls.specs.CacheCalls.{cache_answer, cache_key};
+
+    ghost next_reply = { λ c. cache_answer K.eq (list_number (key_hash H.BuildHasher H.Hasher.Hasher K.hash_input c.contents)
+        c.contents) (lists_of c.contents) };
+
+    ghost has_key = { λ call. IsSome (cache_key call) };
+
+    fn copy(&self, call: &CacheCall<K, V>) -> Result<Reply<K, V>, Refused> {
+        match call {
+            CacheCall::Put(k, v) => {
+                if !self.contains_sync(k) {
+                    return copy_evicted(self, k);
+                }
+                let (key, value) = clone_pair(k, v)?;
+                Ok(Reply::Exists(key, value))
             }
-            let Ok(key) = k.clone() else {
-                return Err(Refused);
-            };
-            let Ok(value) = v.clone() else {
-                return Err(Refused);
-            };
-            Ok(Reply::Exists(key, value))
+            CacheCall::Get(k) => Ok(Reply::Value(self.cloned_value(k)?)),
+            CacheCall::Write(k, _) => Ok(Reply::Old(self.cloned_value(k)?)),
+            CacheCall::Replace(k) => Ok(Reply::Key(self.cloned_key(k)?)),
+            CacheCall::Remove(k) => Ok(Reply::Pair(self.cloned_pair(k)?)),
+            CacheCall::Read(k) => Ok(Reply::Value(self.cloned_value(k)?)),
+            CacheCall::Contains(k) => Ok(Reply::Has(self.contains_sync(k))),
+            CacheCall::Clear => Ok(Reply::Cleared),
+            CacheCall::Len => Ok(Reply::Count(self.len())),
         }
-        CacheCall::Get(k) => match cache.cloned_value(k) {
-            Ok(value) => Ok(Reply::Value(value)),
-            Err(_) => Err(Refused),
-        },
-        CacheCall::Write(k, _) => match cache.cloned_value(k) {
-            Ok(value) => Ok(Reply::Old(value)),
-            Err(_) => Err(Refused),
-        },
-        CacheCall::Replace(k) => match cache.cloned_key(k) {
-            Ok(key) => Ok(Reply::Key(key)),
-            Err(_) => Err(Refused),
-        },
-        CacheCall::Remove(k) => match cache.cloned_pair(k) {
-            Ok(pair) => Ok(Reply::Pair(pair)),
-            Err(_) => Err(Refused),
-        },
-        CacheCall::Read(k) => match cache.cloned_value(k) {
-            Ok(value) => Ok(Reply::Value(value)),
-            Err(_) => Err(Refused),
-        },
-        CacheCall::Contains(k) => Ok(Reply::Has(cache.contains_sync(k))),
-        CacheCall::Clear => Ok(Reply::Cleared),
-        CacheCall::Len => Ok(Reply::Count(cache.len())),
     }
 }
 
@@ -339,13 +291,8 @@ fn copy_evicted<K: Eq + Hash + Clone, V: Clone + PartialEq, H: BuildHasher>(
 {
     match cache.next_evicted(k) {
         Some((key, value)) => {
-            let Ok(key) = key.clone() else {
-                return Err(Refused);
-            };
-            let Ok(value) = value.clone() else {
-                return Err(Refused);
-            };
-            Ok(Reply::Evicted(Some((key, value))))
+            let pair = clone_pair(key, value)?;
+            Ok(Reply::Evicted(Some(pair)))
         }
         None => Ok(Reply::Evicted(None)),
     }

@@ -1,12 +1,8 @@
 //! The calls of the owned index as values.
-ghost use Rattle.std.specs.Prelude.{◌≡◌, ◌⊎◌, true, None, Some, IfOk, IsSome, OnErr};
-ghost use Rattle.scc_common.specs.Contents.{entries};
 ghost use Rattle.scc_common.specs.Hashing.{hash_of};
-ghost use Rattle.scc_calls.specs.Copies.{ClonesEqual, MayNotClone};
-ghost use Rattle.scc_calls.specs.IndexCalls.{index_answer, index_key};
 ghost use Rattle.scc_calls.specs.Preparations.{IndexPreparesCall, IndexPreparesKey};
 
-use crate::replies::equal_replies;
+use crate::replies::{CopiesReply, clone_pair, copies, equals};
 use crate::{Calls, IndexCall, Refused, Reply};
 use scc_common::{InsertError, MakeError};
 use scc_index::Owned;
@@ -110,7 +106,7 @@ impl<K: Eq + Hash + Clone, V: Clone + PartialEq, H: BuildHasher> Calls for Owned
     }
 
     fn call(&mut self, call: IndexCall<K, V>) -> Result<Reply<K, V>, Refused> {
-        equal_replies::<Reply<K, V>>();
+        equals::<Reply<K, V>>();
         match call {
             IndexCall::Insert(k, v) => match self.insert_sync(k, v) {
                 Ok(()) => Ok(Reply::Inserted),
@@ -223,59 +219,34 @@ fn prepare_key<K: Eq + Hash, V, H: BuildHasher>(
     }
 }
 
-// Returns two copies of the reply that `call` gives next. Fails if a clone is refused.
-fn copies<K: Eq + Hash + Clone, V: Clone + PartialEq, H: BuildHasher>(
-    index: &Owned<K, V, H>,
-    call: &IndexCall<K, V>,
-) -> Result<(Reply<K, V>, Reply<K, V>), Refused>
-    requires clones { ClonesEqual ⟦<Reply<K, V> as Clone>⟧.is_clone ⟦<Reply<K, V> as PartialEq>⟧.eq }
-    ensures ok { IfOk result (λ r. (⟦<Reply<K, V> as PartialEq>⟧.eq (index_answer K.eq (entries index.now) call.now)
-        r.0 ≡ true) × (⟦<Reply<K, V> as PartialEq>⟧.eq (index_answer K.eq (entries index.now) call.now) r.1 ≡ true)) }
-    ensures refused { OnErr result (IsSome (index_key call.now) × MayNotClone ⟦<Reply<K, V> as Clone>⟧.is_infallible
-        (index_answer K.eq (entries index.now) call.now)) }
-{
-    equal_replies::<Reply<K, V>>();
-    let first = copy(index, call)?;
-    if let Ok(second) = first.clone() {
-        return Ok((first, second));
-    }
-    // A refused clone of the copy says nothing of the reply, so the reply is copied once more.
-    let second = copy(index, call)?;
-    Ok((first, second))
-}
+impl<K: Eq + Hash + Clone, V: Clone + PartialEq, H: BuildHasher> CopiesReply for Owned<K, V, H> {
+    type Call = IndexCall<K, V>;
 
-// Returns a copy of the reply that `call` gives next. Fails if a clone is refused.
-fn copy<K: Eq + Hash + Clone, V: Clone + PartialEq, H: BuildHasher>(
-    index: &Owned<K, V, H>,
-    call: &IndexCall<K, V>,
-) -> Result<Reply<K, V>, Refused>
-    requires clones { ClonesEqual ⟦<Reply<K, V> as Clone>⟧.is_clone ⟦<Reply<K, V> as PartialEq>⟧.eq }
-    ensures ok { IfOk result (λ r. ⟦<Reply<K, V> as PartialEq>⟧.eq (index_answer K.eq (entries index.now) call.now) r
-        ≡ true) }
-    ensures refused { OnErr result (IsSome (index_key call.now) × MayNotClone ⟦<Reply<K, V> as Clone>⟧.is_infallible
-        (index_answer K.eq (entries index.now) call.now)) }
-{
-    match call {
-        IndexCall::Insert(k, v) => {
-            if !index.contains(k) {
-                return Ok(Reply::Inserted);
+    type Reply = Reply<K, V>;
+
+    ghost use Rattle.std.specs.Prelude.{IsSome};
+    ghost use Rattle.scc_common.specs.Contents.{entries};
+    ghost use Rattle.scc_calls.specs.IndexCalls.{index_answer, index_key};
+
+    ghost next_reply = { λ x. index_answer K.eq (entries x) };
+
+    ghost has_key = { λ call. IsSome (index_key call) };
+
+    fn copy(&self, call: &IndexCall<K, V>) -> Result<Reply<K, V>, Refused> {
+        match call {
+            IndexCall::Insert(k, v) => {
+                if !self.contains(k) {
+                    return Ok(Reply::Inserted);
+                }
+                let (key, value) = clone_pair(k, v)?;
+                Ok(Reply::Exists(key, value))
             }
-            let Ok(key) = k.clone() else {
-                return Err(Refused);
-            };
-            let Ok(value) = v.clone() else {
-                return Err(Refused);
-            };
-            Ok(Reply::Exists(key, value))
+            IndexCall::Update(k, _) => Ok(Reply::Has(self.contains(k))),
+            IndexCall::Remove(k) => Ok(Reply::Has(self.contains(k))),
+            IndexCall::Read(k) => Ok(Reply::Value(self.cloned_value(k)?)),
+            IndexCall::Contains(k) => Ok(Reply::Has(self.contains(k))),
+            IndexCall::Clear => Ok(Reply::Cleared),
+            IndexCall::Len => Ok(Reply::Count(self.len())),
         }
-        IndexCall::Update(k, _) => Ok(Reply::Has(index.contains(k))),
-        IndexCall::Remove(k) => Ok(Reply::Has(index.contains(k))),
-        IndexCall::Read(k) => match index.cloned_value(k) {
-            Ok(value) => Ok(Reply::Value(value)),
-            Err(_) => Err(Refused),
-        },
-        IndexCall::Contains(k) => Ok(Reply::Has(index.contains(k))),
-        IndexCall::Clear => Ok(Reply::Cleared),
-        IndexCall::Len => Ok(Reply::Count(index.len())),
     }
 }

@@ -1,12 +1,8 @@
 //! The calls of the owned map as values.
-ghost use Rattle.std.specs.Prelude.{◌≡◌, ◌⊎◌, true, None, Some, IfOk, IsSome, OnErr};
-ghost use Rattle.scc_common.specs.Contents.{entries};
 ghost use Rattle.scc_common.specs.Hashing.{hash_of};
-ghost use Rattle.scc_calls.specs.Copies.{ClonesEqual, MayNotClone};
-ghost use Rattle.scc_calls.specs.MapCalls.{map_answer, map_key};
 ghost use Rattle.scc_calls.specs.Preparations.{MapPreparesCall, MapPreparesKey};
 
-use crate::replies::equal_replies;
+use crate::replies::{CopiesReply, clone_pair, copies, equals};
 use crate::{Calls, MapCall, Refused, Reply};
 use scc_common::{InsertError, MakeError};
 use scc_map::Owned;
@@ -109,7 +105,7 @@ impl<K: Eq + Hash + Clone, V: Clone + PartialEq, H: BuildHasher> Calls for Owned
     }
 
     fn call(&mut self, call: MapCall<K, V>) -> Result<Reply<K, V>, Refused> {
-        equal_replies::<Reply<K, V>>();
+        equals::<Reply<K, V>>();
         match call {
             MapCall::Insert(k, v) => match self.insert_sync(k, v) {
                 Ok(()) => Ok(Reply::Inserted),
@@ -226,69 +222,35 @@ fn prepare_key<K: Eq + Hash, V, H: BuildHasher>(
     }
 }
 
-// Returns two copies of the reply that `call` gives next. Fails if a clone is refused.
-fn copies<K: Eq + Hash + Clone, V: Clone + PartialEq, H: BuildHasher>(
-    map: &Owned<K, V, H>,
-    call: &MapCall<K, V>,
-) -> Result<(Reply<K, V>, Reply<K, V>), Refused>
-    requires clones { ClonesEqual ⟦<Reply<K, V> as Clone>⟧.is_clone ⟦<Reply<K, V> as PartialEq>⟧.eq }
-    ensures ok { IfOk result (λ r. (⟦<Reply<K, V> as PartialEq>⟧.eq (map_answer K.eq (entries map.now) call.now) r.0
-        ≡ true) × (⟦<Reply<K, V> as PartialEq>⟧.eq (map_answer K.eq (entries map.now) call.now) r.1 ≡ true)) }
-    ensures refused { OnErr result (IsSome (map_key call.now) × MayNotClone ⟦<Reply<K, V> as Clone>⟧.is_infallible
-        (map_answer K.eq (entries map.now) call.now)) }
-{
-    equal_replies::<Reply<K, V>>();
-    let first = copy(map, call)?;
-    if let Ok(second) = first.clone() {
-        return Ok((first, second));
-    }
-    // A refused clone of the copy says nothing of the reply, so the reply is copied once more.
-    let second = copy(map, call)?;
-    Ok((first, second))
-}
+impl<K: Eq + Hash + Clone, V: Clone + PartialEq, H: BuildHasher> CopiesReply for Owned<K, V, H> {
+    type Call = MapCall<K, V>;
 
-// Returns a copy of the reply that `call` gives next. Fails if a clone is refused.
-fn copy<K: Eq + Hash + Clone, V: Clone + PartialEq, H: BuildHasher>(
-    map: &Owned<K, V, H>,
-    call: &MapCall<K, V>,
-) -> Result<Reply<K, V>, Refused>
-    requires clones { ClonesEqual ⟦<Reply<K, V> as Clone>⟧.is_clone ⟦<Reply<K, V> as PartialEq>⟧.eq }
-    ensures ok { IfOk result (λ r. ⟦<Reply<K, V> as PartialEq>⟧.eq (map_answer K.eq (entries map.now) call.now) r
-        ≡ true) }
-    ensures refused { OnErr result (IsSome (map_key call.now) × MayNotClone ⟦<Reply<K, V> as Clone>⟧.is_infallible
-        (map_answer K.eq (entries map.now) call.now)) }
-{
-    match call {
-        MapCall::Insert(k, v) => {
-            if !map.contains_sync(k) {
-                return Ok(Reply::Inserted);
+    type Reply = Reply<K, V>;
+
+    ghost use Rattle.std.specs.Prelude.{IsSome};
+    ghost use Rattle.scc_common.specs.Contents.{entries};
+    ghost use Rattle.scc_calls.specs.MapCalls.{map_answer, map_key};
+
+    ghost next_reply = { λ m. map_answer K.eq (entries m) };
+
+    ghost has_key = { λ call. IsSome (map_key call) };
+
+    fn copy(&self, call: &MapCall<K, V>) -> Result<Reply<K, V>, Refused> {
+        match call {
+            MapCall::Insert(k, v) => {
+                if !self.contains_sync(k) {
+                    return Ok(Reply::Inserted);
+                }
+                let (key, value) = clone_pair(k, v)?;
+                Ok(Reply::Exists(key, value))
             }
-            let Ok(key) = k.clone() else {
-                return Err(Refused);
-            };
-            let Ok(value) = v.clone() else {
-                return Err(Refused);
-            };
-            Ok(Reply::Exists(key, value))
+            MapCall::Upsert(k, _) => Ok(Reply::Old(self.cloned_value(k)?)),
+            MapCall::Replace(k) => Ok(Reply::Key(self.cloned_key(k)?)),
+            MapCall::Read(k) => Ok(Reply::Value(self.cloned_value(k)?)),
+            MapCall::Contains(k) => Ok(Reply::Has(self.contains_sync(k))),
+            MapCall::Remove(k) => Ok(Reply::Pair(self.cloned_pair(k)?)),
+            MapCall::Clear => Ok(Reply::Cleared),
+            MapCall::Len => Ok(Reply::Count(self.len())),
         }
-        MapCall::Upsert(k, _) => match map.cloned_value(k) {
-            Ok(value) => Ok(Reply::Old(value)),
-            Err(_) => Err(Refused),
-        },
-        MapCall::Replace(k) => match map.cloned_key(k) {
-            Ok(key) => Ok(Reply::Key(key)),
-            Err(_) => Err(Refused),
-        },
-        MapCall::Read(k) => match map.cloned_value(k) {
-            Ok(value) => Ok(Reply::Value(value)),
-            Err(_) => Err(Refused),
-        },
-        MapCall::Contains(k) => Ok(Reply::Has(map.contains_sync(k))),
-        MapCall::Remove(k) => match map.cloned_pair(k) {
-            Ok(pair) => Ok(Reply::Pair(pair)),
-            Err(_) => Err(Refused),
-        },
-        MapCall::Clear => Ok(Reply::Cleared),
-        MapCall::Len => Ok(Reply::Count(map.len())),
     }
 }

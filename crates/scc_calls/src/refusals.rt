@@ -1,5 +1,6 @@
 //! Why a call as a value was refused.
 
+use std::alloc::AllocError;
 use std::fmt::Debug;
 use std::io;
 use thiserror::Error;
@@ -13,5 +14,12 @@ impl From<Refused> for io::Error {
     /// Returns an error of the kind `OutOfMemory`.
     fn from(_error: Refused) -> io::Error {
         io::Error::from(io::ErrorKind::OutOfMemory)
+    }
+}
+
+impl From<AllocError> for Refused {
+    /// Returns `Refused`.
+    fn from(_error: AllocError) -> Refused {
+        Refused
     }
 }

@@ -1,6 +1,9 @@
-//! The replies of calls as values.
+//! The replies of calls as values, and copies of a reply that are made before its call.
+ghost use Rattle.std.specs.Prelude.{◌≡◌, true, IfOk, OnErr};
 ghost use Rattle.std.specs.Cmp.{IsPartialEquivalence};
+ghost use Rattle.scc_calls.specs.Copies.{ClonesEqual, MayNotClone};
 
+use crate::Refused;
 use std::fmt::Debug;
 
 /// The reply of a call. One type serves all kinds of container; in a set, `V` is `()`.
@@ -28,7 +31,59 @@ pub enum Reply<K, V> {
     Count(usize),
 }
 
-// States what `==` of replies is. Does nothing.
-pub(crate) fn equal_replies<R: PartialEq>()
-    ensures { IsPartialEquivalence R.eq }
+// A container that copies the reply to a call before it makes the call.
+pub(crate) trait CopiesReply {
+    type Call;
+
+    type Reply: Clone + PartialEq;
+
+    // The reply that the call gives next, if the call makes no growth.
+    ghost next_reply: { Self → Self.Call → Self.Reply };
+
+    // The call has a key.
+    ghost has_key: { Self.Call → Type 0 };
+
+    // Returns a copy of the reply that `call` gives next. Fails if a clone is refused.
+    fn copy(&self, call: &Self::Call) -> Result<Self::Reply, Refused>
+        requires clones { ClonesEqual Self.Reply.is_clone Self.Reply.eq }
+        ensures ok { IfOk result (λ r. Self.Reply.eq (next_reply self.now call.now) r ≡ true) }
+        ensures refused { OnErr result (has_key call.now
+            × MayNotClone Self.Reply.is_infallible (next_reply self.now call.now)) };
+}
+
+// Returns two copies of the reply that `call` gives next. Fails if a clone is refused.
+pub(crate) fn copies<C: CopiesReply>(c: &C, call: &C::Call) -> Result<(C::Reply, C::Reply), Refused>
+    requires clones { ClonesEqual C.Reply.is_clone C.Reply.eq }
+    ensures ok { IfOk result (λ r. (C.Reply.eq (C.next_reply c.now call.now) r.0 ≡ true)
+        × (C.Reply.eq (C.next_reply c.now call.now) r.1 ≡ true)) }
+    ensures refused { OnErr result (C.has_key call.now
+        × MayNotClone C.Reply.is_infallible (C.next_reply c.now call.now)) }
+{
+    equals::<C::Reply>();
+    let first = c.copy(call)?;
+    if let Ok(second) = first.clone() {
+        return Ok((first, second));
+    }
+    // A refused clone of the copy says nothing of the reply, so the reply is copied once more.
+    let second = c.copy(call)?;
+    Ok((first, second))
+}
+
+// Returns clones of `k` and `v`. Fails if a clone is refused.
+pub(crate) fn clone_pair<K: Clone, V: Clone>(k: &K, v: &V) -> Result<(K, V), Refused>
+    ensures ok { IfOk result (λ p. K.is_clone k.now p.0 × V.is_clone v.now p.1) }
+    ensures refused { OnErr result (MayNotClone ⟦<(K, V) as Clone>⟧.is_infallible (k.now, v.now)) }
+{
+    let Ok(key) = k.clone() else {
+        return Err(Refused);
+    };
+    let Ok(value) = v.clone() else {
+        return Err(Refused);
+    };
+    Ok((key, value))
+}
+
+// States what `==` is. Does nothing.
+pub(crate) fn equals<X: PartialEq>()
+    ensures { IsPartialEquivalence X.eq }
 {}

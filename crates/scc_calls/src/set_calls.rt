@@ -1,14 +1,13 @@
 //! The calls of the owned set as values.
-ghost use Rattle.std.specs.Prelude.{◌≡◌, ◌⊎◌, true, None, Some, IfOk, IsSome, OnErr};
+ghost use Rattle.std.specs.Prelude.{◌≡◌, true, IfOk, OnErr};
 ghost use Rattle.scc_common.specs.Contents.{entries};
 ghost use Rattle.scc_common.specs.Hashing.{hash_of};
 ghost use Rattle.scc_set.specs.Keys.{find};
 ghost use Rattle.scc_calls.specs.Copies.{ClonesEqual, MayNotClone};
-ghost use Rattle.scc_calls.specs.SetCalls.{key_of_set, set_answer};
 ghost use Rattle.scc_calls.specs.Preparations.{SetPreparesCall, SetPreparesKey};
 ghost use Rattle.scc_calls.specs.declared.replies.Reply.TheVariants.{Key};
 
-use crate::replies::equal_replies;
+use crate::replies::{CopiesReply, copies, equals};
 use crate::{Calls, Refused, Reply, SetCall};
 use scc_common::{KeyError, MakeError};
 use scc_set::Owned;
@@ -107,7 +106,7 @@ impl<K: Eq + Hash + Clone, H: BuildHasher> Calls for Owned<K, H> {
     }
 
     fn call(&mut self, call: SetCall<K>) -> Result<Reply<K, ()>, Refused> {
-        equal_replies::<Reply<K, ()>>();
+        equals::<Reply<K, ()>>();
         match call {
             SetCall::Insert(k) => match self.insert_sync(k) {
                 Ok(()) => Ok(Reply::Inserted),
@@ -214,54 +213,37 @@ fn prepare_key<K: Eq + Hash, H: BuildHasher>(set: &mut Owned<K, H>, k: &K) -> Re
     }
 }
 
-// Returns two copies of the reply that `call` gives next. Fails if a clone is refused.
-fn copies<K: Eq + Hash + Clone, H: BuildHasher>(
-    set: &Owned<K, H>,
-    call: &SetCall<K>,
-) -> Result<(Reply<K, ()>, Reply<K, ()>), Refused>
-    requires clones { ClonesEqual ⟦<Reply<K, ()> as Clone>⟧.is_clone ⟦<Reply<K, ()> as PartialEq>⟧.eq }
-    ensures ok { IfOk result (λ r. (⟦<Reply<K, ()> as PartialEq>⟧.eq (set_answer K.eq (entries set.now) call.now) r.0
-        ≡ true) × (⟦<Reply<K, ()> as PartialEq>⟧.eq (set_answer K.eq (entries set.now) call.now) r.1 ≡ true)) }
-    ensures refused { OnErr result (IsSome (key_of_set call.now)
-        × MayNotClone ⟦<Reply<K, ()> as Clone>⟧.is_infallible (set_answer K.eq (entries set.now) call.now)) }
-{
-    equal_replies::<Reply<K, ()>>();
-    let first = copy(set, call)?;
-    if let Ok(second) = first.clone() {
-        return Ok((first, second));
-    }
-    // A refused clone of the copy says nothing of the reply, so the reply is copied once more.
-    let second = copy(set, call)?;
-    Ok((first, second))
-}
+impl<K: Eq + Hash + Clone, H: BuildHasher> CopiesReply for Owned<K, H> {
+    type Call = SetCall<K>;
 
-// Returns a copy of the reply that `call` gives next. Fails if a clone is refused.
-fn copy<K: Eq + Hash + Clone, H: BuildHasher>(
-    set: &Owned<K, H>,
-    call: &SetCall<K>,
-) -> Result<Reply<K, ()>, Refused>
-    requires clones { ClonesEqual ⟦<Reply<K, ()> as Clone>⟧.is_clone ⟦<Reply<K, ()> as PartialEq>⟧.eq }
-    ensures ok { IfOk result (λ r. ⟦<Reply<K, ()> as PartialEq>⟧.eq (set_answer K.eq (entries set.now) call.now) r
-        ≡ true) }
-    ensures refused { OnErr result (IsSome (key_of_set call.now)
-        × MayNotClone ⟦<Reply<K, ()> as Clone>⟧.is_infallible (set_answer K.eq (entries set.now) call.now)) }
-{
-    match call {
-        SetCall::Insert(k) => {
-            if !set.contains_sync(k) {
-                return Ok(Reply::Inserted);
+    type Reply = Reply<K, ()>;
+
+    ghost use Rattle.std.specs.Prelude.{IsSome};
+    ghost use Rattle.scc_common.specs.Contents.{entries};
+    ghost use Rattle.scc_calls.specs.SetCalls.{key_of_set, set_answer};
+
+    ghost next_reply = { λ s. set_answer K.eq (entries s) };
+
+    ghost has_key = { λ call. IsSome (key_of_set call) };
+
+    fn copy(&self, call: &SetCall<K>) -> Result<Reply<K, ()>, Refused> {
+        match call {
+            SetCall::Insert(k) => {
+                if !self.contains_sync(k) {
+                    return Ok(Reply::Inserted);
+                }
+                match k.clone() {
+                    Ok(key) => Ok(Reply::Exists(key, ())),
+                    Err(_) => Err(Refused),
+                }
             }
-            match k.clone() {
-                Ok(key) => Ok(Reply::Exists(key, ())),
-                Err(_) => Err(Refused),
-            }
+            SetCall::Replace(k) => copy_key(self, k),
+            SetCall::Remove(k) => copy_key(self, k),
+            SetCall::Read(k) => copy_key(self, k),
+            SetCall::Contains(k) => Ok(Reply::Has(self.contains_sync(k))),
+            SetCall::Clear => Ok(Reply::Cleared),
+            SetCall::Len => Ok(Reply::Count(self.len())),
         }
-        SetCall::Replace(k) => copy_key(set, k),
-        SetCall::Remove(k) => copy_key(set, k),
-        SetCall::Read(k) => copy_key(set, k),
-        SetCall::Contains(k) => Ok(Reply::Has(set.contains_sync(k))),
-        SetCall::Clear => Ok(Reply::Cleared),
-        SetCall::Len => Ok(Reply::Count(set.len())),
     }
 }
 
@@ -276,8 +258,5 @@ fn copy_key<K: Eq + Hash + Clone, H: BuildHasher>(
     ensures refused { OnErr result (MayNotClone ⟦<Reply<K, ()> as Clone>⟧.is_infallible
         (Key (find K.eq (entries set.now) k.now))) }
 {
-    match set.cloned_key(k) {
-        Ok(key) => Ok(Reply::Key(key)),
-        Err(_) => Err(Refused),
-    }
+    Ok(Reply::Key(set.cloned_key(k)?))
 }

@@ -119,7 +119,7 @@ returns-in-Ok-cloned_value g c =
       err = (search rules);
       refused = (search rules);
       answer = (
-          λ copy ready. let laws = c.equal_replies.ensures in
+          λ copy ready. let laws = c.equals.ensures in
           let own = (copied c.requires.clones Value _ (λ p. p.1) refl (λ x y h. h) (find g.K.PartialEq.eq (entries c.args.self.now) c.in-Read.k) c.in-Ok-cloned_value.value c.in-Ok-cloned_value.ensures.ok) in
           let asked = rw c.in-Read.is at ready.1 in
           laws.trans (Value c.in-Ok-cloned_value.value) (Value (option_map (λ p. p.1) (find g.K.PartialEq.eq (entries c.args.self.now) c.in-Read.k))) copy (laws.symm (Value c.in-Ok-cloned_value.value) (Value (option_map (λ p. p.1) (find g.K.PartialEq.eq (entries c.args.self.now) c.in-Read.k))) ∙ own) asked);

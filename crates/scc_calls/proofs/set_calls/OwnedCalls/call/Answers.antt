@@ -1,4 +1,4 @@
-use Rattle.std.proofs.Common.{◌∙◌, Some, inl, inr, refl, rules}
+use Rattle.std.proofs.Common.{◌∙◌, inl, inr, refl, rules}
 use Rattle.scc_common.specs.Contents.{entries}
 use Rattle.scc_common.specs.Hashing.{hash_of}
 use Rattle.scc_set.specs.Keys.{find}
@@ -78,7 +78,7 @@ returns-in-Ok-cloned_key g c =
       err = (search rules);
       refused = (search rules);
       answer = (
-          λ copy ready. let laws = c.equal_replies.ensures in
+          λ copy ready. let laws = c.equals.ensures in
           let own = (copied_whole c.requires.clones Key _ refl (λ x y h. h) (find g.K.PartialEq.eq (entries c.args.self.now) c.in-Read.k) c.in-Ok-cloned_key.key c.in-Ok-cloned_key.ensures.ok) in
           let asked = rw c.in-Read.is at ready.1 in
           laws.trans (Key c.in-Ok-cloned_key.key) (Key (find g.K.PartialEq.eq (entries c.args.self.now) c.in-Read.k)) copy (laws.symm (Key c.in-Ok-cloned_key.key) (Key (find g.K.PartialEq.eq (entries c.args.self.now) c.in-Read.k)) ∙ own) asked);

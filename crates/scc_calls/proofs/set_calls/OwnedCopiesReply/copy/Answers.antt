@@ -5,16 +5,16 @@ use Rattle.scc_common.specs.Contents.{entries}
 use Rattle.scc_set.specs.Keys.{find}
 use Rattle.scc_table.proofs.Same.{on-err}
 use Rattle.scc_calls.specs.declared.replies.Reply.TheVariants.{Exists}
-use Rattle.scc_calls.proofs.set_calls.copy.Goals as goal
+use Rattle.scc_calls.proofs.set_calls.OwnedCopiesReply.copy.Goals as goal
 
 pub returns-in-Ok-clause-ok : goal.returns-in-Ok-clause-ok
 returns-in-Ok-clause-ok g c =
-    let there : IsSome (find g.K.PartialEq.eq (entries c.args.set.now) c.in-Insert.k) = search rules in
+    let there : IsSome (find g.K.PartialEq.eq (entries c.args.self.now) c.in-Insert.k) = search rules in
     rw (c.in-Insert.is, there) (c.requires.clones (Exists c.in-Insert.k tt) (Exists c.in-Ok.key tt) (c.in-Ok.ensures.cases, refl))
 
 pub returns-in-Err-clause-refused : goal.returns-in-Err-clause-refused
 returns-in-Err-clause-refused g c =
-    let there : IsSome (find g.K.PartialEq.eq (entries c.args.set.now) c.in-Insert.k) = search rules in
+    let there : IsSome (find g.K.PartialEq.eq (entries c.args.self.now) c.in-Insert.k) = search rules in
     (rw c.in-Insert.is refl, rw (c.in-Insert.is, there) (λ h. c.in-Err.ensures.cases h.0))
 
 pub returns-in-Len-clause-ok : goal.returns-in-Len-clause-ok
