@@ -4,13 +4,13 @@ ghost use Rattle.std.specs.Borrow.{sem};
 ghost use Rattle.std.specs.Fn.{FnOnceTakesAt, FnOnceReturnsAt};
 ghost use Rattle.std.specs.Prelude.{◌≡◌, None, Ok, IfOk, IfErr};
 
-use crate::borrowed::OccupiedEntry;
+use crate::EvictedEntry;
+use crate::borrowed::{Entry, OccupiedEntry};
 use crate::held::{HeldEntry, HeldOccupied};
-use crate::{EvictedEntry, Owned};
 use scc_common::InsertError;
 use std::hash::{BuildHasher, Hash};
 
-impl<'a, K: Eq + Hash, V, H: BuildHasher> HeldEntry<&'a mut Owned<K, V, H>, (), K, V, H> {
+impl<'a, K: Eq + Hash, V, H: BuildHasher> Entry<'a, K, V, H> {
     /// Puts in `default` if the entry is vacant, by the rules of `put_sync`, and returns the evicted pair, if any, and
     /// the occupied entry. An occupied entry stays as it is, and never fails.
     pub fn or_put(
@@ -131,7 +131,7 @@ impl<'a, K: Eq + Hash, V, H: BuildHasher> HeldEntry<&'a mut Owned<K, V, H>, (), 
     }
 }
 
-impl<'a, K: Eq + Hash, V, H: BuildHasher> HeldOccupied<&'a mut Owned<K, V, H>, (), K, V, H> {
+impl<'a, K: Eq + Hash, V, H: BuildHasher> OccupiedEntry<'a, K, V, H> {
     /// Returns the entry as it is, as the result of a put that evicts nothing.
     fn as_it_is(self) -> Result<(EvictedEntry<K, V>, OccupiedEntry<'a, K, V, H>), InsertError<K, V>>
         ensures same { result ≡ Ok (None, self.entry) }

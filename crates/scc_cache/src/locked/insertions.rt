@@ -3,20 +3,13 @@ ghost use Rattle.scc_cache.specs.Entries.{entry_key, IsVacant, OrPuts, OrPutsSom
 ghost use Rattle.std.specs.Fn.{FnOnceTakesAt, FnOnceReturnsAt};
 ghost use Rattle.std.specs.Prelude.{IfOk, IfErr};
 
+use crate::EvictedEntry;
 use crate::held::HeldEntry;
-use crate::locked::OccupiedEntry;
-use crate::{EvictedEntry, Owned};
-use scc_common::{InsertError, Shared};
+use crate::locked::{Entry, OccupiedEntry};
+use scc_common::InsertError;
 use std::hash::{BuildHasher, Hash};
-use std::sync::RwLockWriteGuard;
 
-impl<'a, K: Eq + Hash, V, H: BuildHasher> HeldEntry<
-    RwLockWriteGuard<'a, Owned<K, V, Shared<H>>>,
-    (),
-    K,
-    V,
-    Shared<H>,
-> {
+impl<'a, K: Eq + Hash, V, H: BuildHasher> Entry<'a, K, V, H> {
     /// Puts in `default` if the entry is vacant, by the rules of `put_sync`, and returns the evicted pair, if any, and
     /// the occupied entry. An occupied entry stays as it is, and never fails.
     pub fn or_put(

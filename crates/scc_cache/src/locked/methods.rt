@@ -4,20 +4,13 @@ ghost use Rattle.scc_common.specs.Contents.{bucket_count};
 ghost use Rattle.std.specs.Prelude.{◌≡◌, IfOk, IfErr};
 ghost use Rattle.std.specs.Sync.RwLock.{write_guard_value};
 
+use crate::EvictedEntry;
 use crate::held::{HeldOccupied, HeldVacant};
-use crate::locked::OccupiedEntry;
-use crate::{EvictedEntry, Owned};
-use scc_common::{InsertError, Shared};
+use crate::locked::{OccupiedEntry, VacantEntry};
+use scc_common::InsertError;
 use std::hash::{BuildHasher, Hash};
-use std::sync::RwLockWriteGuard;
 
-impl<'a, K: Eq + Hash, V, H: BuildHasher> HeldOccupied<
-    RwLockWriteGuard<'a, Owned<K, V, Shared<H>>>,
-    (),
-    K,
-    V,
-    Shared<H>,
-> {
+impl<'a, K: Eq + Hash, V, H: BuildHasher> OccupiedEntry<'a, K, V, H> {
     /// Removes the pair, returns its value, and releases the lock. The array may shrink.
     pub fn remove(self) -> V
     where
@@ -42,13 +35,7 @@ impl<'a, K: Eq + Hash, V, H: BuildHasher> HeldOccupied<
     }
 }
 
-impl<'a, K: Eq + Hash, V, H: BuildHasher> HeldVacant<
-    RwLockWriteGuard<'a, Owned<K, V, Shared<H>>>,
-    (),
-    K,
-    V,
-    Shared<H>,
-> {
+impl<'a, K: Eq + Hash, V, H: BuildHasher> VacantEntry<'a, K, V, H> {
     /// Returns the key, and releases the lock.
     pub fn into_key(self) -> K
         ensures key { result ≡ vacant_key self.entry }

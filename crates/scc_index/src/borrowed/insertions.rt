@@ -6,13 +6,12 @@ ghost use Rattle.std.specs.Borrow.{sem};
 ghost use Rattle.std.specs.Fn.{FnOnceTakesAt, FnOnceReturnsAt};
 ghost use Rattle.std.specs.Prelude.{◌≡◌, Ok};
 
-use crate::Owned;
-use crate::borrowed::OccupiedEntry;
+use crate::borrowed::{Entry, OccupiedEntry};
 use crate::held::{HeldEntry, HeldOccupied};
 use scc_common::{Hashes, InsertError};
 use std::hash::{BuildHasher, Hash};
 
-impl<'a, K: Eq + Hash, V, H: BuildHasher> HeldEntry<&'a mut Owned<K, V, H>, (), K, V, H> {
+impl<'a, K: Eq + Hash, V, H: BuildHasher> Entry<'a, K, V, H> {
     /// Inserts `default` if the entry is vacant, and returns the occupied entry. An occupied entry stays as it is, and
     /// never fails.
     pub fn or_insert(self, default: V) -> Result<OccupiedEntry<'a, K, V, H>, InsertError<K, V>>
@@ -94,7 +93,7 @@ impl<'a, K: Eq + Hash, V, H: BuildHasher> HeldEntry<&'a mut Owned<K, V, H>, (), 
     }
 }
 
-impl<'a, K: Eq + Hash, V, H: BuildHasher> HeldOccupied<&'a mut Owned<K, V, H>, (), K, V, H> {
+impl<'a, K: Eq + Hash, V, H: BuildHasher> OccupiedEntry<'a, K, V, H> {
     /// Returns the entry as it is, as the result of an insertion.
     fn as_it_is(self) -> Result<OccupiedEntry<'a, K, V, H>, InsertError<K, V>>
         ensures same { result ≡ Ok self.entry }

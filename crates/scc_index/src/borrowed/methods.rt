@@ -10,7 +10,7 @@ ghost use Rattle.std.specs.Borrow.{sem};
 ghost use Rattle.std.specs.Prelude.{◌≡◌, ◌≢◌, ◌++◌, length, None, IfSome, IfNone};
 
 use crate::Owned;
-use crate::borrowed::{Entry, OccupiedEntry};
+use crate::borrowed::{Entry, OccupiedEntry, VacantEntry};
 use crate::held::{HeldEntry, HeldOccupied, HeldVacant};
 use scc_common::{Hashes, InsertError};
 use std::hash::{BuildHasher, Hash};
@@ -70,7 +70,7 @@ impl<'a, N, K: Eq + Hash, V, H: BuildHasher> HeldOccupied<&'a mut Owned<K, V, H>
     }
 }
 
-impl<'a, K: Eq + Hash, V, H: BuildHasher> HeldVacant<&'a mut Owned<K, V, H>, (), K, V, H> {
+impl<'a, K: Eq + Hash, V, H: BuildHasher> VacantEntry<'a, K, V, H> {
     /// Returns the key, and leaves the index as it is.
     pub fn into_key(self) -> K
         ensures key { result ≡ vacant_key self.entry }

@@ -47,7 +47,7 @@ impl<K: Eq + Hash, V, H: BuildHasher> Owned<K, V, H> {
     }
 }
 
-impl<'a, K: Eq + Hash, V, H: BuildHasher> HeldOccupied<&'a mut Owned<K, V, H>, (), K, V, H> {
+impl<'a, K: Eq + Hash, V, H: BuildHasher> OccupiedEntry<'a, K, V, H> {
     /// Returns the entry that stands next in the index's list, or `None` if this entry is the last. Resizes nothing.
     pub fn next_sync(self) -> Option<OccupiedEntry<'a, K, V, H>>
         ensures next { IfSome result (IsNext self.entry) }

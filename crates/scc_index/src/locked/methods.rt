@@ -2,21 +2,12 @@
 ghost use Rattle.scc_index.specs.Entries.{InsertsAtVacant, vacant_key};
 ghost use Rattle.std.specs.Prelude.{◌≡◌};
 
-use crate::Owned;
 use crate::held::{HeldOccupied, HeldVacant};
-use crate::locked::OccupiedEntry;
-use scc_common::{Hashes, InsertError, Shared};
-use scc_stripes::Seat;
+use crate::locked::{OccupiedEntry, VacantEntry};
+use scc_common::{Hashes, InsertError};
 use std::hash::{BuildHasher, Hash};
-use std::sync::RwLockWriteGuard;
 
-impl<'a, K: Eq + Hash, V, H: BuildHasher> HeldOccupied<
-    RwLockWriteGuard<'a, Owned<K, V, Shared<H>>>,
-    Seat<'a, Owned<K, V, Shared<H>>, H>,
-    K,
-    V,
-    Shared<H>,
-> {
+impl<'a, K: Eq + Hash, V, H: BuildHasher> OccupiedEntry<'a, K, V, H> {
     /// Removes the version, and releases the lock. Holders of the version keep it. The array may shrink.
     pub fn remove_entry(self)
     where
@@ -34,13 +25,7 @@ impl<'a, K: Eq + Hash, V, H: BuildHasher> HeldOccupied<
     }
 }
 
-impl<'a, K: Eq + Hash, V, H: BuildHasher> HeldVacant<
-    RwLockWriteGuard<'a, Owned<K, V, Shared<H>>>,
-    Seat<'a, Owned<K, V, Shared<H>>, H>,
-    K,
-    V,
-    Shared<H>,
-> {
+impl<'a, K: Eq + Hash, V, H: BuildHasher> VacantEntry<'a, K, V, H> {
     /// Returns the key, and releases the lock.
     pub fn into_key(self) -> K
         ensures key { result ≡ vacant_key self.entry }

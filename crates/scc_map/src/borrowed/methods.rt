@@ -8,7 +8,7 @@ ghost use Rattle.std.specs.Borrow.{sem};
 ghost use Rattle.std.specs.Prelude.{◌≡◌, None, IfSome, IfNone};
 
 use crate::Owned;
-use crate::borrowed::{Entry, OccupiedEntry, ReplaceResult};
+use crate::borrowed::{Entry, OccupiedEntry, ReplaceResult, VacantEntry};
 use crate::held::{HeldEntry, HeldOccupied, HeldReplace, HeldVacant};
 use scc_common::{Hashes, InsertError};
 use std::hash::{BuildHasher, Hash};
@@ -89,7 +89,7 @@ impl<'a, N, K: Eq + Hash, V, H: BuildHasher> HeldOccupied<&'a mut Owned<K, V, H>
     }
 }
 
-impl<'a, K: Eq + Hash, V, H: BuildHasher> HeldVacant<&'a mut Owned<K, V, H>, (), K, V, H> {
+impl<'a, K: Eq + Hash, V, H: BuildHasher> VacantEntry<'a, K, V, H> {
     /// Returns the key, and leaves the map as it is.
     pub fn into_key(self) -> K
         ensures key { result ≡ vacant_key self.entry }

@@ -3,21 +3,12 @@ ghost use Rattle.scc_map.specs.Entries.{entry_key, InsertsThrough, IsVacant, OrI
 ghost use Rattle.std.specs.Fn.{FnOnceTakesAt, FnOnceReturnsAt};
 ghost use Rattle.std.specs.Prelude.{◌≡◌};
 
-use crate::Owned;
 use crate::held::HeldEntry;
-use crate::locked::OccupiedEntry;
-use scc_common::{Hashes, InsertError, Shared};
-use scc_stripes::Seat;
+use crate::locked::{Entry, OccupiedEntry};
+use scc_common::{Hashes, InsertError};
 use std::hash::{BuildHasher, Hash};
-use std::sync::RwLockWriteGuard;
 
-impl<'a, K: Eq + Hash, V, H: BuildHasher> HeldEntry<
-    RwLockWriteGuard<'a, Owned<K, V, Shared<H>>>,
-    Seat<'a, Owned<K, V, Shared<H>>, H>,
-    K,
-    V,
-    Shared<H>,
-> {
+impl<'a, K: Eq + Hash, V, H: BuildHasher> Entry<'a, K, V, H> {
     /// Inserts `default` if the entry is vacant, and returns the occupied entry. An occupied entry stays as it is, and
     /// never fails.
     pub fn or_insert(self, default: V) -> Result<OccupiedEntry<'a, K, V, H>, InsertError<K, V>>

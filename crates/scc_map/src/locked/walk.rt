@@ -12,7 +12,7 @@ use crate::locked::OccupiedEntry;
 use scc_common::Shared;
 use scc_stripes::Seat;
 use std::hash::{BuildHasher, Hash};
-use std::sync::{RwLockWriteGuard, Wait};
+use std::sync::Wait;
 
 /// Returns the first entry of the stripes after the stripe of `seat`, with the seat of its own stripe, or `None` if
 /// these stripes are empty.
@@ -34,13 +34,7 @@ pub fn first_later<'a, K: Eq + Hash, V, H: BuildHasher>(
     None
 }
 
-impl<'a, K: Eq + Hash, V, H: BuildHasher> HeldOccupied<
-    RwLockWriteGuard<'a, Owned<K, V, Shared<H>>>,
-    Seat<'a, Owned<K, V, Shared<H>>, H>,
-    K,
-    V,
-    Shared<H>,
-> {
+impl<'a, K: Eq + Hash, V, H: BuildHasher> OccupiedEntry<'a, K, V, H> {
     /// Returns the entry that stands next in the stripe's list. If this entry is the last of its stripe, returns the
     /// first entry of a later stripe, or `None`.
     pub fn next_sync(self, rt: &impl Wait) -> Option<OccupiedEntry<'a, K, V, H>>
