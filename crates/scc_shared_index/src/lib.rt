@@ -39,14 +39,9 @@ impl<K: Eq + Hash + Drop, V: Drop> HashIndex<K, V> {
     }
 }
 
-impl<K: Eq + Hash, V, H: BuildHasher> HashIndex<K, V, H> {
+impl<K: Eq + Hash + Drop, V: Drop, H: BuildHasher + Drop> HashIndex<K, V, H> {
     /// Returns an empty index of 16 stripes without arrays. Fails if memory is refused.
-    pub fn with_hasher(alloc: Global, hasher: H) -> Result<Self, MakeError>
-    where
-        K: Drop,
-        V: Drop,
-        H: Drop,
-    {
+    pub fn with_hasher(alloc: Global, hasher: H) -> Result<Self, MakeError> {
         HashIndex::with_capacity_and_hasher(alloc, 0, hasher)
     }
 
@@ -57,12 +52,7 @@ impl<K: Eq + Hash, V, H: BuildHasher> HashIndex<K, V, H> {
         alloc: Global,
         capacity: usize,
         hasher: H,
-    ) -> Result<Self, MakeError>
-    where
-        K: Drop,
-        V: Drop,
-        H: Drop,
-    {
+    ) -> Result<Self, MakeError> {
         let stripes = Striped::with_capacity(alloc, capacity, hasher)?;
         Ok(HashIndex { stripes, alloc })
     }

@@ -38,13 +38,9 @@ impl<K: Eq + Hash + Drop> HashSet<K> {
     }
 }
 
-impl<K: Eq + Hash, H: BuildHasher> HashSet<K, H> {
+impl<K: Eq + Hash + Drop, H: BuildHasher + Drop> HashSet<K, H> {
     /// Returns an empty set of 16 stripes without arrays. Fails if memory is refused.
-    pub fn with_hasher(alloc: Global, hasher: H) -> Result<Self, MakeError>
-    where
-        K: Drop,
-        H: Drop,
-    {
+    pub fn with_hasher(alloc: Global, hasher: H) -> Result<Self, MakeError> {
         match HashMap::with_hasher(alloc, hasher) {
             Ok(map) => Ok(HashSet { map }),
             Err(e) => Err(e),
@@ -58,11 +54,7 @@ impl<K: Eq + Hash, H: BuildHasher> HashSet<K, H> {
         alloc: Global,
         capacity: usize,
         hasher: H,
-    ) -> Result<Self, MakeError>
-    where
-        K: Drop,
-        H: Drop,
-    {
+    ) -> Result<Self, MakeError> {
         match HashMap::with_capacity_and_hasher(alloc, capacity, hasher) {
             Ok(map) => Ok(HashSet { map }),
             Err(e) => Err(e),
