@@ -13,6 +13,7 @@ use Rattle.std.specs.declared.hash.BuildHasher as builder
 use Rattle.std.proofs.Common.{sym, subst}
 use Rattle.scc_common.specs.Contents.{bucket_count, key_hash, list_of, waiting_of}
 use Rattle.scc_common.specs.Pairs.{with_pair_value}
+use Rattle.scc_buckets.specs.declared.place.Place.{Place}
 use Rattle.scc_table.specs.Placed.{entry_of, IsPlace-with_write_at}
 use Rattle.scc_table.specs.Places.{IsPlace, spot_of}
 use Rattle.scc_common.specs.declared.errors.InsertError.{InsertError}
@@ -41,6 +42,10 @@ module _ {G N K V S T : Type 0} {d : guard.Ghosts G (Cached (K × V) S)} {g : eq
   -- the guard of an occupied entry
   abbrev pub occupied_guard : HeldOccupied G N K V S T d g h b w → G
   occupied_guard o = o.guard
+
+  -- the place of an occupied entry
+  abbrev pub occupied_place : HeldOccupied G N K V S T d g h b w → Place
+  occupied_place o = o.place
 
   -- the guard of a vacant entry
   abbrev pub vacant_guard : HeldVacant G N K V S T d g h b w → G

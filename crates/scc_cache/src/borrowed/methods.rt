@@ -2,7 +2,7 @@
 //! search found.
 ghost use Rattle.scc_cache.specs.CacheSteps.{IsAbsent, Puts, TakesAt};
 ghost use Rattle.scc_cache.specs.Caches.{IsCacheState};
-ghost use Rattle.scc_cache.specs.Entries.{Memory, occupied_cache, occupied_pair, entry_guard, IsEntryOf, IsRefreshed, IsPut, rests_if_refused, rests_if_none, replaced_guard, Replaces, occupied_guard, vacant_guard, vacant_key};
+ghost use Rattle.scc_cache.specs.Entries.{Memory, occupied_cache, occupied_pair, occupied_place, entry_guard, IsEntryOf, IsRefreshed, IsPut, rests_if_refused, rests_if_none, replaced_guard, Replaces, occupied_guard, vacant_guard, vacant_key};
 ghost use Rattle.scc_cache.specs.Relocations.{RelocatesNoneWithin, RelocatesTwoWithin};
 ghost use Rattle.scc_common.specs.Contents.{bucket_count, hash_in};
 ghost use Rattle.std.specs.Borrow.{sem};
@@ -76,7 +76,7 @@ impl<'a, N, K: Eq + Hash, V, H: BuildHasher> HeldOccupied<&'a mut Owned<K, V, H>
         K: Drop,
         ensures value { result ≡ (occupied_pair self.entry).1 }
         ensures removed { TakesAt (hash_in ⟦<H as Hashes<K>>⟧.hash_of (occupied_cache self.entry).contents)
-            (occupied_cache self.entry) self.entry.place self.exit.0.now }
+            (occupied_cache self.entry) (occupied_place self.entry) self.exit.0.now }
         ensures state { IsCacheState K.eq (hash_in ⟦<H as Hashes<K>>⟧.hash_of self.exit.0.now.contents)
             self.exit.0.now }
         ensures relocates { RelocatesNoneWithin (λ p. hash_in ⟦<H as Hashes<K>>⟧.hash_of (occupied_cache self.entry).contents
@@ -92,7 +92,7 @@ impl<'a, N, K: Eq + Hash, V, H: BuildHasher> HeldOccupied<&'a mut Owned<K, V, H>
         N: Drop,
         ensures pair { result ≡ occupied_pair self.entry }
         ensures removed { TakesAt (hash_in ⟦<H as Hashes<K>>⟧.hash_of (occupied_cache self.entry).contents)
-            (occupied_cache self.entry) self.entry.place self.exit.0.now }
+            (occupied_cache self.entry) (occupied_place self.entry) self.exit.0.now }
         ensures state { IsCacheState K.eq (hash_in ⟦<H as Hashes<K>>⟧.hash_of self.exit.0.now.contents)
             self.exit.0.now }
         ensures relocates { RelocatesNoneWithin (λ p. hash_in ⟦<H as Hashes<K>>⟧.hash_of (occupied_cache self.entry).contents
