@@ -94,7 +94,7 @@ module _ {C L K H A R T : Type 0} {m : calls.Ghosts C K H A R T} {h : hash.Ghost
 
   -- f is what a run was, as `IsFinished` says: its containers routed by `hasher`, it handed out `handed` passes, and
   -- these are its passes; its containers were made for the request `chosen`
-  abbrev pub IsFinishedRun : H → ℕ → List (Pass C L K H A R T m h g b w call_clones call_equality reply_clones reply_equality) → Option (Request H) → Finished C K H A R T m h g b w call_clones call_equality reply_clones reply_equality → Type 0
+  abbrev pub IsFinishedRun : H → ℕ → List (Pass C L K H A R T m h g b w call_clones call_equality reply_clones reply_equality) → Option (Request H) → Finished C K H A R T → Type 0
   IsFinishedRun hasher handed passes chosen f =
       IsFinished (kind_of passes) (λ p. p.log.number) (λ p. p.log.receipts.items) hasher handed (map (λ h. h.items) f.histories.items) passes chosen f.parts.items f.opened.items f.order.items
 
