@@ -1,17 +1,15 @@
 -- Where an occupied entry stands in its list, and which entry stands next.
-use Rattle.std.specs.Prelude.{◌≡◌, ◌≢◌, ◌++◌, [], Bool, Result, IfOk, IfErr, length}
+use Rattle.std.specs.Prelude.{◌≡◌, ◌++◌, [], Bool, Result, IfOk, IfErr}
 use Rattle.std.specs.Borrow.{Fml, RattleType, MutBor, RestsIfErr}
 use Rattle.std.specs.HashMap.Lent.{HashMembers}
 use Rattle.std.specs.declared.cmp.PartialEq as eq
 use Rattle.std.specs.declared.hash.Hash as hash
 use Rattle.std.specs.declared.hash.Hasher as hasher
 use Rattle.std.specs.declared.hash.BuildHasher as builder
-use Rattle.scc_common.specs.Contents.{Contents, entries, bucket_count, minimum_of, refused_of, waiting_of}
+use Rattle.scc_common.specs.Contents.{Contents, refused_of, waiting_of}
 use Rattle.scc_common.specs.Pairs.{IsUnique}
 use Rattle.scc_table.specs.Placed.{SplitsAt, IsNextAt, IsNextPastRemovedAt}
-use Rattle.scc_common.specs.Sizes.{IsSmaller}
-use Rattle.scc_common.specs.Steps.{Holds, HoldsExactly, ShrinksWhenDue}
-use Rattle.scc_table.specs.Relocations.{RelocatesNone}
+use Rattle.scc_common.specs.Steps.{HoldsExactly}
 use Rattle.scc_common.specs.declared.guard.Guard as guard
 use Rattle.scc_map.specs.Entries.{occupied_map, occupied_pair, occupied_front, occupied_back, Borrowed}
 use Rattle.scc_map.specs.Lends.{map_row}
@@ -32,36 +30,6 @@ module _ {G N K V S T : Type 0} {d : guard.Ghosts G (Contents (K × V) S)} {g : 
   pub record IsNextPastRemoved (o p : HeldOccupied G N K V S T d g h b w) : Type 0 where
     pub same_guard : p.guard ≡ d.with_inner o.guard (d.inner p.guard)
     pub at : IsNextPastRemovedAt (d.inner o.guard) o.place (d.inner p.guard) p.place p.within
-
-  -- the contract of `remove_entry` of the entry o: it returns `result`, and leaves n
-  pub record RemovesEntryByRule (same : K → K → Bool) (o : HeldOccupied G N K V S T d g h b w) (result : K × V) (n : Contents (K × V) S) : Type 0 where
-    -- the result is the pair of the entry
-    pub pair : result ≡ occupied_pair o
-    -- the others stay
-    pub removed : Holds (occupied_map o) (occupied_front o ++ occupied_back o) n
-    -- the number of buckets changes only by a shrink to the size that the pairs and the minimum name
-    pub smaller : bucket_count n ≢ bucket_count (occupied_map o) → IsSmaller (minimum_of (occupied_map o)) (length (entries n)) (bucket_count (occupied_map o)) (bucket_count n)
-    -- a due shrink is made, unless memory for it was refused
-    pub due : ShrinksWhenDue (occupied_map o) n
-    -- it relocates no bucket
-    pub relocates : RelocatesNone (occupied_map o) n
-    -- no two keys are equal
-    pub unique : IsUnique same n
-
-  -- the contract of `remove` of the entry o: it returns `result`, and leaves n
-  pub record RemovesValueByRule (same : K → K → Bool) (o : HeldOccupied G N K V S T d g h b w) (result : V) (n : Contents (K × V) S) : Type 0 where
-    -- the result is the value of the entry
-    pub value : result ≡ (occupied_pair o).1
-    -- the others stay
-    pub removed : Holds (occupied_map o) (occupied_front o ++ occupied_back o) n
-    -- the number of buckets changes only by a shrink to the size that the pairs and the minimum name
-    pub smaller : bucket_count n ≢ bucket_count (occupied_map o) → IsSmaller (minimum_of (occupied_map o)) (length (entries n)) (bucket_count (occupied_map o)) (bucket_count n)
-    -- a due shrink is made, unless memory for it was refused
-    pub due : ShrinksWhenDue (occupied_map o) n
-    -- it relocates no bucket
-    pub relocates : RelocatesNone (occupied_map o) n
-    -- no two keys are equal
-    pub unique : IsUnique same n
 
   -- the contract of `remove_and_sync` of the entry o of a borrowed map: it returns `result`
   pub record RemovesWithNext (same : K → K → Bool) (o : HeldOccupied G N K V S T d g h b w) (result : Result ((K × V) × HeldOccupied G N K V S T d g h b w) (K × V)) : Type 0 where
