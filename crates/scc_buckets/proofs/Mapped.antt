@@ -9,7 +9,7 @@ use Rattle.scc_common.specs.Mapped.{mapped}
 use Rattle.scc_buckets.specs.Places.{IsSpot, index_of_spot}
 use Rattle.scc_buckets.specs.Standing.{StandsAtSpot}
 use Rattle.scc_buckets.specs.declared.place.Place.{Place}
-use Rattle.scc_common.specs.Steps.{Holds, HoldsExactly, HoldsWith, IsUnchanged, KeepsSize, Rests, Grows, Reserves, Releases, FirstArrayWhenDue, GrowsWhenDue, ShrinksWhenDue, ReachesMinimumWhenDue}
+use Rattle.scc_common.specs.Steps.{Holds, HoldsExactly, HoldsWith, IsUnchanged, KeepsSize, Rests, Grows, Reserves, Releases, FirstArrayWhenDue, GrowsWhenDue, IsGrowthDue, ShrinksWhenDue, ReachesMinimumWhenDue}
 
 joined-map : {E F : Type 0} (f : E → F) (ls : List (List E)) → flat_map (λ l. l) (map (λ l. map f l) ls) ≡ map f (flat_map (λ l. l) ls)
 joined-map f [] = refl
@@ -118,10 +118,10 @@ module _ {E F S : Type 0} (f : E → F) where
   FirstArrayWhenDue-mapped c d h = record { made = rw (bucket_count-mapped c, bucket_count-mapped d, settings_of-mapped c) h.made }
 
   pub ShrinksWhenDue-mapped : (c d : Contents E S) → ShrinksWhenDue c d → ShrinksWhenDue (mapped f c) (mapped f d)
-  ShrinksWhenDue-mapped c d h = record { shrunk = rw (bucket_count-mapped c, bucket_count-mapped d, settings_of-mapped d, length-mapped d, refused_of-mapped d) h.shrunk; raised = rw (bucket_count-mapped c, settings_of-mapped d, length-mapped d, refused_of-mapped c, refused_of-mapped d) h.raised; lowered = rw (bucket_count-mapped c, bucket_count-mapped d, refused_of-mapped c, refused_of-mapped d) h.lowered; down = rw (bucket_count-mapped c, bucket_count-mapped d, refused_of-mapped d) h.down }
+  ShrinksWhenDue-mapped c d h = record { shrunk = rw (bucket_count-mapped c, bucket_count-mapped d, settings_of-mapped d, length-mapped d, refused_of-mapped d) h.shrunk; raised = rw (bucket_count-mapped c, settings_of-mapped d, length-mapped d, refused_of-mapped c, refused_of-mapped d) h.raised; lowered = rw (bucket_count-mapped c, bucket_count-mapped d, refused_of-mapped c, refused_of-mapped d) h.lowered; down = rw (bucket_count-mapped c, bucket_count-mapped d, refused_of-mapped d) h.down; marked = rw (refused_of-mapped c, refused_of-mapped d) h.marked }
 
   pub ReachesMinimumWhenDue-mapped : (c d : Contents E S) → ReachesMinimumWhenDue c d → ReachesMinimumWhenDue (mapped f c) (mapped f d)
-  ReachesMinimumWhenDue-mapped c d h = record { reached = rw (bucket_count-mapped c, bucket_count-mapped d, settings_of-mapped d, length-mapped c, refused_of-mapped d) h.reached; raised = rw (bucket_count-mapped c, settings_of-mapped d, refused_of-mapped c, refused_of-mapped d) h.raised; lowered = rw (bucket_count-mapped c, bucket_count-mapped d, refused_of-mapped c, refused_of-mapped d) h.lowered; down = rw (bucket_count-mapped c, bucket_count-mapped d, refused_of-mapped d) h.down }
+  ReachesMinimumWhenDue-mapped c d h = record { reached = rw (bucket_count-mapped c, bucket_count-mapped d, settings_of-mapped d, refused_of-mapped d) h.reached; raised = rw (bucket_count-mapped c, settings_of-mapped d, refused_of-mapped c, refused_of-mapped d) h.raised; lowered = rw (bucket_count-mapped c, bucket_count-mapped d, refused_of-mapped c, refused_of-mapped d) h.lowered; down = rw (bucket_count-mapped c, bucket_count-mapped d, refused_of-mapped d) h.down; marked = rw (refused_of-mapped c, refused_of-mapped d) h.marked }
 
   HoldsWith-mapped : (c : Contents E S) (s : Settings S) (d : Contents E S) → HoldsWith c s d → HoldsWith (mapped f c) s (mapped f d)
   HoldsWith-mapped c s d h = record {
@@ -153,13 +153,30 @@ module _ {E F S : Type 0} (f : E → F) where
     HasRoomBy-from_mapped hash c k h =
         rw (bucket_count-mapped c, settings_of-mapped c, entries-mapped c, counted-map f key (λ q. bucket_of hash c q == bucket_of hash c k) (entries c)) at h
 
+    pub IsGrowthDue-mapped : (hash : K → ℕ) (c : Contents E S) (k : K) → IsGrowthDue hash (λ e. key (f e)) c (hash k) → IsGrowthDue hash key (mapped f c) (hash k)
+    IsGrowthDue-mapped hash c k due = record {
+      array = rw (bucket_count-mapped c) due.array;
+      not_waiting = pending_of-mapped c ∙ due.not_waiting;
+      full = λ room. due.full (HasRoomBy-from_mapped hash c k room);
+      half = rw (bucket_count-mapped c, length-mapped c) due.half;
+      below = rw (bucket_count-mapped c) due.below;
+    }
+
+    pub IsGrowthDue-from_mapped : (hash : K → ℕ) (c : Contents E S) (k : K) → IsGrowthDue hash key (mapped f c) (hash k) → IsGrowthDue hash (λ e. key (f e)) c (hash k)
+    IsGrowthDue-from_mapped hash c k due = record {
+      array = rw (bucket_count-mapped c) at due.array;
+      not_waiting = sym (pending_of-mapped c) ∙ due.not_waiting;
+      full = λ room. due.full (HasRoomBy-mapped hash c k room);
+      half = rw (bucket_count-mapped c, length-mapped c) at due.half;
+      below = rw (bucket_count-mapped c) at due.below;
+    }
+
     pub GrowsWhenDue-mapped : (hash : K → ℕ) (c : Contents E S) (k : K) (d : Contents E S) → GrowsWhenDue hash (λ e. key (f e)) c k d → GrowsWhenDue hash key (mapped f c) k (mapped f d)
     GrowsWhenDue-mapped hash c k d h = record {
-      doubled = λ a z b. rw (bucket_count-mapped c, bucket_count-mapped d, length-mapped c, refused_of-mapped d) (h.doubled (rw (bucket_count-mapped c) at a) (sym (pending_of-mapped c) ∙ z) (λ r. b (HasRoomBy-mapped hash c k r)));
-      raised = λ low up.
-          let r = h.raised (rw (refused_of-mapped c) at low) (rw (refused_of-mapped d) at up) in
-          (rw (bucket_count-mapped c) r.0, λ room. r.1 (HasRoomBy-from_mapped hash c k room), rw (bucket_count-mapped c, length-mapped c) r.2, rw (bucket_count-mapped c) r.3);
-      unmarked = λ a z b half below. ap (λ x. x.1) (refused_of-mapped d) ∙ h.unmarked (rw (bucket_count-mapped c) at a) (sym (pending_of-mapped c) ∙ z) (λ r. b (HasRoomBy-mapped hash c k r)) (rw (bucket_count-mapped c, length-mapped c) at half) (rw (bucket_count-mapped c) at below);
+      doubled = λ due down. rw (bucket_count-mapped c, bucket_count-mapped d) (h.doubled (IsGrowthDue-from_mapped hash c k due) (rw (refused_of-mapped d) at down));
+      raised = λ low up. IsGrowthDue-mapped hash c k (h.raised (rw (refused_of-mapped c) at low) (rw (refused_of-mapped d) at up));
+      unmarked = λ due. ap (λ x. x.1) (refused_of-mapped d) ∙ h.unmarked (IsGrowthDue-from_mapped hash c k due);
+      marked = rw (refused_of-mapped c, refused_of-mapped d) h.marked;
       lowered = rw (bucket_count-mapped c, bucket_count-mapped d, refused_of-mapped c, refused_of-mapped d) h.lowered;
       down = rw (bucket_count-mapped c, bucket_count-mapped d, refused_of-mapped d) h.down;
     }

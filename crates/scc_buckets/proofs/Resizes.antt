@@ -1,11 +1,11 @@
 -- Changes before a resize, and changes after a resize.
-use Rattle.std.proofs.Common.{◌≡◌, ◌≢◌, ℕ, ◌+◌, ◌*◌, ◌^◌, ◌<◌, ◌≤◌, inl, inr, Bool, false, true, List, [], ◌∷◌, length, sym, ap, ◌∙◌, subst, max, arith, Some, None, ap, Bool}
+use Rattle.std.proofs.Common.{◌≡◌, ◌≢◌, ℕ, ◌+◌, ◌*◌, ◌^◌, ◌<◌, ◌≤◌, inl, inr, Bool, false, List, [], ◌∷◌, length, sym, ap, ◌∙◌, subst, max, arith, Some, None, ap, Bool}
 use Rattle.std.specs.List.{All, position}
 use Rattle.std.specs.List.Sorted.{IsPermutation}
 use Rattle.std.proofs.lemmas.List.Elements.{All-cons}
 use Rattle.std.proofs.lemmas.List.Sorted.{length_permutation, All-permutation, IsPermutation-cons, IsPermutation-refl, IsPermutation-trans}
 use native.Mathlib.Decide.{dec_lt}
-use Rattle.scc_common.specs.Contents.{Contents, entries, bucket_count, settings_of, minimum_of, refused_of}
+use Rattle.scc_common.specs.Contents.{Contents, entries, bucket_count, settings_of, minimum_of, refused_of, IsMarked, IsNoteDown, IsNoteUp}
 use Rattle.scc_buckets.specs.Places.{IsInsertedAtSpot}
 use Rattle.scc_buckets.specs.Pour.{IsRegrouped}
 use Rattle.scc_common.specs.Sizes.{IsBucketCount, IsArraySize, IsSmaller}
@@ -94,9 +94,9 @@ module _ {E S : Type 0} where
   }
 
   -- a try to shrink that follows the two sizes does all that is due
-  pub shrinks-due : (k l : ℕ) (a b : Contents E S) → IsArraySize (minimum_of b) (32 * k) → IsArraySize (2 * length (entries b)) (32 * l) → (max k l < bucket_count a → (refused_of b).0 ≡ false → bucket_count b ≡ max k l) → ((refused_of a).0 ≡ false → (refused_of b).0 ≡ true → (length (entries b) ≤ 4 * bucket_count a) × (max k l < bucket_count a))
-      → ((refused_of a).0 ≡ true → (refused_of b).0 ≡ false → bucket_count b ≢ bucket_count a) → (bucket_count b ≢ bucket_count a → (refused_of b).0 ≡ false) → ShrinksWhenDue a b
-  shrinks-due k l a b sm sl made rose fell low = record {
+  pub shrinks-due : (k l : ℕ) (a b : Contents E S) → IsArraySize (minimum_of b) (32 * k) → IsArraySize (2 * length (entries b)) (32 * l) → (max k l < bucket_count a → IsNoteDown b → bucket_count b ≡ max k l) → (IsNoteDown a → IsNoteUp b → (length (entries b) ≤ 4 * bucket_count a) × (max k l < bucket_count a))
+      → (IsNoteUp a → IsNoteDown b → bucket_count b ≢ bucket_count a) → (bucket_count b ≢ bucket_count a → IsNoteDown b) → (IsMarked b → IsMarked a) → ShrinksWhenDue a b
+  shrinks-due k l a b sm sl made rose fell low marked = record {
     shrunk = λ m n am an few less down.
         let em = size-once _ _ _ sm am in
         let en = size-once _ _ _ sl an in
@@ -109,6 +109,7 @@ module _ {E S : Type 0} where
         (omega (arith, r.0), omega (arith, r.1));
     lowered = fell;
     down = low;
+    marked = marked;
   }
 
   -- after a change that kept the buckets and the note of refused memory, a try to shrink still does all that is due
@@ -118,15 +119,16 @@ module _ {E S : Type 0} where
     raised = λ low up m n am an. let r = h.raised (ap (λ (x : Bool × Bool). x.0) noted ∙ low) up m n am an in (omega (arith, same, r.0), omega (arith, same, r.1));
     lowered = λ up low e. h.lowered (ap (λ (x : Bool × Bool). x.0) noted ∙ up) low (e ∙ sym same);
     down = λ ne. h.down (λ e. ne (e ∙ same));
+    marked = λ up. sym (ap (λ (x : Bool × Bool). x.1) noted) ∙ h.marked up;
   }
 
   -- a try to grow that follows the size k does all that is due
-  pub reaches-due : (k : ℕ) (a b : Contents E S) → IsArraySize (minimum_of b) (32 * k) → (0 < bucket_count a → bucket_count a < k → length (entries a) < 2 ^ 62 → (refused_of b).0 ≡ false → bucket_count b ≡ k) → ((refused_of a).0 ≡ false → (refused_of b).0 ≡ true → (0 < bucket_count a) × (bucket_count a < k))
-      → ((refused_of a).0 ≡ true → (refused_of b).0 ≡ false → bucket_count b ≢ bucket_count a) → (bucket_count b ≢ bucket_count a → (refused_of b).0 ≡ false) → ReachesMinimumWhenDue a b
-  reaches-due k a b size made rose fell low = record {
-    reached = λ m am some less few down.
+  pub reaches-due : (k : ℕ) (a b : Contents E S) → IsArraySize (minimum_of b) (32 * k) → (0 < bucket_count a → bucket_count a < k → IsNoteDown b → bucket_count b ≡ k) → (IsNoteDown a → IsNoteUp b → (0 < bucket_count a) × (bucket_count a < k))
+      → (IsNoteUp a → IsNoteDown b → bucket_count b ≢ bucket_count a) → (bucket_count b ≢ bucket_count a → IsNoteDown b) → (IsMarked b → IsMarked a) → ReachesMinimumWhenDue a b
+  reaches-due k a b size made rose fell low marked = record {
+    reached = λ m am some less down.
         let e = size-once _ _ _ size am in
-        let z = made some (omega arith) few down in
+        let z = made some (omega arith) down in
         omega arith;
     raised = λ low up m am.
         let e = size-once _ _ _ size am in
@@ -134,6 +136,7 @@ module _ {E S : Type 0} where
         (r.0, omega (arith, r.1));
     lowered = fell;
     down = low;
+    marked = marked;
   }
 
   -- a try to shrink that changed the number of buckets made it smaller

@@ -1,7 +1,7 @@
 -- Tables whose buckets hold at most 32 entries each, in the order of their lists, with empty overflow lists.
-use Rattle.std.specs.Prelude.{◌≡◌, ℕ, Bool, false, true, ◌*◌, ◌<◌, ◌≤◌, List, [], ◌∷◌, ◌++◌, length, Option, None, Some}
+use Rattle.std.specs.Prelude.{◌≡◌, ℕ, Bool, ◌*◌, ◌<◌, ◌≤◌, List, [], ◌∷◌, ◌++◌, length, Option, None, Some}
 use Rattle.std.specs.List.{slice_get, slice_set, position}
-use Rattle.scc_common.specs.Contents.{Contents, entries, bucket_count, settings_of, minimum_of, refused_of, list_of, lists_of, overflow_of}
+use Rattle.scc_common.specs.Contents.{Contents, entries, bucket_count, settings_of, minimum_of, refused_of, list_of, lists_of, overflow_of, IsMarked, IsNoteDown, IsNoteUp}
 use Rattle.scc_buckets.specs.Places.{IsSpot}
 use Rattle.scc_buckets.specs.Pour.{IsRegrouped, bound_for}
 use Rattle.scc_common.specs.Routing.{bucket_number}
@@ -63,8 +63,9 @@ module _ {E S : Type 0} where
     pub smaller : IsSmaller (minimum_of c) (length (entries c)) (bucket_count c) n
     pub short : (i : ℕ) → i < n → length (bound_for hash (settings_of c).skipped n i (entries c)) ≤ 32
 
-  -- the array shrinks if a shrink is allowed; if memory for it is refused, that is noted, and nothing else changes
+  -- the array shrinks if a shrink is allowed; if memory for it is refused, that is noted, and nothing else changes.
+  -- The mark doesn't rise
   pub data ShrinksBounded (hash : E → ℕ) (c d : Contents E S) : Type 0 where
     stays_wide : ((n : ℕ) → MayShrinkWithin hash c n → ⊥) → d ≡ c → ShrinksBounded hash c d
-    denied_narrow : (n : ℕ) → MayShrinkWithin hash c n → (refused_of d).0 ≡ true → HasListsOf c d → ShrinksBounded hash c d
-    narrows : IsSmaller (minimum_of c) (length (entries c)) (bucket_count c) (bucket_count d) → minimum_of c ≤ 32 * bucket_count d → (refused_of d).0 ≡ false → IsResized hash c d → ShrinksBounded hash c d
+    denied_narrow : (n : ℕ) → MayShrinkWithin hash c n → IsNoteUp d → (IsMarked d → IsMarked c) → HasListsOf c d → ShrinksBounded hash c d
+    narrows : IsSmaller (minimum_of c) (length (entries c)) (bucket_count c) (bucket_count d) → minimum_of c ≤ 32 * bucket_count d → IsNoteDown d → (IsMarked d → IsMarked c) → IsResized hash c d → ShrinksBounded hash c d

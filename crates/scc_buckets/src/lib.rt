@@ -5,7 +5,7 @@
 ghost use Rattle.scc_array.specs.Shelf.{shelf_entries};
 ghost use Rattle.scc_array.specs.Shelves.{shelf_of};
 ghost use Rattle.scc_buckets.specs.Places.{IsFoundAtSpot};
-ghost use Rattle.scc_common.specs.Contents.{entries, bucket_count, refused_of, overflow_of, key_hash, bucket_of, IsUniqueBy};
+ghost use Rattle.scc_common.specs.Contents.{entries, bucket_count, overflow_of, key_hash, bucket_of, IsUniqueBy, note_of};
 ghost use Rattle.scc_common.specs.Sizes.{IsLawful};
 ghost use Rattle.std.specs.List.{flat_map, position};
 ghost use Rattle.std.specs.Prelude.{◌≡◌, ◌≤◌, ◌<◌, ◌+◌, ◌*◌, ◌^◌, ℕ, [], length, Some, None, MatchOption};
@@ -111,7 +111,7 @@ where
     /// Returns whether memory was refused for the last resize that was due.
     #[inline(always)]
     pub fn is_resize_refused(&self) -> bool
-        ensures { result ≡ (refused_of self.now).0 }
+        ensures { result ≡ note_of self.now }
     {
         self.refused
     }

@@ -1,6 +1,6 @@
 //! The sizes of an array, the minimum, and the note and the mark of a resize whose memory was refused.
 ghost use Rattle.scc_buckets.specs.Making.{SetsReservedSlots};
-ghost use Rattle.scc_common.specs.Contents.{settings_of, refused_of, minimum_of, lists_of, overflow_of, IsUniqueBy};
+ghost use Rattle.scc_common.specs.Contents.{settings_of, refused_of, minimum_of, lists_of, overflow_of, IsUniqueBy, mark_of};
 ghost use Rattle.scc_common.specs.Sizes.{IsBucketCount, IsArraySize};
 ghost use Rattle.scc_common.specs.Steps.{IsUnchanged};
 ghost use Rattle.std.specs.Prelude.{◌≡◌, ◌*◌, ◌≤◌, ◌<◌, ◌+◌, ◌-◌, ◌^◌, false};
@@ -77,7 +77,7 @@ where
     /// it.
     #[inline(always)]
     pub fn is_marked(&self) -> bool
-        ensures { result ≡ (refused_of self.now).1 }
+        ensures { result ≡ mark_of self.now }
     {
         self.marked
     }

@@ -98,7 +98,7 @@ module _ {E S : Type 0} where
   puts-count c d i e (Some x) h = (list-count c d i _ h.1.2, h.1.2.settings)
 
   pub grown-within : (hash : E → ℕ) (c d : Contents E S) (m i : ℕ) → GrowsBelow hash m i c d → IsPowerOfTwo m → 64 ≤ m → 32 * bucket_count c ≤ m → minimum_of c ≤ m → 32 * bucket_count d ≤ m
-  grown-within hash c d m i (makes none size r) w least within least_slots = size.fewest m w least (omega arith)
+  grown-within hash c d m i (makes none size noted r) w least within least_slots = size.fewest m w least (omega arith)
   grown-within hash c d m i (has_room some room e) w least within least_slots = subst (λ z. 32 * bucket_count z ≤ m) (sym e) within
   grown-within hash c d m i (is_full some full (stays due e)) w least within least_slots = subst (λ z. 32 * bucket_count z ≤ m) (sym e) within
   grown-within hash c d m i (is_full some full (denied due up k)) w least within least_slots = let e = keeps-count c d k in omega arith
@@ -109,7 +109,7 @@ module _ {E S : Type 0} where
 
   -- if the insertion of a new entry is prepared, its growth keeps the number of buckets
   pub once-grown : (hash : E → ℕ) (c d : Contents E S) (m i : ℕ) → GrowsBelow hash m i c d → IsPreparedBelow m i c → bucket_count d ≡ bucket_count c
-  once-grown hash c d m i (makes none size r) ready = absurd (let some = ready.0 in omega arith)
+  once-grown hash c d m i (makes none size noted r) ready = absurd (let some = ready.0 in omega arith)
   once-grown hash c d m i (has_room some room e) ready = ap bucket_count e
   once-grown hash c d m i (is_full some full (stays due e)) ready = ap bucket_count e
   once-grown hash c d m i (is_full some full (denied due up k)) ready = keeps-count c d k
@@ -123,8 +123,8 @@ module _ {E S : Type 0} where
 
   pub shrunk-within : (hash : E → ℕ) (c d : Contents E S) → ShrinksBounded hash c d → (bucket_count d ≤ bucket_count c) × (settings_of d ≡ settings_of c)
   shrunk-within hash c d (stays_wide due e) = (subst (λ z. bucket_count z ≤ bucket_count c) (sym e) (omega arith), ap settings_of e)
-  shrunk-within hash c d (denied_narrow n s up k) = (let e = keeps-count c d k in omega arith, k.settings)
-  shrunk-within hash c d (narrows s least down r) = (let f = s.fewer in omega arith, r.lists.settings)
+  shrunk-within hash c d (denied_narrow n s up marked k) = (let e = keeps-count c d k in omega arith, k.settings)
+  shrunk-within hash c d (narrows s least down marked r) = (let f = s.fewer in omega arith, r.lists.settings)
 
 module _ {K V S : Type 0} (eq : K → K → Bool) where
   -- if lists, slots and minimum stay lawful, d still meets `IsCacheState`

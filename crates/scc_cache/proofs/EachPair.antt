@@ -78,11 +78,11 @@ module _ {X : Type 0} (P : X → Type 0) where
 
     each-shrunk : (c d : Contents X S) → ShrinksBounded hash c d → Each (lists_of c) → Each (lists_of d)
     each-shrunk c d (stays_wide due e) h = subst (λ z. Each (lists_of z)) (sym e) h
-    each-shrunk c d (denied_narrow n smaller up k) h = subst (λ z. Each z) (sym k.lists) h
-    each-shrunk c d (narrows smaller least down r) h = each-resized c d r h
+    each-shrunk c d (denied_narrow n smaller up marked k) h = subst (λ z. Each z) (sym k.lists) h
+    each-shrunk c d (narrows smaller least down marked r) h = each-resized c d r h
 
     each-grown : (most i : ℕ) (c d : Contents X S) → GrowsBelow hash most i c d → Each (lists_of c) → Each (lists_of d)
-    each-grown most i c d (makes none size r) h = each-resized c d r h
+    each-grown most i c d (makes none size noted r) h = each-resized c d r h
     each-grown most i c d (has_room some room e) h = subst (λ z. Each (lists_of z)) (sym e) h
     each-grown most i c d (is_full some full g) h = each-doubled most c d g h
 

@@ -61,8 +61,8 @@ module _ {E S : Type 0} (hash : E → ℕ) where
     where
       waits : ShrinksBounded hash b d → ((((n : ℕ) × MayShrinkWithin hash b n) → ⊥) → waiting_of d ≡ waiting_of a) → bucket_count d ≡ bucket_count b → ((n : ℕ) → MayShrinkWithin hash d n → ⊥) → waiting_of d ≡ waiting_of a
       waits (stays_wide none e) f same undue = f (λ m. none m.0 m.1)
-      waits (denied_narrow n small up keeps) f same undue = f (λ m. undue m.0 (narrow-same b d m.0 (keeps-entries b d keeps) keeps.settings (keeps-count b d keeps) m.1))
-      waits (narrows small least down moved) f same undue = absurd (let z = small.fewer in omega arith)
+      waits (denied_narrow n small up marked keeps) f same undue = f (λ m. undue m.0 (narrow-same b d m.0 (keeps-entries b d keeps) keeps.settings (keeps-count b d keeps) m.1))
+      waits (narrows small least down marked moved) f same undue = absurd (let z = small.fewer in omega arith)
 
 module _ {E S : Type 0} (h : ℕ) where
   -- a get in a bucket that doesn't wait leaves the waiting buckets as they are

@@ -1,10 +1,10 @@
 -- What each call does to a cache, by the reply.
-use Rattle.std.specs.Prelude.{◌≡◌, ◌≢◌, ℕ, ◌+◌, ◌<◌, ◌≤◌, ◌⊎◌, Bool, true, false, List, [], length, Option, None, Some, Result, Ok, Err, map, remove, slice_get}
+use Rattle.std.specs.Prelude.{◌≡◌, ◌≢◌, ℕ, ◌+◌, ◌<◌, ◌≤◌, ◌⊎◌, Bool, false, List, [], length, Option, None, Some, Result, Ok, Err, map, remove, slice_get}
 use Rattle.std.specs.List.{position, slice_index_or, slice_set}
 use Rattle.std.specs.Borrow.{Bor}
 use Rattle.std.specs.Fn.{Once}
 use Rattle.scc_buckets.specs.Bounded.{IsListed, ShrinksBounded}
-use Rattle.scc_common.specs.Contents.{Contents, entries, bucket_count, list_of, lists_of, pending_of, refused_of, settings_of, waiting_of}
+use Rattle.scc_common.specs.Contents.{Contents, entries, bucket_count, list_of, lists_of, pending_of, refused_of, settings_of, waiting_of, IsMarked, IsNoteUp, note_of}
 use Rattle.scc_common.specs.Routing.{bucket_number}
 use Rattle.scc_buckets.specs.declared.place.Place.{Place}
 use Rattle.scc_table.specs.Bounded.{GrowsBelow, IsPreparedBelow}
@@ -26,7 +26,7 @@ module _ {E S : Type 0} where
   pub record ChangesListsUnmarked (R : List (List E) → List (List E) → Type 0) (c d : Cached E S) : Type 0 where
     pub lists : R (lists_of c.contents) (lists_of d.contents)
     pub settings : settings_of d.contents ≡ settings_of c.contents
-    pub refused : refused_of d.contents ≡ ((refused_of c.contents).0, false)
+    pub refused : refused_of d.contents ≡ (note_of c.contents, false)
     pub maximum : d.maximum ≡ c.maximum
 
   -- the growth that comes first if a new pair goes to list i
@@ -72,7 +72,7 @@ module _ {K V S : Type 0} (hash : K → ℕ) where
   pub record PreparesPut (c : Cached (K × V) S) (k : K) (d : Cached (K × V) S) : Type 0 where
     pub grows : GrowsForPut (λ e. hash e.0) (list_number c.contents (bucket_count c.contents) k) c d
     pub ready : IsPreparedForPut d k
-    pub marked : (refused_of d.contents).1 ≡ true → ((refused_of c.contents).1 ≡ true) ⊎ ((refused_of d.contents).0 ≡ true)
+    pub marked : IsMarked d.contents → IsMarked c.contents ⊎ IsNoteUp d.contents
     pub first : bucket_count c.contents ≡ 0 → pending_of d.contents ≡ 0
     pub waiting : 0 < bucket_count c.contents → bucket_count d.contents ≡ bucket_count c.contents → waiting_of d.contents ≡ waiting_of c.contents
     pub all : 0 < bucket_count c.contents → bucket_count d.contents ≢ bucket_count c.contents → pending_of d.contents ≡ bucket_count d.contents

@@ -38,7 +38,7 @@ module _ {E H : Type 0} where
   -- a growth for a new pair leaves the lists, or makes more of them
   pub grown : (hash : E → ℕ) (i : ℕ) (c d : Cached E H) → GrowsForPut hash i c d → (lists_of d.contents ≡ lists_of c.contents) ⊎ ((bucket_count c.contents < bucket_count d.contents) × IsResized hash c.contents d.contents)
   grown hash i c d g = elim g.grows [
-    | makes none size r ↦ inr (let l = r.array.least in omega arith, r)
+    | makes none size noted r ↦ inr (let l = r.array.least in omega arith, r)
     | has_room some room e ↦ inl (ap lists_of e)
     | is_full some full ds ↦ elim ds [
       | stays due e ↦ inl (ap lists_of e)
@@ -51,8 +51,8 @@ module _ {E H : Type 0} where
   shrunk : (hash : E → ℕ) (c d : Cached E H) → ShrinksTo hash c d → (lists_of d.contents ≡ lists_of c.contents) ⊎ ((bucket_count d.contents < bucket_count c.contents) × (minimum_of c.contents ≤ 32 * bucket_count d.contents) × IsResized hash c.contents d.contents)
   shrunk hash c d s = elim s.shrinks [
     | stays_wide due e ↦ inl (ap lists_of e)
-    | denied_narrow n smaller up k ↦ inl (lists-same c.contents d.contents k)
-    | narrows smaller least down r ↦ inr (smaller.fewer, least, r)
+    | denied_narrow n smaller up marked k ↦ inl (lists-same c.contents d.contents k)
+    | narrows smaller least down marked r ↦ inr (smaller.fewer, least, r)
   ]
 
 module _ {K V : Type 0} (eq : K → K → Bool) where

@@ -1,7 +1,7 @@
 -- What the preparation of a call does to a container, in one word for each kind.
-use Rattle.std.specs.Prelude.{◌≡◌, ◌≢◌, ℕ, ◌≤◌, Bool, true, List, length, None, Result}
+use Rattle.std.specs.Prelude.{◌≡◌, ◌≢◌, ℕ, ◌≤◌, Bool, List, length, None, Result}
 use Rattle.std.specs.Result.{OnOk, OnErr}
-use Rattle.scc_common.specs.Contents.{Contents, lists_of, refused_of, settings_of}
+use Rattle.scc_common.specs.Contents.{Contents, lists_of, settings_of, IsMarked}
 use Rattle.scc_common.specs.Pairs.{find}
 use Rattle.scc_cache.specs.Caches.{Cached}
 use Rattle.scc_calls.specs.CacheCalls.{cache_adds, cache_setting, number_by, CacheIsMade, CacheMayRefuse, CacheResizes}
@@ -59,29 +59,29 @@ module _ {G S X R : Type 0} (size : S → ℕ) (resizes : S → ℕ → S → Ty
 module _ {K V H X R : Type 0} (eq : K → K → Bool) (hash : H → K → ℕ) where
   -- what the preparation of the insertion of k into a map does
   abbrev pub MapPreparesKey : Contents (K × V) H → K → Result X R → Contents (K × V) H → Type 0
-  MapPreparesKey c k result d = PreparesKey (λ (s : State (K × V)). s.1) (ResizesTo (setting_of c)) (MapIsMadeFor eq (hash (settings_of d).hasher) d k) ((refused_of d).1 ≡ true → (refused_of c).1 ≡ true) (λ s. MapRefuses eq hash (setting_of c) s k) (settings_of c) (state_of c) result (settings_of d) (state_of d)
+  MapPreparesKey c k result d = PreparesKey (λ (s : State (K × V)). s.1) (ResizesTo (setting_of c)) (MapIsMadeFor eq (hash (settings_of d).hasher) d k) (IsMarked d → IsMarked c) (λ s. MapRefuses eq hash (setting_of c) s k) (settings_of c) (state_of c) result (settings_of d) (state_of d)
 
   -- what the preparation of a call of a map does
   abbrev pub MapPreparesCall : Contents (K × V) H → MapCall K V → Result X R → Contents (K × V) H → Type 0
-  MapPreparesCall c call result d = PreparesCall (λ (s : State (K × V)). s.1) (ResizesTo (setting_of c)) (MapIsMade eq (hash (settings_of d).hasher) d call) (map_adds call) ((refused_of d).1 ≡ true → (refused_of c).1 ≡ true) (λ s. MapMayRefuse eq hash (setting_of c) s call) (settings_of c) (state_of c) result (settings_of d) (state_of d)
+  MapPreparesCall c call result d = PreparesCall (λ (s : State (K × V)). s.1) (ResizesTo (setting_of c)) (MapIsMade eq (hash (settings_of d).hasher) d call) (map_adds call) (IsMarked d → IsMarked c) (λ s. MapMayRefuse eq hash (setting_of c) s call) (settings_of c) (state_of c) result (settings_of d) (state_of d)
 
   -- what the preparation of the insertion of k into an index does
   abbrev pub IndexPreparesKey : Contents (K × V) H → K → Result X R → Contents (K × V) H → Type 0
-  IndexPreparesKey c k result d = PreparesKey (λ (s : State (K × V)). s.1) (ResizesTo (setting_of c)) (IndexIsMadeFor eq (hash (settings_of d).hasher) d k) ((refused_of d).1 ≡ true → (refused_of c).1 ≡ true) (λ s. find eq s.0 k ≡ None) (settings_of c) (state_of c) result (settings_of d) (state_of d)
+  IndexPreparesKey c k result d = PreparesKey (λ (s : State (K × V)). s.1) (ResizesTo (setting_of c)) (IndexIsMadeFor eq (hash (settings_of d).hasher) d k) (IsMarked d → IsMarked c) (λ s. find eq s.0 k ≡ None) (settings_of c) (state_of c) result (settings_of d) (state_of d)
 
   -- what the preparation of a call of an index does
   abbrev pub IndexPreparesCall : Contents (K × V) H → IndexCall K V → Result X R → Contents (K × V) H → Type 0
-  IndexPreparesCall c call result d = PreparesCall (λ (s : State (K × V)). s.1) (ResizesTo (setting_of c)) (IndexIsMade eq (hash (settings_of d).hasher) d call) (index_adds call) ((refused_of d).1 ≡ true → (refused_of c).1 ≡ true) (λ s. IndexMayRefuse eq s call) (settings_of c) (state_of c) result (settings_of d) (state_of d)
+  IndexPreparesCall c call result d = PreparesCall (λ (s : State (K × V)). s.1) (ResizesTo (setting_of c)) (IndexIsMade eq (hash (settings_of d).hasher) d call) (index_adds call) (IsMarked d → IsMarked c) (λ s. IndexMayRefuse eq s call) (settings_of c) (state_of c) result (settings_of d) (state_of d)
 
   -- what the preparation of a call of a cache does
   abbrev pub CachePreparesCall : Cached (K × V) H → CacheCall K V → Result X R → Cached (K × V) H → Type 0
-  CachePreparesCall c call result d = PreparesCall {S = List (List (K × V))} length (CacheResizes (cache_setting c) (number_by hash (cache_setting c))) (CacheIsMade eq (hash (settings_of d.contents).hasher) d call) (cache_adds call) ((refused_of d.contents).1 ≡ true → (refused_of c.contents).1 ≡ true) (λ s. CacheMayRefuse eq (number_by hash (cache_setting c)) s call) (cache_setting c) (lists_of c.contents) result (cache_setting d) (lists_of d.contents)
+  CachePreparesCall c call result d = PreparesCall {S = List (List (K × V))} length (CacheResizes (cache_setting c) (number_by hash (cache_setting c))) (CacheIsMade eq (hash (settings_of d.contents).hasher) d call) (cache_adds call) (IsMarked d.contents → IsMarked c.contents) (λ s. CacheMayRefuse eq (number_by hash (cache_setting c)) s call) (cache_setting c) (lists_of c.contents) result (cache_setting d) (lists_of d.contents)
 
 module _ {K H X R : Type 0} (eq : K → K → Bool) (hash : H → K → ℕ) where
   -- what the preparation of the insertion of k into a set does
   abbrev pub SetPreparesKey : Contents K H → K → Result X R → Contents K H → Type 0
-  SetPreparesKey c k result d = PreparesKey (λ (s : State K). s.1) (ResizesTo (setting_of c)) (SetIsMadeFor eq (hash (settings_of d).hasher) d k) ((refused_of d).1 ≡ true → (refused_of c).1 ≡ true) (λ s. SetRefuses eq hash (setting_of c) s k) (settings_of c) (state_of c) result (settings_of d) (state_of d)
+  SetPreparesKey c k result d = PreparesKey (λ (s : State K). s.1) (ResizesTo (setting_of c)) (SetIsMadeFor eq (hash (settings_of d).hasher) d k) (IsMarked d → IsMarked c) (λ s. SetRefuses eq hash (setting_of c) s k) (settings_of c) (state_of c) result (settings_of d) (state_of d)
 
   -- what the preparation of a call of a set does
   abbrev pub SetPreparesCall : Contents K H → SetCall K → Result X R → Contents K H → Type 0
-  SetPreparesCall c call result d = PreparesCall (λ (s : State K). s.1) (ResizesTo (setting_of c)) (SetIsMade eq (hash (settings_of d).hasher) d call) (set_adds call) ((refused_of d).1 ≡ true → (refused_of c).1 ≡ true) (λ s. SetMayRefuse eq hash (setting_of c) s call) (settings_of c) (state_of c) result (settings_of d) (state_of d)
+  SetPreparesCall c call result d = PreparesCall (λ (s : State K). s.1) (ResizesTo (setting_of c)) (SetIsMade eq (hash (settings_of d).hasher) d call) (set_adds call) (IsMarked d → IsMarked c) (λ s. SetMayRefuse eq hash (setting_of c) s call) (settings_of c) (state_of c) result (settings_of d) (state_of d)

@@ -1,6 +1,6 @@
 //! The calls of the owned cache as values.
 ghost use Rattle.std.specs.Prelude.{◌≡◌, true, IfOk, OnErr};
-ghost use Rattle.scc_common.specs.Contents.{bucket_count, list_of, key_hash};
+ghost use Rattle.scc_common.specs.Contents.{bucket_count, list_of, key_hash, mark_of};
 ghost use Rattle.scc_common.specs.Hashing.{hash_of};
 ghost use Rattle.scc_cache.specs.CacheSteps.{list_number, IsAbsent};
 ghost use Rattle.scc_calls.specs.CacheCalls.{first_of_full};
@@ -78,7 +78,7 @@ impl<K: Eq + Hash + Clone, V: Clone + PartialEq, H: BuildHasher> Calls for Owned
     ghost is_prepared = { λ c. CacheIsPrepared K.eq (key_hash H.BuildHasher H.Hasher.Hasher K.hash_input c.contents) c
         ⟦<Reply<K, V> as PartialEq>⟧.eq };
 
-    ghost is_marked = { λ c. (refused_of c.contents).1 };
+    ghost is_marked = { λ c. mark_of c.contents };
 
     ghost whole = { λ parts. parts };
 

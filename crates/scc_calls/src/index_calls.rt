@@ -32,7 +32,7 @@ impl<K: Eq + Hash + Clone, V: Clone + PartialEq, H: BuildHasher> Calls for Owned
     ghost use Rattle.scc_calls.specs.Means.{means_alike, means_answer, means_keeps, means_whole};
     ghost use Rattle.scc_calls.specs.Stems.{index_stems_alike, IndexStems};
     ghost use Rattle.std.proofs.Common.{refl, rules};
-    ghost use Rattle.scc_common.specs.Contents.{key_hash, refused_of};
+    ghost use Rattle.scc_common.specs.Contents.{key_hash, mark_of};
     ghost use Rattle.scc_calls.specs.States.{State, state_of, setting_of, ResizesTo};
 
     ghost State = { State (K × V) };
@@ -69,7 +69,7 @@ impl<K: Eq + Hash + Clone, V: Clone + PartialEq, H: BuildHasher> Calls for Owned
     ghost is_prepared = { λ m. IndexIsPrepared K.eq (key_hash H.BuildHasher H.Hasher.Hasher K.hash_input m) m
         ⟦<Reply<K, V> as PartialEq>⟧.eq };
 
-    ghost is_marked = { λ m. (refused_of m).1 };
+    ghost is_marked = { λ m. mark_of m };
 
     ghost whole = { joined };
 

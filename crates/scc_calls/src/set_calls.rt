@@ -1,6 +1,6 @@
 //! The calls of the owned set as values.
 ghost use Rattle.std.specs.Prelude.{◌≡◌, true, IfOk, OnErr};
-ghost use Rattle.scc_common.specs.Contents.{entries};
+ghost use Rattle.scc_common.specs.Contents.{entries, mark_of};
 ghost use Rattle.scc_common.specs.Hashing.{hash_of};
 ghost use Rattle.scc_set.specs.Keys.{find};
 ghost use Rattle.scc_calls.specs.Copies.{ClonesEqual, MayNotClone};
@@ -72,7 +72,7 @@ impl<K: Eq + Hash + Clone, H: BuildHasher> Calls for Owned<K, H> {
     ghost is_prepared = { λ m. SetIsPrepared K.eq (key_hash H.BuildHasher H.Hasher.Hasher K.hash_input m) m
         ⟦<Reply<K, ()> as PartialEq>⟧.eq };
 
-    ghost is_marked = { λ m. (refused_of m).1 };
+    ghost is_marked = { λ m. mark_of m };
 
     ghost whole = { joined };
 

@@ -1,5 +1,5 @@
 -- What a table holds, and the words by which contracts see it.
-use Rattle.std.specs.Prelude.{◌≡◌, ℕ, Some, ◌+◌, ◌<◌, ◌==◌, Bool, List, [], length, map, count_by, refl}
+use Rattle.std.specs.Prelude.{◌≡◌, ℕ, Some, ◌+◌, ◌<◌, ◌==◌, Bool, true, false, List, [], length, map, count_by, refl}
 use Rattle.std.specs.Hash.{HashWrites}
 use Rattle.std.specs.List.{flat_map, IsDistinct, slice_get, slice_index_or}
 use Rattle.std.specs.Coded.{Coded, code_by, coded×, coded_ℕ, coded_bool, coded_list}
@@ -52,6 +52,30 @@ module _ {E S : Type 0} where
   -- next insertion doesn't try the growth
   unfoldable pub refused_of : Contents E S → Bool × Bool
   refused_of c = c.refused
+
+  -- the note: memory for the last resize that was due was refused
+  abbrev pub note_of : Contents E S → Bool
+  note_of c = (refused_of c).0
+
+  -- the mark: the next insertion doesn't try the growth
+  abbrev pub mark_of : Contents E S → Bool
+  mark_of c = (refused_of c).1
+
+  -- the note is up
+  abbrev pub IsNoteUp : Contents E S → Type 0
+  IsNoteUp c = (refused_of c).0 ≡ true
+
+  -- the note is down
+  abbrev pub IsNoteDown : Contents E S → Type 0
+  IsNoteDown c = (refused_of c).0 ≡ false
+
+  -- a growth is marked
+  abbrev pub IsMarked : Contents E S → Type 0
+  IsMarked c = (refused_of c).1 ≡ true
+
+  -- no growth is marked
+  abbrev pub IsUnmarked : Contents E S → Type 0
+  IsUnmarked c = (refused_of c).1 ≡ false
 
   -- the entries of bucket i, in order
   unfoldable pub list_of : Contents E S → ℕ → List E

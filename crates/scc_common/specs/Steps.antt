@@ -1,7 +1,7 @@
 -- What a call may leave: the same contents, other entries, other buckets.
-use Rattle.std.specs.Prelude.{◌≡◌, ◌≢◌, ℕ, ◌+◌, ◌-◌, ◌*◌, ◌^◌, ◌<◌, ◌≤◌, ◌⊎◌, false, true, List, length, max}
+use Rattle.std.specs.Prelude.{◌≡◌, ◌≢◌, ℕ, ◌+◌, ◌-◌, ◌*◌, ◌^◌, ◌<◌, ◌≤◌, ◌⊎◌, List, length, max}
 use Rattle.std.specs.List.Sorted.{IsPermutation}
-use Rattle.scc_common.specs.Contents.{Contents, Settings, entries, bucket_count, settings_of, lists_of, minimum_of, refused_of, pending_of, waiting_of, HasRoomAt, HasRoomBy}
+use Rattle.scc_common.specs.Contents.{Contents, Settings, entries, bucket_count, settings_of, lists_of, minimum_of, pending_of, waiting_of, HasRoomAt, HasRoomBy, IsMarked, IsNoteDown, IsNoteUp, IsUnmarked}
 use Rattle.scc_common.specs.Sizes.{IsBucketCount, IsArraySize, IsSmaller}
 
 module _ {E S : Type 0} where
@@ -76,42 +76,52 @@ module _ {E S : Type 0} where
   pub record FirstArrayWhenDue (c d : Contents E S) : Type 0 where
     pub made : bucket_count c ≡ 0 → IsArraySize (minimum_of c) (32 * bucket_count d)
 
-  -- for a new key k whose bucket has no room, the array doubles if no bucket waits, the table has at least half as many
-  -- entries as slots and the array isn't the greatest, unless memory is refused. The note rises only if such a growth
-  -- is due, is down after it, and falls only by it; if it was due, no growth is marked afterwards. 2 ^ 62 entries are
-  -- more than a table can hold
+  -- a growth is due for a new key with the hash h: no bucket waits, the bucket of h has no room, the table has at least
+  -- half as many entries as slots, and the array isn't the greatest
+  pub record IsGrowthDue {K : Type 0} (hash : K → ℕ) (key : E → K) (c : Contents E S) (h : ℕ) : Type 0 where
+    pub array : 0 < bucket_count c
+    pub not_waiting : pending_of c ≡ 0
+    pub full : HasRoomAt hash key c h → ⊥
+    pub half : 32 * bucket_count c ≤ 2 * length (entries c)
+    pub below : 32 * bucket_count c < 2 ^ 63
+
+  -- for a new key k, the array doubles if a growth is due, unless memory is refused. The note rises only if a growth is
+  -- due, is down after it, and falls only by it; if it was due, no growth is marked afterwards. The mark doesn't rise
   pub record GrowsWhenDue {K : Type 0} (hash : K → ℕ) (key : E → K) (c : Contents E S) (k : K) (d : Contents E S) : Type 0 where
-    pub doubled : 0 < bucket_count c → pending_of c ≡ 0 → (HasRoomBy hash key c k → ⊥) → 32 * bucket_count c ≤ 2 * length (entries c) → 32 * bucket_count c < 2 ^ 63 → length (entries c) < 2 ^ 62 → (refused_of d).0 ≡ false → bucket_count d ≡ 2 * bucket_count c
-    pub raised : (refused_of c).0 ≡ false → (refused_of d).0 ≡ true → (0 < bucket_count c) × (HasRoomBy hash key c k → ⊥) × (32 * bucket_count c ≤ 2 * length (entries c)) × (32 * bucket_count c < 2 ^ 63)
-    pub unmarked : 0 < bucket_count c → pending_of c ≡ 0 → (HasRoomBy hash key c k → ⊥) → 32 * bucket_count c ≤ 2 * length (entries c) → 32 * bucket_count c < 2 ^ 63 → (refused_of d).1 ≡ false
-    pub lowered : (refused_of c).0 ≡ true → (refused_of d).0 ≡ false → (0 < bucket_count c) × (bucket_count d ≢ bucket_count c)
-    pub down : 0 < bucket_count c → bucket_count d ≢ bucket_count c → (refused_of d).0 ≡ false
+    pub doubled : IsGrowthDue hash key c (hash k) → IsNoteDown d → bucket_count d ≡ 2 * bucket_count c
+    pub raised : IsNoteDown c → IsNoteUp d → IsGrowthDue hash key c (hash k)
+    pub lowered : IsNoteUp c → IsNoteDown d → (0 < bucket_count c) × (bucket_count d ≢ bucket_count c)
+    pub down : 0 < bucket_count c → bucket_count d ≢ bucket_count c → IsNoteDown d
+    pub unmarked : IsGrowthDue hash key c (hash k) → IsUnmarked d
+    pub marked : IsMarked d → IsMarked c
 
   -- the note rises only if a growth for the new key k was due
   pub record RaisesWhenDue {K : Type 0} (hash : K → ℕ) (key : E → K) (c : Contents E S) (k : K) (d : Contents E S) : Type 0 where
-    pub raised : (refused_of c).0 ≡ false → (refused_of d).0 ≡ true → (0 < bucket_count c) × (HasRoomBy hash key c k → ⊥) × (32 * bucket_count c ≤ 2 * length (entries c)) × (32 * bucket_count c < 2 ^ 63)
+    pub raised : IsNoteDown c → IsNoteUp d → IsGrowthDue hash key c (hash k)
 
   -- if the entries that are left are at most an eighth of the slots, and the greater of the sizes for the minimum and
   -- for twice these entries is smaller than the array, the array shrinks to this size, unless memory is refused; the
-  -- note rises only in this case, is down after a resize, and falls only by one
+  -- note rises only in this case, is down after a resize, and falls only by one. The mark doesn't rise
   pub record ShrinksWhenDue (c d : Contents E S) : Type 0 where
-    pub shrunk : (m n : ℕ) → IsArraySize (minimum_of d) m → IsArraySize (2 * length (entries d)) n → 8 * length (entries d) ≤ 32 * bucket_count c → max m n < 32 * bucket_count c → (refused_of d).0 ≡ false → 32 * bucket_count d ≡ max m n
-    pub raised : (refused_of c).0 ≡ false → (refused_of d).0 ≡ true → (m n : ℕ) → IsArraySize (minimum_of d) m → IsArraySize (2 * length (entries d)) n → (8 * length (entries d) ≤ 32 * bucket_count c) × (max m n < 32 * bucket_count c)
-    pub lowered : (refused_of c).0 ≡ true → (refused_of d).0 ≡ false → bucket_count d ≢ bucket_count c
-    pub down : bucket_count d ≢ bucket_count c → (refused_of d).0 ≡ false
+    pub shrunk : (m n : ℕ) → IsArraySize (minimum_of d) m → IsArraySize (2 * length (entries d)) n → 8 * length (entries d) ≤ 32 * bucket_count c → max m n < 32 * bucket_count c → IsNoteDown d → 32 * bucket_count d ≡ max m n
+    pub raised : IsNoteDown c → IsNoteUp d → (m n : ℕ) → IsArraySize (minimum_of d) m → IsArraySize (2 * length (entries d)) n → (8 * length (entries d) ≤ 32 * bucket_count c) × (max m n < 32 * bucket_count c)
+    pub lowered : IsNoteUp c → IsNoteDown d → bucket_count d ≢ bucket_count c
+    pub down : bucket_count d ≢ bucket_count c → IsNoteDown d
+    pub marked : IsMarked d → IsMarked c
 
   -- an array with fewer slots than the minimum of d grows to its size, unless memory is refused; the note rises only in
-  -- this case, is down after a resize, and falls only by one
+  -- this case, is down after a resize, and falls only by one. The mark doesn't rise
   pub record ReachesMinimumWhenDue (c d : Contents E S) : Type 0 where
-    pub reached : (m : ℕ) → IsArraySize (minimum_of d) m → 0 < bucket_count c → 32 * bucket_count c < m → length (entries c) < 2 ^ 62 → (refused_of d).0 ≡ false → 32 * bucket_count d ≡ m
-    pub raised : (refused_of c).0 ≡ false → (refused_of d).0 ≡ true → (m : ℕ) → IsArraySize (minimum_of d) m → (0 < bucket_count c) × (32 * bucket_count c < m)
-    pub lowered : (refused_of c).0 ≡ true → (refused_of d).0 ≡ false → bucket_count d ≢ bucket_count c
-    pub down : bucket_count d ≢ bucket_count c → (refused_of d).0 ≡ false
+    pub reached : (m : ℕ) → IsArraySize (minimum_of d) m → 0 < bucket_count c → 32 * bucket_count c < m → IsNoteDown d → 32 * bucket_count d ≡ m
+    pub raised : IsNoteDown c → IsNoteUp d → (m : ℕ) → IsArraySize (minimum_of d) m → (0 < bucket_count c) × (32 * bucket_count c < m)
+    pub lowered : IsNoteUp c → IsNoteDown d → bucket_count d ≢ bucket_count c
+    pub down : bucket_count d ≢ bucket_count c → IsNoteDown d
+    pub marked : IsMarked d → IsMarked c
 
   -- an insertion of a new key with the hash h is prepared: there is an array, and the bucket of h has room, some bucket
   -- waits, the table has fewer than half as many entries as slots, the array is the greatest, or the growth is marked
   abbrev pub IsPreparedAt : {K : Type 0} → (K → ℕ) → (E → K) → Contents E S → ℕ → Type 0
-  IsPreparedAt hash key c h = (0 < bucket_count c) × (HasRoomAt hash key c h ⊎ ((0 < pending_of c) ⊎ ((2 * length (entries c) < 32 * bucket_count c) ⊎ ((2 ^ 63 ≤ 32 * bucket_count c) ⊎ ((refused_of c).1 ≡ true)))))
+  IsPreparedAt hash key c h = (0 < bucket_count c) × (HasRoomAt hash key c h ⊎ ((0 < pending_of c) ⊎ ((2 * length (entries c) < 32 * bucket_count c) ⊎ ((2 ^ 63 ≤ 32 * bucket_count c) ⊎ IsMarked c))))
 
   -- an insertion of the new key k is prepared
   abbrev pub IsPreparedFor : {K : Type 0} → (K → ℕ) → (E → K) → Contents E S → K → Type 0

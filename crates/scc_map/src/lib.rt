@@ -2,7 +2,7 @@
 #![tactic(auto)]
 
 ghost use Rattle.scc_common.specs.Closures.{Reads, WritesAt};
-ghost use Rattle.scc_common.specs.Contents.{entries, bucket_count, lists_of, settings_of, refused_of, waiting_of, hash_in};
+ghost use Rattle.scc_common.specs.Contents.{entries, bucket_count, lists_of, settings_of, refused_of, waiting_of, hash_in, IsMarked, IsNoteUp, note_of};
 ghost use Rattle.scc_common.specs.Pairs.{find, FindsInstead, HasRoom, IsUnique};
 ghost use Rattle.scc_common.specs.Steps.{IsUnchanged, Prepares};
 ghost use Rattle.scc_common.specs.Walks.{CalledOn, CallableWhile, Walks};
@@ -73,7 +73,7 @@ impl<K: Eq + Hash, V, H: BuildHasher> Owned<K, V, H> {
     /// note. If the result is false after a call that had to resize, the map has the size that the rules ask for.
     #[inline(always)]
     pub fn is_resize_refused(&self) -> bool
-        ensures { result ≡ (refused_of self.now).0 }
+        ensures { result ≡ note_of self.now }
     {
         self.table.is_resize_refused()
     }
@@ -180,8 +180,8 @@ impl<K: Eq + Hash, V, H: BuildHasher> Owned<K, V, H> {
         ensures marks { find K.eq (entries self.old) k.now ≡ None
             → MarksPreparation (hash_in ⟦<H as Hashes<K>>⟧.hash_of self.old) (λ p. p.0) self.old
             (hash_in ⟦<H as Hashes<K>>⟧.hash_of self.old k.now) self.new }
-        ensures marked { (refused_of self.new).1 ≡ true
-            → ((refused_of self.old).1 ≡ true) ⊎ ((refused_of self.new).0 ≡ true) }
+        ensures marked { IsMarked self.new
+            → IsMarked self.old ⊎ IsNoteUp self.new }
         ensures err { OnErr result ((find K.eq (entries self.old) k.now ≡ None) × (bucket_count self.old ≡ 0)) }
         ensures same { OnErr result (self.new ≡ self.old) }
         ensures settings { settings_of self.new ≡ settings_of self.old }
@@ -203,7 +203,7 @@ impl<K: Eq + Hash, V, H: BuildHasher> Owned<K, V, H> {
         ensures same { IsUnchanged self.old self.new }
         ensures lists { lists_of self.new ≡ lists_of self.old }
         ensures waiting { waiting_of self.new ≡ waiting_of self.old }
-        ensures noted { refused_of self.new ≡ ((refused_of self.old).0, false) }
+        ensures noted { refused_of self.new ≡ (note_of self.old, false) }
         ensures unique { IsUnique K.eq self.new }
     {
         self.table.drop_mark();

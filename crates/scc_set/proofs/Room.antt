@@ -1,13 +1,13 @@
 -- The map's words about room say of pairs what the set's words say of keys.
-use Rattle.std.proofs.Common.{◌≡◌, ◌⊎◌, ℕ, inl, inr, map, true, sym, ap, subst, ◌∙◌}
+use Rattle.std.proofs.Common.{◌≡◌, ◌⊎◌, ℕ, inl, inr, map, sym, ap, subst, ◌∙◌}
 use Rattle.std.specs.Hash.{HashWrites}
 use Rattle.std.specs.declared.hash.Hasher as hasher
 use Rattle.std.specs.declared.hash.BuildHasher as builder
-use Rattle.scc_common.specs.Contents.{Contents, lists_of, key_hash, refused_of}
+use Rattle.scc_common.specs.Contents.{Contents, lists_of, key_hash, IsMarked, IsNoteUp}
 use Rattle.scc_common.specs.Mapped.{mapped}
-use Rattle.scc_common.specs.Steps.{IsPreparedFor, Prepares}
+use Rattle.scc_common.specs.Steps.{IsPreparedFor, Prepares, IsGrowthDue}
 use Rattle.scc_buckets.proofs.Mapped.{Rests-mapped, Grows-mapped, HasRoomBy-mapped, HasRoomBy-from_mapped}
-use Rattle.scc_table.specs.Marks.{IsGrowthDue, MarksPreparation}
+use Rattle.scc_table.specs.Marks.{MarksPreparation}
 use Rattle.scc_set.specs.Keys.{of_map}
 use Rattle.scc_set.proofs.Sets.{hash-same, shows, waiting-keys}
 
@@ -16,7 +16,7 @@ unfolding mapped lists_of
 lists-keys c d e = ap (λ ls. map (λ l. map (λ p. p.0) l) ls) e
 
 -- the set's mark is up only if it was up before or the note is up, because this holds of the map's mark
-pub marked-keys : {K S : Type 0} (c d : Contents (K × Unit {0}) S) → ((refused_of d).1 ≡ true → ((refused_of c).1 ≡ true) ⊎ ((refused_of d).0 ≡ true)) → (refused_of (of_map d)).1 ≡ true → ((refused_of (of_map c)).1 ≡ true) ⊎ ((refused_of (of_map d)).0 ≡ true)
+pub marked-keys : {K S : Type 0} (c d : Contents (K × Unit {0}) S) → (IsMarked d → IsMarked c ⊎ IsNoteUp d) → IsMarked (of_map d) → IsMarked (of_map c) ⊎ IsNoteUp (of_map d)
 marked-keys c d h = rw ((shows c).refused, (shows d).refused) h
 
 module _ {K S : Type 0} (hash : K → ℕ) (k : K) where

@@ -1,7 +1,7 @@
 //! A hash set for one owner, over the map of `scc_map`.
 #![tactic(auto)]
 
-ghost use Rattle.scc_common.specs.Contents.{entries, bucket_count, lists_of, settings_of, refused_of, waiting_of, hash_in};
+ghost use Rattle.scc_common.specs.Contents.{entries, bucket_count, lists_of, settings_of, refused_of, waiting_of, hash_in, IsMarked, IsNoteUp, note_of};
 ghost use Rattle.scc_common.specs.Pairs.{IsUnique as IsUniqueMap};
 ghost use Rattle.scc_common.specs.Pairs.{find as find_pair};
 ghost use Rattle.scc_common.specs.Steps.{HoldsExactly, IsUnchanged, Prepares};
@@ -79,7 +79,7 @@ impl<K: Eq + Hash, H: BuildHasher> Owned<K, H> {
     /// note. If the result is false after a call that had to resize, the set has the size that the rules ask for.
     #[inline(always)]
     pub fn is_resize_refused(&self) -> bool
-        ensures { result ≡ (refused_of self.now).0 }
+        ensures { result ≡ note_of self.now }
     {
         self.map.is_resize_refused()
     }
@@ -145,8 +145,8 @@ impl<K: Eq + Hash, H: BuildHasher> Owned<K, H> {
         ensures marks { find K.eq (entries self.old) k.now ≡ None
             → MarksPreparation (hash_in ⟦<H as Hashes<K>>⟧.hash_of self.old) (λ q. q) self.old
             (hash_in ⟦<H as Hashes<K>>⟧.hash_of self.old k.now) self.new }
-        ensures marked { (refused_of self.new).1 ≡ true
-            → ((refused_of self.old).1 ≡ true) ⊎ ((refused_of self.new).0 ≡ true) }
+        ensures marked { IsMarked self.new
+            → IsMarked self.old ⊎ IsNoteUp self.new }
         ensures err { OnErr result ((find K.eq (entries self.old) k.now ≡ None) × (bucket_count self.old ≡ 0)) }
         ensures same { OnErr result (self.new ≡ self.old) }
         ensures settings { settings_of self.new ≡ settings_of self.old }
@@ -161,7 +161,7 @@ impl<K: Eq + Hash, H: BuildHasher> Owned<K, H> {
         ensures same { IsUnchanged self.old self.new }
         ensures lists { lists_of self.new ≡ lists_of self.old }
         ensures waiting { waiting_of self.new ≡ waiting_of self.old }
-        ensures noted { refused_of self.new ≡ ((refused_of self.old).0, false) }
+        ensures noted { refused_of self.new ≡ (note_of self.old, false) }
         ensures unique { IsUnique K.eq self.new }
     {
         self.map.drop_mark();

@@ -4,9 +4,10 @@ use Rattle.std.specs.List.{count_by}
 use Rattle.std.proofs.lemmas.Bool.{cases_order}
 use Rattle.scc_common.specs.Contents.{Contents, HasRoomAt, bucket_count, entries, lists_of, pending_of, refused_of, settings_of}
 use Rattle.scc_table.specs.Growths.{FindsBucketForNew}
-use Rattle.scc_table.specs.Marks.{IsGrowthDue, MarksPreparation}
+use Rattle.scc_table.specs.Marks.{MarksPreparation}
 use Rattle.scc_table.proofs.Finishing.{pending-is}
 use Rattle.scc_table.proofs.InstallingLemmas.{count-up}
+use Rattle.scc_common.specs.Steps.{IsGrowthDue}
 use Rattle.scc_table.proofs.Same.{count-same, entries-same, pending-same}
 
 both-are : (x : Bool × Bool) (p q : Bool) → x.0 ≡ p → x.1 ≡ q → x ≡ (p, q)
@@ -14,7 +15,7 @@ both-are x p q l r = ap (λ (y : Bool). (y, x.1)) l ∙ ap (λ (y : Bool). (p, y
 
 module _ {E K S X : Type 0} (eq : K → K → Bool) (key : E → K) (hash : K → ℕ) (a b : Contents E S) (h : ℕ) (result : Result ℕ X) (m : FindsBucketForNew eq key hash a h result b) where
   down-grown : 0 < bucket_count a → bucket_count b ≢ bucket_count a → refused_of b ≡ (false, false)
-  down-grown some ne = both-are (refused_of b) false false (m.down some ne) (m.unmarked some (m.growth.not_waiting some ne) (λ room. ne (ap bucket_count (m.still room))) (m.growth.half some ne) (m.growth.below some ne))
+  down-grown some ne = both-are (refused_of b) false false (m.down some ne) (m.unmarked record { array = some; not_waiting = m.growth.not_waiting some ne; full = λ room. ne (ap bucket_count (m.still room)); half = m.growth.half some ne; below = m.growth.below some ne })
 
   -- if no growth is due that wasn't made, the note and the mark are as `MarksPreparation` says
   pub marks-left : (IsGrowthDue hash key a h → bucket_count b ≡ bucket_count a → ⊥) → MarksPreparation hash key a h b

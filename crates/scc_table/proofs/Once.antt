@@ -2,7 +2,7 @@
 use Rattle.std.proofs.Common.{◌≡◌, ◌≢◌, ℕ, ◌<◌, ◌⊎◌, inl, inr, true, [], replicate, refl, sym, ap, ◌∙◌, arith}
 use Rattle.std.specs.List.{count_by}
 use Rattle.std.proofs.lemmas.Bool.{cases_order}
-use Rattle.scc_common.specs.Contents.{Contents, HasRoomAt, bucket_count, lists_of, pending_of, refused_of, settings_of, waiting_of}
+use Rattle.scc_common.specs.Contents.{Contents, HasRoomAt, bucket_count, lists_of, pending_of, settings_of, waiting_of, IsMarked}
 use Rattle.scc_common.specs.Steps.{Grows, IsPreparedAt, Prepares, Rests}
 use Rattle.scc_table.proofs.Finishing.{pending-is}
 use Rattle.scc_table.proofs.InstallingLemmas.{count-up}
@@ -10,7 +10,7 @@ use Rattle.scc_table.proofs.Same.{count-same, entries-same, pending-same}
 
 module _ {E S K : Type 0} (hash : K → ℕ) (key : E → K) (c d : Contents E S) (h : ℕ) where
   -- if an insertion is prepared, the number of buckets stays
-  pub once-made : Grows c d → (HasRoomAt hash key c h → bucket_count d ≡ bucket_count c) → (0 < bucket_count c → (0 < pending_of c) ⊎ ((refused_of c).1 ≡ true) → bucket_count d ≡ bucket_count c)
+  pub once-made : Grows c d → (HasRoomAt hash key c h → bucket_count d ≡ bucket_count c) → (0 < bucket_count c → (0 < pending_of c) ⊎ IsMarked c → bucket_count d ≡ bucket_count c)
       → IsPreparedAt hash key c h → bucket_count d ≡ bucket_count c
   once-made growth room once ready =
       elim ready.1 as (λ _. bucket_count d ≡ bucket_count c) [

@@ -1,9 +1,9 @@
 -- Tables of two arrays whose lists hold at most 32 entries each. A place of the table stands for its spot, and the
 -- words of `scc_buckets` speak of spots.
-use Rattle.std.specs.Prelude.{◌≡◌, ℕ, ◌*◌, ◌<◌, ◌≤◌, ◌⊎◌, Bool, false, true, length}
+use Rattle.std.specs.Prelude.{◌≡◌, ℕ, ◌*◌, ◌<◌, ◌≤◌, ◌⊎◌, Bool, length}
 use Rattle.scc_buckets.specs.Bounded as bounded
 use Rattle.scc_buckets.specs.Bounded.{IsResized, HasListsOf}
-use Rattle.scc_common.specs.Contents.{Contents, entries, bucket_count, list_of, minimum_of, pending_of, refused_of}
+use Rattle.scc_common.specs.Contents.{Contents, entries, bucket_count, list_of, minimum_of, pending_of, refused_of, IsMarked, IsNoteDown, IsNoteUp, IsUnmarked}
 use Rattle.scc_common.specs.Sizes.{IsArraySize}
 use Rattle.scc_buckets.specs.declared.place.Place.{Place}
 use Rattle.scc_table.specs.Places.{spot_of}
@@ -23,17 +23,17 @@ module _ {E S : Type 0} where
   -- that is noted, and nothing else changes
   pub data DoublesBelow (hash : E → ℕ) (most : ℕ) (c d : Contents E S) : Type 0 where
     stays : (IsDoublingDue most c → ⊥) → d ≡ c → DoublesBelow hash most c d
-    denied : IsDoublingDue most c → (refused_of d).0 ≡ true → HasListsOf c d → DoublesBelow hash most c d
-    doubles : IsDoublingDue most c → (refused_of c).1 ≡ false → (refused_of d).0 ≡ false → bucket_count d ≡ 2 * bucket_count c → IsResized hash c d → DoublesBelow hash most c d
+    denied : IsDoublingDue most c → IsNoteUp d → HasListsOf c d → DoublesBelow hash most c d
+    doubles : IsDoublingDue most c → IsUnmarked c → IsNoteDown d → bucket_count d ≡ 2 * bucket_count c → IsResized hash c d → DoublesBelow hash most c d
 
-  -- what a put of a new key into list i makes first: the first array, with the size of the minimum, or a doubling if
-  -- list i holds 32 entries and a doubling is due
+  -- what a put of a new key into list i makes first: the first array, with the size of the minimum, which leaves the
+  -- note and the mark, or a doubling if list i holds 32 entries and a doubling is due
   pub data GrowsBelow (hash : E → ℕ) (most i : ℕ) (c d : Contents E S) : Type 0 where
-    makes : bucket_count c ≡ 0 → IsArraySize (minimum_of c) (32 * bucket_count d) → IsResized hash c d → GrowsBelow hash most i c d
+    makes : bucket_count c ≡ 0 → IsArraySize (minimum_of c) (32 * bucket_count d) → refused_of d ≡ refused_of c → IsResized hash c d → GrowsBelow hash most i c d
     has_room : 0 < bucket_count c → length (list_of c i) < 32 → d ≡ c → GrowsBelow hash most i c d
     is_full : 0 < bucket_count c → 32 ≤ length (list_of c i) → DoublesBelow hash most c d → GrowsBelow hash most i c d
 
   -- a put of a new key into list i is prepared: there is an array, and list i has room, no doubling is due, or a growth
   -- is marked
   abbrev pub IsPreparedBelow : ℕ → ℕ → Contents E S → Type 0
-  IsPreparedBelow most i c = (0 < bucket_count c) × (length (list_of c i) < 32 ⊎ ((IsDoublingDue most c → ⊥) ⊎ ((refused_of c).1 ≡ true)))
+  IsPreparedBelow most i c = (0 < bucket_count c) × (length (list_of c i) < 32 ⊎ ((IsDoublingDue most c → ⊥) ⊎ IsMarked c))

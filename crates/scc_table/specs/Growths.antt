@@ -3,14 +3,13 @@ use Rattle.std.specs.Prelude.{◌≡◌, ◌≢◌, ◌≤◌, ◌<◌, ◌+◌,
 use Rattle.std.specs.List.{range_with_len}
 use Rattle.std.specs.List.Sorted.{IsPermutation}
 use Rattle.std.specs.Result.{OnOk, OnErr}
-use Rattle.scc_common.specs.Contents.{Contents, entries, bucket_count, list_of, lists_of, pending_of, refused_of, settings_of, waiting_of, HasRoomAt, IsUniqueBy}
+use Rattle.scc_common.specs.Contents.{Contents, entries, bucket_count, list_of, lists_of, pending_of, refused_of, settings_of, waiting_of, HasRoomAt, IsUniqueBy, IsMarked, IsNoteDown, IsNoteUp, IsUnmarked, note_of}
 use Rattle.scc_common.specs.Routing.{bucket_number}
-use Rattle.scc_common.specs.Steps.{FirstArrayWhenDue, Grows, IsUnchanged, Rests}
+use Rattle.scc_common.specs.Steps.{FirstArrayWhenDue, Grows, IsUnchanged, Rests, IsGrowthDue}
 use Rattle.scc_buckets.specs.Bounded.{IsListed, HasListsOf}
 use Rattle.scc_buckets.specs.Pour.{IsRegrouped}
 use Rattle.scc_buckets.specs.declared.place.Place.{Place}
 use Rattle.scc_table.specs.Bounded.{DoublesBelow, GrowsBelow, IsDoublingDue, IsPreparedBelow}
-use Rattle.scc_table.specs.Marks.{IsGrowthDue}
 use Rattle.scc_table.specs.Places.{IsInsertedAt}
 use Rattle.scc_table.specs.Relocates.{left_after, AreMovedBeside, AreShortAmong, AreShortBut}
 use Rattle.scc_table.specs.TwoArrays.{pending_targets, waits_at}
@@ -24,13 +23,13 @@ module _ {E K S : Type 0} (eq : K → K → Bool) (key : E → K) where
       -- the number of buckets changes only by a doubling
       pub growth : Grows c d
       -- if a doubling is due and the note is down afterwards, the array has doubled
-      pub due : 32 * bucket_count c ≤ 2 * length (entries c) → 32 * bucket_count c < 2 ^ 63 → (refused_of d).0 ≡ false → bucket_count d ≡ 2 * bucket_count c
+      pub due : 32 * bucket_count c ≤ 2 * length (entries c) → 32 * bucket_count c < 2 ^ 63 → IsNoteDown d → bucket_count d ≡ 2 * bucket_count c
       -- the note rises only if a doubling is due
-      pub raised : (refused_of c).0 ≡ false → (refused_of d).0 ≡ true → (32 * bucket_count c ≤ 2 * length (entries c)) × (32 * bucket_count c < 2 ^ 63)
+      pub raised : IsNoteDown c → IsNoteUp d → (32 * bucket_count c ≤ 2 * length (entries c)) × (32 * bucket_count c < 2 ^ 63)
       -- the note falls only by a doubling
-      pub lowered : (refused_of c).0 ≡ true → (refused_of d).0 ≡ false → bucket_count d ≢ bucket_count c
+      pub lowered : IsNoteUp c → IsNoteDown d → bucket_count d ≢ bucket_count c
       -- after a doubling, the note is down
-      pub down : bucket_count d ≢ bucket_count c → (refused_of d).0 ≡ false
+      pub down : bucket_count d ≢ bucket_count c → IsNoteDown d
       -- without a doubling, each list stays
       pub stays : bucket_count d ≡ bucket_count c → lists_of d ≡ lists_of c
       -- without a doubling, the waiting buckets stay
@@ -42,13 +41,13 @@ module _ {E K S : Type 0} (eq : K → K → Bool) (key : E → K) where
       -- there is an array
       pub array : 0 < bucket_count d
       -- a growth that is marked isn't tried
-      pub once : (refused_of c).1 ≡ true → bucket_count d ≡ bucket_count c
+      pub once : IsMarked c → bucket_count d ≡ bucket_count c
       -- if a doubling is due, no growth is marked afterwards
-      pub unmarked : 32 * bucket_count c ≤ 2 * length (entries c) → 32 * bucket_count c < 2 ^ 63 → (refused_of d).1 ≡ false
+      pub unmarked : 32 * bucket_count c ≤ 2 * length (entries c) → 32 * bucket_count c < 2 ^ 63 → IsUnmarked d
       -- if no doubling is due, the note and the mark stay
       pub noted : ((32 * bucket_count c ≤ 2 * length (entries c)) × (32 * bucket_count c < 2 ^ 63) → ⊥) → refused_of d ≡ refused_of c
       -- a growth is marked only if it was, and the note stays then
-      pub marked : (refused_of d).1 ≡ true → refused_of d ≡ refused_of c
+      pub marked : IsMarked d → refused_of d ≡ refused_of c
       -- no two keys are equal
       pub unique : IsUniqueBy eq key d
 
@@ -66,13 +65,13 @@ module _ {E K S : Type 0} (eq : K → K → Bool) (key : E → K) where
       -- if the bucket of `hash` has room, nothing changes
       pub still : HasRoomAt hash_of key c hash → d ≡ c
       -- if a doubling is due and the note is down afterwards, the array has doubled
-      pub due : 0 < bucket_count c → pending_of c ≡ 0 → (HasRoomAt hash_of key c hash → ⊥) → 32 * bucket_count c ≤ 2 * length (entries c) → 32 * bucket_count c < 2 ^ 63 → (refused_of d).0 ≡ false → bucket_count d ≡ 2 * bucket_count c
+      pub due : IsGrowthDue hash_of key c hash → IsNoteDown d → bucket_count d ≡ 2 * bucket_count c
       -- the note rises only if a doubling is due
-      pub raised : (refused_of c).0 ≡ false → (refused_of d).0 ≡ true → (0 < bucket_count c) × (HasRoomAt hash_of key c hash → ⊥) × (32 * bucket_count c ≤ 2 * length (entries c)) × (32 * bucket_count c < 2 ^ 63)
+      pub raised : IsNoteDown c → IsNoteUp d → IsGrowthDue hash_of key c hash
       -- the note falls only by a doubling
-      pub lowered : (refused_of c).0 ≡ true → (refused_of d).0 ≡ false → (0 < bucket_count c) × (bucket_count d ≢ bucket_count c)
+      pub lowered : IsNoteUp c → IsNoteDown d → (0 < bucket_count c) × (bucket_count d ≢ bucket_count c)
       -- after a doubling, the note is down
-      pub down : 0 < bucket_count c → bucket_count d ≢ bucket_count c → (refused_of d).0 ≡ false
+      pub down : 0 < bucket_count c → bucket_count d ≢ bucket_count c → IsNoteDown d
       -- on success, the first array has the size of the minimum
       pub first : OnOk result (FirstArrayWhenDue c d)
       -- if there was no array, there is no entry
@@ -88,9 +87,9 @@ module _ {E K S : Type 0} (eq : K → K → Bool) (key : E → K) where
       -- after a doubling, each list has the entries that belong to it
       pub lists : 0 < bucket_count c → bucket_count d ≢ bucket_count c → IsRegrouped (λ e. hash_of (key e)) (bucket_count d) c d
       -- if a bucket waits or a growth is marked, the array doesn't double
-      pub once : 0 < bucket_count c → (0 < pending_of c) ⊎ ((refused_of c).1 ≡ true) → bucket_count d ≡ bucket_count c
+      pub once : 0 < bucket_count c → (0 < pending_of c) ⊎ IsMarked c → bucket_count d ≡ bucket_count c
       -- if a doubling is due, no growth is marked afterwards
-      pub unmarked : 0 < bucket_count c → pending_of c ≡ 0 → (HasRoomAt hash_of key c hash → ⊥) → 32 * bucket_count c ≤ 2 * length (entries c) → 32 * bucket_count c < 2 ^ 63 → (refused_of d).1 ≡ false
+      pub unmarked : IsGrowthDue hash_of key c hash → IsUnmarked d
       -- the call fails only if there is no array
       pub none : OnErr result (bucket_count c ≡ 0)
       -- on failure, entries, buckets and settings stay
@@ -100,7 +99,7 @@ module _ {E K S : Type 0} (eq : K → K → Bool) (key : E → K) where
       -- if no growth is due, the note and the mark stay
       pub noted : (IsGrowthDue hash_of key c hash → ⊥) → refused_of d ≡ refused_of c
       -- a growth is marked only if it was, and the note stays then
-      pub marked : (refused_of d).1 ≡ true → refused_of d ≡ refused_of c
+      pub marked : IsMarked d → refused_of d ≡ refused_of c
       -- no two keys are equal
       pub unique : IsUniqueBy eq key d
 
@@ -112,11 +111,11 @@ module _ {E K S : Type 0} (eq : K → K → Bool) (key : E → K) where
       -- the number of buckets changes only by a doubling
       pub doubled : bucket_count d ≢ bucket_count c → bucket_count d ≡ 2 * bucket_count c
       -- if the note is down afterwards, the array has doubled
-      pub due : (refused_of d).0 ≡ false → bucket_count d ≢ bucket_count c
+      pub due : IsNoteDown d → bucket_count d ≢ bucket_count c
       -- after a doubling, the note is down
-      pub down : bucket_count d ≢ bucket_count c → (refused_of d).0 ≡ false
+      pub down : bucket_count d ≢ bucket_count c → IsNoteDown d
       -- no growth is marked
-      pub unmarked : (refused_of d).1 ≡ false
+      pub unmarked : IsUnmarked d
       -- the bucket of the result is below the number of buckets
       pub within : result.bucket < bucket_count d
       -- the entry of `place` stands at the result
@@ -144,9 +143,9 @@ module _ {E K S : Type 0} (eq : K → K → Bool) (key : E → K) where
       -- there are `count` buckets
       pub buckets : bucket_count d ≡ count
       -- no refused memory is noted
-      pub down : (refused_of d).0 ≡ false
+      pub down : IsNoteDown d
       -- no growth is marked
-      pub unmarked : (refused_of d).1 ≡ false
+      pub unmarked : IsUnmarked d
       -- all buckets but at most two wait
       pub most : count ≤ pending_of d + 2
       -- if no bucket would hold more than 32 entries, exactly the bucket of the key and the first other bucket don't
@@ -182,7 +181,7 @@ module _ {E K S : Type 0} (eq : K → K → Bool) (key : E → K) where
       -- if the result is false, no doubling is due afterwards
       pub made : (IsTrue result → ⊥) → IsDoublingDue most d → ⊥
       -- a growth is marked only if nothing changed
-      pub marked : (refused_of d).1 ≡ true → d ≡ c
+      pub marked : IsMarked d → d ≡ c
       -- no two keys are equal
       pub unique : IsUniqueBy eq key d
 
@@ -219,7 +218,7 @@ module _ {E K S : Type 0} (eq : K → K → Bool) (key : E → K) where
       -- on success, the put is prepared
       pub ready : OnOk result (IsPreparedBelow most (bucket_number (settings_of d).skipped (bucket_count d) hash) d)
       -- a growth is marked only if it was, or if refused memory is noted
-      pub marked : (refused_of d).1 ≡ true → ((refused_of c).1 ≡ true) ⊎ ((refused_of d).0 ≡ true)
+      pub marked : IsMarked d → IsMarked c ⊎ IsNoteUp d
       -- the settings stay
       pub settings : settings_of d ≡ settings_of c
       -- each entry stands in the bucket of its hash, and no list has more than 32
@@ -242,7 +241,7 @@ module _ {E K S : Type 0} (eq : K → K → Bool) (key : E → K) where
       -- the settings stay
       pub settings : settings_of d ≡ settings_of c
       -- the note stays, and no growth is marked
-      pub noted : refused_of d ≡ ((refused_of c).0, false)
+      pub noted : refused_of d ≡ (note_of c, false)
       -- the waiting buckets stay
       pub waiting : waiting_of d ≡ waiting_of c
       -- each entry stands in the bucket of its hash, and no list has more than 32

@@ -1,9 +1,9 @@
 -- What the calls do to a table of two arrays that make an array, install one, or set the note, the mark or the reserved
 -- slots alone.
-use Rattle.std.specs.Prelude.{◌≡◌, ◌≤◌, ◌<◌, ℕ, Bool, true, false, [], replicate, Result}
+use Rattle.std.specs.Prelude.{◌≡◌, ◌≤◌, ◌<◌, ℕ, Bool, true, [], replicate, Result}
 use Rattle.std.specs.List.Sorted.{IsPermutation}
 use Rattle.std.specs.Result.{OnOk, OnErr}
-use Rattle.scc_common.specs.Contents.{Contents, entries, bucket_count, lists_of, owed_of, pending_of, refused_of, settings_of, overflow_of, waiting_of, IsUniqueBy}
+use Rattle.scc_common.specs.Contents.{Contents, entries, bucket_count, lists_of, owed_of, pending_of, refused_of, settings_of, overflow_of, waiting_of, IsUniqueBy, IsNoteDown, IsNoteUp, IsUnmarked}
 use Rattle.scc_common.specs.Steps.{FirstArrayWhenDue, Grows, IsUnchanged, Rests}
 use Rattle.scc_buckets.specs.Bounded.{IsBounded, IsResized}
 use Rattle.scc_buckets.specs.Pour.{IsRegrouped}
@@ -98,7 +98,7 @@ module _ {E K S : Type 0} (eq : K → K → Bool) (key : E → K) where
       -- on success, `count` buckets wait
       pub pending : OnOk result (pending_of d ≡ count)
       -- on success, no refused memory is noted
-      pub down : OnOk result ((refused_of d).0 ≡ false)
+      pub down : OnOk result (IsNoteDown d)
       -- on failure, each list stays
       pub err : OnErr result (lists_of d ≡ lists_of c)
       -- the settings stay
@@ -108,9 +108,9 @@ module _ {E K S : Type 0} (eq : K → K → Bool) (key : E → K) where
       -- empty overflow lists stay empty
       pub bounded : IsBounded c → IsBounded d
       -- on failure, the refused memory is noted
-      pub up : OnErr result ((refused_of d).0 ≡ true)
+      pub up : OnErr result (IsNoteUp d)
       -- no growth is marked
-      pub unmarked : (refused_of d).1 ≡ false
+      pub unmarked : IsUnmarked d
       -- no two keys are equal
       pub unique : IsUniqueBy eq key d
 
@@ -126,7 +126,7 @@ module _ {E K S : Type 0} (eq : K → K → Bool) (key : E → K) where
       -- on success, `count` buckets wait
       pub pending : OnOk result (pending_of d ≡ count)
       -- on success, no refused memory is noted
-      pub down : OnOk result ((refused_of d).0 ≡ false)
+      pub down : OnOk result (IsNoteDown d)
       -- on failure, entries, buckets and settings stay
       pub err : OnErr result (IsUnchanged c d)
       -- on failure, no bucket starts to wait
@@ -140,7 +140,9 @@ module _ {E K S : Type 0} (eq : K → K → Bool) (key : E → K) where
       -- empty overflow lists stay empty, if no waiting bucket holds more than 32 entries
       pub bounded : IsBounded c → AreShort c → IsBounded d
       -- on failure, the refused memory is noted
-      pub up : OnErr result ((refused_of d).0 ≡ true)
+      pub up : OnErr result (IsNoteUp d)
+      -- no growth is marked
+      pub unmarked : IsUnmarked d
       -- no two keys are equal
       pub unique : IsUniqueBy eq key d
 

@@ -1,9 +1,9 @@
 -- What an insertion of an entry that is made of its parts does to a table of two arrays, one word a call. A failure
 -- hands the parts x back.
-use Rattle.std.specs.Prelude.{◌≡◌, ◌≢◌, ◌≤◌, ◌<◌, ◌+◌, ◌-◌, ◌*◌, ◌^◌, ℕ, [], Bool, false, true, length, Result, IfOk, IfErr}
+use Rattle.std.specs.Prelude.{◌≡◌, ◌≢◌, ◌≤◌, ◌<◌, ◌+◌, ◌-◌, ◌*◌, ◌^◌, ℕ, [], Bool, false, length, Result, IfOk, IfErr}
 use Rattle.std.specs.List.{range_with_len}
 use Rattle.std.specs.Result.{OnOk, OnErr}
-use Rattle.scc_common.specs.Contents.{Contents, entries, bucket_count, pending_of, refused_of, settings_of, waiting_of, HasRoomBy, IsUniqueBy}
+use Rattle.scc_common.specs.Contents.{Contents, entries, bucket_count, pending_of, refused_of, settings_of, waiting_of, HasRoomBy, IsUniqueBy, IsMarked, IsNoteDown, IsNoteUp, IsUnmarked}
 use Rattle.scc_common.specs.Routing.{bucket_number}
 use Rattle.scc_common.specs.Steps.{FirstArrayWhenDue, Grows, GrowsWhenDue, IsPreparedFor, IsUnchanged, RaisesWhenDue}
 use Rattle.scc_buckets.specs.declared.place.Place.{Place}
@@ -38,9 +38,9 @@ module _ {E K S X : Type 0} (eq : K → K → Bool) (key : E → K) where
     -- the number of buckets stays
     pub buckets : bucket_count d ≡ bucket_count c
     -- the refused memory is noted
-    pub up : (refused_of d).0 ≡ true
+    pub up : IsNoteUp d
     -- no growth is marked
-    pub unmarked : (refused_of d).1 ≡ false
+    pub unmarked : IsUnmarked d
     -- no bucket starts to wait
     pub fewer : (j : ℕ) → IsWaiting d j → IsWaiting c j
     -- the number of waiting buckets doesn't rise
@@ -112,17 +112,19 @@ module _ {E K S X : Type 0} (eq : K → K → Bool) (key : E → K) where
       -- the number of buckets changes only by a doubling
       pub growth : Grows c d
       -- if a doubling is due and the note is down afterwards, the array has doubled
-      pub due : 32 * bucket_count c ≤ 2 * length (entries c) → 32 * bucket_count c < 2 ^ 63 → (refused_of d).0 ≡ false → bucket_count d ≡ 2 * bucket_count c
+      pub due : 32 * bucket_count c ≤ 2 * length (entries c) → 32 * bucket_count c < 2 ^ 63 → IsNoteDown d → bucket_count d ≡ 2 * bucket_count c
       -- the note rises only if a doubling is due
-      pub raised : (refused_of c).0 ≡ false → (refused_of d).0 ≡ true → (32 * bucket_count c ≤ 2 * length (entries c)) × (32 * bucket_count c < 2 ^ 63)
+      pub raised : IsNoteDown c → IsNoteUp d → (32 * bucket_count c ≤ 2 * length (entries c)) × (32 * bucket_count c < 2 ^ 63)
       -- the note falls only by a doubling
-      pub lowered : (refused_of c).0 ≡ true → (refused_of d).0 ≡ false → bucket_count d ≢ bucket_count c
+      pub lowered : IsNoteUp c → IsNoteDown d → bucket_count d ≢ bucket_count c
       -- after a doubling, the note is down
-      pub down : bucket_count d ≢ bucket_count c → (refused_of d).0 ≡ false
+      pub down : bucket_count d ≢ bucket_count c → IsNoteDown d
       -- a growth that is marked isn't tried
-      pub once : (refused_of c).1 ≡ true → bucket_count d ≡ bucket_count c
+      pub once : IsMarked c → bucket_count d ≡ bucket_count c
       -- if a doubling is due, no growth is marked afterwards
-      pub unmarked : 32 * bucket_count c ≤ 2 * length (entries c) → 32 * bucket_count c < 2 ^ 63 → (refused_of d).1 ≡ false
+      pub unmarked : 32 * bucket_count c ≤ 2 * length (entries c) → 32 * bucket_count c < 2 ^ 63 → IsUnmarked d
+      -- a growth is marked only if it was
+      pub marked : IsMarked d → IsMarked c
       -- without a doubling, no bucket starts to wait
       pub fewer : bucket_count d ≡ bucket_count c → (i : ℕ) → IsWaiting d i → IsWaiting c i
       -- without a doubling, the number of waiting buckets doesn't rise
@@ -147,21 +149,21 @@ module _ {E K S X : Type 0} (eq : K → K → Bool) (key : E → K) where
       -- on success, there are `count` buckets
       pub buckets : OnOk result (bucket_count d ≡ count)
       -- on success, no refused memory is noted
-      pub down : OnOk result ((refused_of d).0 ≡ false)
+      pub down : OnOk result (IsNoteDown d)
       -- the number of buckets changes only to `count`
       pub doubled : bucket_count d ≢ bucket_count c → bucket_count d ≡ count
       -- if the note is down afterwards, there are `count` buckets
-      pub due : (refused_of d).0 ≡ false → bucket_count d ≡ count
+      pub due : IsNoteDown d → bucket_count d ≡ count
       -- without a resize, the waiting buckets stay
       pub same : bucket_count d ≡ bucket_count c → waiting_of d ≡ waiting_of c
       -- after a resize, all buckets but at most two wait
       pub grown : bucket_count d ≢ bucket_count c → count ≤ pending_of d + 2
       -- the note falls only by a resize
-      pub lowered : (refused_of c).0 ≡ true → (refused_of d).0 ≡ false → bucket_count d ≢ bucket_count c
+      pub lowered : IsNoteUp c → IsNoteDown d → bucket_count d ≢ bucket_count c
       -- after a resize, the note is down
-      pub fallen : bucket_count d ≢ bucket_count c → (refused_of d).0 ≡ false
+      pub fallen : bucket_count d ≢ bucket_count c → IsNoteDown d
       -- no growth is marked
-      pub unmarked : (refused_of d).1 ≡ false
+      pub unmarked : IsUnmarked d
       -- on success, all buckets but at most two wait
       pub most : OnOk result (count ≤ pending_of d + 2)
       -- on success, if no bucket would hold more than 32 entries, exactly the bucket of the key and the first other
@@ -174,7 +176,7 @@ module _ {E K S X : Type 0} (eq : K → K → Bool) (key : E → K) where
       -- on failure, x is handed back and nothing changes
       pub err : IfErr result (λ y. (y ≡ x) × IsUnchanged c d)
       -- on failure, refused memory is noted
-      pub up : OnErr result ((refused_of d).0 ≡ true)
+      pub up : OnErr result (IsNoteUp d)
       -- no two keys are equal
       pub unique : IsUniqueBy eq key d
 
@@ -185,17 +187,17 @@ module _ {E K S X : Type 0} (eq : K → K → Bool) (key : E → K) where
       -- on failure, x is handed back and nothing changes
       pub err : IfErr result (λ y. (y ≡ x) × IsUnchanged c d)
       -- on failure, refused memory is noted
-      pub up : OnErr result ((refused_of d).0 ≡ true)
+      pub up : OnErr result (IsNoteUp d)
       -- the number of buckets changes only by a doubling
       pub doubled : bucket_count d ≢ bucket_count c → bucket_count d ≡ 2 * bucket_count c
       -- if the note is down afterwards, the array has doubled
-      pub due : (refused_of d).0 ≡ false → bucket_count d ≡ 2 * bucket_count c
+      pub due : IsNoteDown d → bucket_count d ≡ 2 * bucket_count c
       -- the note falls only by a doubling
-      pub lowered : (refused_of c).0 ≡ true → (refused_of d).0 ≡ false → bucket_count d ≢ bucket_count c
+      pub lowered : IsNoteUp c → IsNoteDown d → bucket_count d ≢ bucket_count c
       -- after a doubling, the note is down
-      pub fallen : bucket_count d ≢ bucket_count c → (refused_of d).0 ≡ false
+      pub fallen : bucket_count d ≢ bucket_count c → IsNoteDown d
       -- no growth is marked
-      pub unmarked : (refused_of d).1 ≡ false
+      pub unmarked : IsUnmarked d
       -- without a doubling, no bucket waits
       pub none : bucket_count d ≡ bucket_count c → pending_of d ≡ 0
       -- after a doubling, all buckets but at most two wait

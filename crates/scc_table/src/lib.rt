@@ -2,7 +2,7 @@
 //! stay there until their bucket of the current array is relocated.
 #![tactic(auto)]
 
-ghost use Rattle.scc_common.specs.Contents.{bucket_count, pending_of, refused_of, IsUniqueBy};
+ghost use Rattle.scc_common.specs.Contents.{bucket_count, pending_of, IsUniqueBy, mark_of, note_of};
 ghost use Rattle.scc_common.specs.Sizes.{IsLawful};
 ghost use Rattle.scc_table.specs.TwoArrays.{IsWaiting};
 ghost use Rattle.std.specs.Prelude.{◌≡◌, ◌<◌, ◌≤◌, ◌^◌, ◌↔◌, IsTrue};
@@ -91,7 +91,7 @@ where
     /// Returns whether memory was refused for the last resize that was due.
     #[inline(always)]
     pub fn is_resize_refused(&self) -> bool
-        ensures { result ≡ (refused_of self.now).0 }
+        ensures { result ≡ note_of self.now }
     {
         self.current.is_resize_refused()
     }
@@ -100,7 +100,7 @@ where
     /// it.
     #[inline(always)]
     pub fn is_marked(&self) -> bool
-        ensures { result ≡ (refused_of self.now).1 }
+        ensures { result ≡ mark_of self.now }
     {
         self.current.is_marked()
     }

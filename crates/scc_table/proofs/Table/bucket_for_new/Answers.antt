@@ -20,7 +20,7 @@ returns-then-list_len-lt32 g c =
       within = (search rules);
       routed = (search rules);
       still = (search rules);
-      due = (λ some none full. absurd (full (some, omega arith)));
+      due = (λ due. absurd (due.full (due.array, omega arith)));
       raised = (search rules);
       lowered = (search rules);
       down = (search rules);
@@ -32,7 +32,7 @@ returns-then-list_len-lt32 g c =
       all = (search rules);
       lists = (search rules);
       once = (search rules);
-      unmarked = (λ some none full. absurd (full (some, omega arith)));
+      unmarked = (λ due. absurd (due.full (due.array, omega arith)));
       none = (search rules);
       refused = (search rules);
       same = (search rules);
@@ -56,11 +56,12 @@ returns g c =
       within = (search rules);
       routed = (search rules);
       still = (λ room. absurd (let r = room.1 in omega arith));
-      due = (search rules);
+      due = (λ due. c.grow.ensures.due due.half due.below);
       raised = (
           let full : HasRoomAt hk g.E.Keyed.key_of a c.args.hash → ⊥ = λ room. absurd (let r = room.1 in omega arith) in
           let some : 0 < bucket_count a = let z = c.if-bucket_count-eq0.false in let m = c.bucket_count.ensures.count in omega arith in
-          λ low up. let r = c.grow.ensures.raised low up in (some, full, r.0, r.1));
+          let none : pending_of a ≡ 0 = let z = c.if-pending-gt0.false in omega arith in
+          λ low up. let r = c.grow.ensures.raised low up in record { array = some; not_waiting = none; full = full; half = r.0; below = r.1 });
       lowered = (
           let some : 0 < bucket_count c.args.self.now = let z = c.if-bucket_count-eq0.false in let m = c.bucket_count.ensures.count in omega arith in
           λ up low. (some, c.grow.ensures.lowered up low));
@@ -73,7 +74,7 @@ returns g c =
       all = (search rules);
       lists = (search rules);
       once = (search rules);
-      unmarked = (search rules);
+      unmarked = (λ due. c.grow.ensures.unmarked due.half due.below);
       none = (search rules);
       refused = (search rules);
       same = (search rules);

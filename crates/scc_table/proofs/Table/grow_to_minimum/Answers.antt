@@ -15,11 +15,11 @@ returns-then-count-eq0 g c =
       due = (
           let size = rw c.minimum.ensures.value at c.buckets_for-wanted.ensures.size in
           reaches-due c.buckets_for-wanted.result c.args.self.now c.args.self.now size
-          (λ some less few down. elim c.then-count-eq0.branch [
+          (λ some less down. elim c.then-count-eq0.branch [
             | then-count-eq0-via-then-count-eq0 w ↦ absurd (omega (arith, c.bucket_count-count.ensures.count))
             | then-count-eq0-via-else-count-eq0+then-count-wanted w ↦ absurd (omega (arith, c.bucket_count-count.ensures.count))
           ])
-          (λ low up. absurd (true≢false (sym up ∙ low))) (λ up low. absurd (true≢false (sym up ∙ low))) (λ ne. absurd (ne refl)));
+          (λ low up. absurd (true≢false (sym up ∙ low))) (λ up low. absurd (true≢false (sym up ∙ low))) (λ ne. absurd (ne refl)) (λ up. up));
       spreads = (search rules);
       unique = (search rules);
     }
@@ -32,8 +32,8 @@ returns-in-Ok g c =
       size = (search rules);
       due = (
           let size = rw (c.minimum.ensures.value, ← c.in-Ok.ensures.lists.settings) at c.buckets_for-wanted.ensures.size in
-          reaches-due c.buckets_for-wanted.result c.args.self.now c.resize_to.new.self size (λ _ _ _ _. c.in-Ok.ensures.lists.count) (λ low up. absurd (true≢false (sym up ∙ c.in-Ok.ensures.down)))
-          (λ _ _ e. let n = c.in-Ok.ensures.lists.count in let p = c.bucket_count-count.ensures.count in absurd (omega arith)) (λ _. c.in-Ok.ensures.down));
+          reaches-due c.buckets_for-wanted.result c.args.self.now c.resize_to.new.self size (λ _ _ _. c.in-Ok.ensures.lists.count) (λ low up. absurd (true≢false (sym up ∙ c.in-Ok.ensures.down)))
+          (λ _ _ e. let n = c.in-Ok.ensures.lists.count in let p = c.bucket_count-count.ensures.count in absurd (omega arith)) (λ _. c.in-Ok.ensures.down) (λ up. absurd (true≢false (sym up ∙ c.resize_to.ensures.unmarked))));
       spreads = (
           let size = rw c.minimum.ensures.value at c.buckets_for-wanted.ensures.size in
           let z = c.if-count-eq0.false in
@@ -53,8 +53,8 @@ returns-in-Err g c =
       size = (search rules);
       due = (
           let size = rw (c.minimum.ensures.value, ← c.in-Err.ensures.err.settings) at c.buckets_for-wanted.ensures.size in
-          reaches-due c.buckets_for-wanted.result c.args.self.now c.resize_to.new.self size (λ _ _ _ down. absurd (true≢false (sym c.in-Err.ensures.up ∙ down)))
-          (λ low up. (omega arith, omega arith)) (λ _ down. absurd (true≢false (sym c.in-Err.ensures.up ∙ down))) (λ ne. absurd (ne c.in-Err.ensures.err.buckets)));
+          reaches-due c.buckets_for-wanted.result c.args.self.now c.resize_to.new.self size (λ _ _ down. absurd (true≢false (sym c.in-Err.ensures.up ∙ down)))
+          (λ low up. (omega arith, omega arith)) (λ _ down. absurd (true≢false (sym c.in-Err.ensures.up ∙ down))) (λ ne. absurd (ne c.in-Err.ensures.err.buckets)) (λ up. absurd (true≢false (sym up ∙ c.resize_to.ensures.unmarked))));
       spreads = (
           let size = rw c.minimum.ensures.value at c.buckets_for-wanted.ensures.size in
           let less : bucket_count c.args.self.now < c.buckets_for-wanted.result = omega arith in

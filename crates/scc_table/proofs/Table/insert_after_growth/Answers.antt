@@ -3,6 +3,7 @@ use Rattle.std.specs.List.{count_by, range_with_len}
 use Rattle.scc_common.specs.Contents.{HasRoomAt, bucket_count, entries, key_hash, settings_of, waiting_of}
 use Rattle.scc_buckets.specs.Pour.{IsRegrouped}
 use Rattle.scc_common.specs.Routing.{bucket_number}
+use Rattle.scc_common.specs.Steps.{IsGrowthDue}
 use Rattle.scc_buckets.proofs.Resizes.{absent-permuted, rests-resizes, rests-inserted}
 use Rattle.scc_table.specs.Places.{spot_of}
 use Rattle.scc_table.specs.Relocates.{AreMovedBeside, AreShort, left_after}
@@ -45,12 +46,14 @@ returns-in-Ok g c =
           c.insert_and_relocate.ensures.full);
       growth = (search rules);
       due = (
+          let hk = key_hash g.H.BuildHasher g.H.Hasher.Hasher g.E.Key.Hash.hash_input a in
           record {
-            doubled = λ some not_waiting full half below few down. c.insert_and_relocate.ensures.buckets ∙ c.bucket_for_new.ensures.due some not_waiting (λ room. full (rw c.requires.hashed at room)) half below (sym (ap (λ (x : Bool × Bool). x.0) c.insert_and_relocate.ensures.refused) ∙ down);
-            raised = λ low up.
-                let r = c.bucket_for_new.ensures.raised low (sym (ap (λ (x : Bool × Bool). x.0) c.insert_and_relocate.ensures.refused) ∙ up) in
-                (r.0, λ room. r.1 (rw c.requires.hashed room), r.2, r.3);
-            unmarked = λ some not_waiting full half below. ap (λ (x : Bool × Bool). x.1) c.insert_and_relocate.ensures.refused ∙ c.bucket_for_new.ensures.unmarked some not_waiting (λ room. full (rw c.requires.hashed at room)) half below;
+            doubled = λ due down. c.insert_and_relocate.ensures.buckets ∙ c.bucket_for_new.ensures.due (subst (IsGrowthDue hk g.E.Keyed.key_of a) (sym c.requires.hashed) due) (sym (ap (λ (x : Bool × Bool). x.0) c.insert_and_relocate.ensures.refused) ∙ down);
+            raised = λ low up. subst (IsGrowthDue hk g.E.Keyed.key_of a) c.requires.hashed (c.bucket_for_new.ensures.raised low (sym (ap (λ (x : Bool × Bool). x.0) c.insert_and_relocate.ensures.refused) ∙ up));
+            unmarked = λ due. ap (λ (x : Bool × Bool). x.1) c.insert_and_relocate.ensures.refused ∙ c.bucket_for_new.ensures.unmarked (subst (IsGrowthDue hk g.E.Keyed.key_of a) (sym c.requires.hashed) due);
+            marked = λ up.
+                let still = sym (ap (λ (x : Bool × Bool). x.1) c.insert_and_relocate.ensures.refused) ∙ up in
+                sym (ap (λ (x : Bool × Bool). x.1) (c.bucket_for_new.ensures.marked still)) ∙ still;
             lowered = λ up low.
                 let f = sym (ap (λ (x : Bool × Bool). x.0) c.insert_and_relocate.ensures.refused) in
                 let r = c.bucket_for_new.ensures.lowered up (f ∙ low) in

@@ -3,6 +3,7 @@ use Rattle.std.specs.List.{count_by}
 use Rattle.std.proofs.lemmas.List.{nil_from_length}
 use Rattle.scc_common.specs.Contents.{HasRoomAt, bucket_count, entries, key_hash, list_of, pending_of, settings_of}
 use Rattle.scc_common.specs.Routing.{bucket_number}
+use Rattle.scc_common.specs.Steps.{GrowsWhenDue}
 use Rattle.scc_table.specs.Relocates.{AreMovedBeside}
 use Rattle.scc_table.specs.TwoArrays.{pending_targets}
 use Rattle.scc_draining.proofs.Arriving.{any-ok}
@@ -48,9 +49,9 @@ returns-then-pending-gt0 g c =
       ok = (search rules);
       err = (search rules);
       growth = (search rules);
-      due = (any-ok c.insert_made_and_relocate.result (record { doubled = λ some none. absurd (let q = c.if-pending-gt0.true in omega arith); raised = λ low up. absurd (let z : true ≡ false = sym up ∙ ap (λ (x : Bool × Bool). x.0) c.insert_made_and_relocate.ensures.refused ∙ low in cc); unmarked = λ some none. absurd (let q = c.if-pending-gt0.true in omega arith); lowered = λ up low. absurd (let z : true ≡ false = sym up ∙ sym (ap (λ (x : Bool × Bool). x.0) c.insert_made_and_relocate.ensures.refused) ∙ low in cc); down = λ some ne. absurd (ne c.insert_made_and_relocate.ensures.buckets) }));
+      due = (any-ok c.insert_made_and_relocate.result (record { doubled = λ due. absurd (let q = c.if-pending-gt0.true in omega (arith, due.not_waiting)); raised = λ low up. absurd (let z : true ≡ false = sym up ∙ ap (λ (x : Bool × Bool). x.0) c.insert_made_and_relocate.ensures.refused ∙ low in cc); unmarked = λ due. absurd (let q = c.if-pending-gt0.true in omega (arith, due.not_waiting)); marked = λ up. sym (ap (λ (x : Bool × Bool). x.1) c.insert_made_and_relocate.ensures.refused) ∙ up; lowered = λ up low. absurd (let z : true ≡ false = sym up ∙ sym (ap (λ (x : Bool × Bool). x.0) c.insert_made_and_relocate.ensures.refused) ∙ low in cc); down = λ some ne. absurd (ne c.insert_made_and_relocate.ensures.buckets) }));
       raised = (search rules);
-      undone = (any-err c.insert_made_and_relocate.result (record { doubled = λ some none. absurd (let q = c.if-pending-gt0.true in omega arith); raised = λ low up. absurd (let z : true ≡ false = sym up ∙ ap (λ (x : Bool × Bool). x.0) c.insert_made_and_relocate.ensures.refused ∙ low in cc); unmarked = λ some none. absurd (let q = c.if-pending-gt0.true in omega arith); lowered = λ up low. absurd (let z : true ≡ false = sym up ∙ sym (ap (λ (x : Bool × Bool). x.0) c.insert_made_and_relocate.ensures.refused) ∙ low in cc); down = λ some ne. absurd (ne c.insert_made_and_relocate.ensures.buckets) }));
+      undone = (any-err c.insert_made_and_relocate.result (record { doubled = λ due. absurd (let q = c.if-pending-gt0.true in omega (arith, due.not_waiting)); raised = λ low up. absurd (let z : true ≡ false = sym up ∙ ap (λ (x : Bool × Bool). x.0) c.insert_made_and_relocate.ensures.refused ∙ low in cc); unmarked = λ due. absurd (let q = c.if-pending-gt0.true in omega (arith, due.not_waiting)); marked = λ up. sym (ap (λ (x : Bool × Bool). x.1) c.insert_made_and_relocate.ensures.refused) ∙ up; lowered = λ up low. absurd (let z : true ≡ false = sym up ∙ sym (ap (λ (x : Bool × Bool). x.0) c.insert_made_and_relocate.ensures.refused) ∙ low in cc); down = λ some ne. absurd (ne c.insert_made_and_relocate.ensures.buckets) }));
       first = (search rules);
       kept = (search rules);
       once = (search rules);
@@ -84,9 +85,9 @@ returns-then-list_len-lt32 g c =
       ok = (search rules);
       err = (search rules);
       growth = (search rules);
-      due = (any-ok c.insert_made_and_relocate-then-list_len-lt32.result (record { doubled = λ some none full. absurd (let room : HasRoomAt hk g.E.Keyed.key_of a c.args.hash = (some, omega arith) in full (rw c.requires.hashed at room)); raised = λ low up. absurd (let z : true ≡ false = sym up ∙ ap (λ (x : Bool × Bool). x.0) c.insert_made_and_relocate-then-list_len-lt32.ensures.refused ∙ low in cc); unmarked = λ some none full. absurd (let room : HasRoomAt hk g.E.Keyed.key_of a c.args.hash = (some, omega arith) in full (rw c.requires.hashed at room)); lowered = λ up low. absurd (let z : true ≡ false = sym up ∙ sym (ap (λ (x : Bool × Bool). x.0) c.insert_made_and_relocate-then-list_len-lt32.ensures.refused) ∙ low in cc); down = λ some ne. absurd (ne c.insert_made_and_relocate-then-list_len-lt32.ensures.buckets) }));
+      due = (any-ok c.insert_made_and_relocate-then-list_len-lt32.result (record { doubled = λ due. absurd (let room : HasRoomAt hk g.E.Keyed.key_of a c.args.hash = (due.array, omega arith) in due.full (rw c.requires.hashed at room)); raised = λ low up. absurd (let z : true ≡ false = sym up ∙ ap (λ (x : Bool × Bool). x.0) c.insert_made_and_relocate-then-list_len-lt32.ensures.refused ∙ low in cc); unmarked = λ due. absurd (let room : HasRoomAt hk g.E.Keyed.key_of a c.args.hash = (due.array, omega arith) in due.full (rw c.requires.hashed at room)); marked = λ up. sym (ap (λ (x : Bool × Bool). x.1) c.insert_made_and_relocate-then-list_len-lt32.ensures.refused) ∙ up; lowered = λ up low. absurd (let z : true ≡ false = sym up ∙ sym (ap (λ (x : Bool × Bool). x.0) c.insert_made_and_relocate-then-list_len-lt32.ensures.refused) ∙ low in cc); down = λ some ne. absurd (ne c.insert_made_and_relocate-then-list_len-lt32.ensures.buckets) }));
       raised = (search rules);
-      undone = (any-err c.insert_made_and_relocate-then-list_len-lt32.result (record { doubled = λ some none full. absurd (let room : HasRoomAt hk g.E.Keyed.key_of a c.args.hash = (some, omega arith) in full (rw c.requires.hashed at room)); raised = λ low up. absurd (let z : true ≡ false = sym up ∙ ap (λ (x : Bool × Bool). x.0) c.insert_made_and_relocate-then-list_len-lt32.ensures.refused ∙ low in cc); unmarked = λ some none full. absurd (let room : HasRoomAt hk g.E.Keyed.key_of a c.args.hash = (some, omega arith) in full (rw c.requires.hashed at room)); lowered = λ up low. absurd (let z : true ≡ false = sym up ∙ sym (ap (λ (x : Bool × Bool). x.0) c.insert_made_and_relocate-then-list_len-lt32.ensures.refused) ∙ low in cc); down = λ some ne. absurd (ne c.insert_made_and_relocate-then-list_len-lt32.ensures.buckets) }));
+      undone = (any-err c.insert_made_and_relocate-then-list_len-lt32.result (record { doubled = λ due. absurd (let room : HasRoomAt hk g.E.Keyed.key_of a c.args.hash = (due.array, omega arith) in due.full (rw c.requires.hashed at room)); raised = λ low up. absurd (let z : true ≡ false = sym up ∙ ap (λ (x : Bool × Bool). x.0) c.insert_made_and_relocate-then-list_len-lt32.ensures.refused ∙ low in cc); unmarked = λ due. absurd (let room : HasRoomAt hk g.E.Keyed.key_of a c.args.hash = (due.array, omega arith) in due.full (rw c.requires.hashed at room)); marked = λ up. sym (ap (λ (x : Bool × Bool). x.1) c.insert_made_and_relocate-then-list_len-lt32.ensures.refused) ∙ up; lowered = λ up low. absurd (let z : true ≡ false = sym up ∙ sym (ap (λ (x : Bool × Bool). x.0) c.insert_made_and_relocate-then-list_len-lt32.ensures.refused) ∙ low in cc); down = λ some ne. absurd (ne c.insert_made_and_relocate-then-list_len-lt32.ensures.buckets) }));
       first = (search rules);
       kept = (search rules);
       once = (search rules);
@@ -121,13 +122,23 @@ returns g c =
     let some : 0 < bucket_count a = let z = c.if-bucket_count-eq0.false in let m = c.bucket_count.ensures.count in omega arith in
     let f = c.insert_made_full.new.self in
     let none : pending_of a ≡ 0 = let p = c.pending.ensures in let q = c.if-pending-gt0.false in omega arith in
+    let grows : GrowsWhenDue hk g.E.Keyed.key_of a (g.E.Keyed.key_of (g.E.Made.made_of c.args.parts)) f = record {
+      doubled = λ due down. c.insert_made_full.ensures.due due.half due.below down;
+      raised = λ low up.
+          let r = c.insert_made_full.ensures.raised low up in
+          record { array = some; not_waiting = none; full = λ room. full (rw c.requires.hashed room); half = r.0; below = r.1 };
+      lowered = λ up low. (some, c.insert_made_full.ensures.lowered up low);
+      down = λ _ ne. c.insert_made_full.ensures.down ne;
+      unmarked = λ due. c.insert_made_full.ensures.unmarked due.half due.below;
+      marked = c.insert_made_full.ensures.marked;
+    } in
     record {
       ok = (search rules);
       err = (search rules);
       growth = (search rules);
-      due = (any-ok c.insert_made_full.result (record { doubled = λ _ _ _ half below few down. c.insert_made_full.ensures.due half below down; raised = λ low up. let r = c.insert_made_full.ensures.raised low up in (some, λ room. full (rw c.requires.hashed room), r.0, r.1); unmarked = λ _ _ _ half below. c.insert_made_full.ensures.unmarked half below; lowered = λ up low. (some, c.insert_made_full.ensures.lowered up low); down = λ _ ne. c.insert_made_full.ensures.down ne }));
-      raised = (any-err c.insert_made_full.result (record { raised = λ low up. let r = c.insert_made_full.ensures.raised low up in (some, λ room. full (rw c.requires.hashed room), r.0, r.1) }));
-      undone = (any-err c.insert_made_full.result (record { doubled = λ _ _ _ half below few down. c.insert_made_full.ensures.due half below down; raised = λ low up. let r = c.insert_made_full.ensures.raised low up in (some, λ room. full (rw c.requires.hashed room), r.0, r.1); unmarked = λ _ _ _ half below. c.insert_made_full.ensures.unmarked half below; lowered = λ up low. (some, c.insert_made_full.ensures.lowered up low); down = λ _ ne. c.insert_made_full.ensures.down ne }));
+      due = (any-ok c.insert_made_full.result grows);
+      raised = (any-err c.insert_made_full.result (record { raised = grows.raised }));
+      undone = (any-err c.insert_made_full.result grows);
       first = (search rules);
       kept = (λ room. absurd (full (rw c.requires.hashed room)));
       once = (

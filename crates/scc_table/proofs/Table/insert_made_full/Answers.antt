@@ -1,5 +1,6 @@
-use Rattle.std.proofs.Common.{◌≡◌, ◌∙◌, ◌*◌, true, false, ap, sym, subst, arith, rules}
+use Rattle.std.proofs.Common.{◌≡◌, ◌∙◌, ◌*◌, Bool, true, false, ap, sym, subst, arith, rules}
 use Rattle.std.specs.List.{range_with_len}
+use Rattle.std.proofs.lemmas.Bool.{true≢false}
 use Rattle.scc_common.specs.Contents.{bucket_count, key_hash, settings_of}
 use Rattle.scc_common.specs.Routing.{bucket_number}
 use Rattle.scc_buckets.proofs.Powers.{double-array}
@@ -38,6 +39,7 @@ returns-then-is_crowded g c =
       down = (search rules);
       once = (search rules);
       unmarked = (search rules);
+      marked = (λ up. absurd (true≢false (sym up ∙ c.insert_made_crowded.ensures.unmarked)));
       fewer = (λ same i up. absurd (let z : true ≡ false = sym up ∙ not_waiting-all c.insert_made_crowded.new.self (c.insert_made_crowded.ensures.none same) i in cc));
       less = (λ same. let none = c.insert_made_crowded.ensures.none same in omega arith);
       grown = (search rules);
@@ -70,6 +72,7 @@ returns-else-is_crowded g c =
       down = (search rules);
       once = (search rules);
       unmarked = (search rules);
+      marked = (λ up. absurd (true≢false (sym up ∙ c.insert_made_grown.ensures.unmarked)));
       fewer = (λ same i up. ap (λ ws. waits_at ws i) (sym (c.insert_made_grown.ensures.same same)) ∙ up);
       less = (λ same. let p = pending-same c.args.self.now c.insert_made_grown.new.self (c.insert_made_grown.ensures.same same) in omega arith);
       grown = (λ ne. let n = c.insert_made_grown.ensures.doubled ne in let p = c.insert_made_grown.ensures.grown ne in omega arith);
@@ -108,6 +111,7 @@ returns-then-length-count g c =
       down = (search rules);
       once = (search rules);
       unmarked = (search rules);
+      marked = (λ up. sym (ap (λ (x : Bool × Bool). x.1) c.insert_made_and_relocate.ensures.refused) ∙ up);
       fewer = (search rules);
       less = (search rules);
       grown = (search rules);

@@ -30,13 +30,10 @@ returns-then-list_len-lt32 g c =
           ap (λ m. count_by (λ (e : g.row.E.Denot). bucket_number (settings_of a).skipped (bucket_count a) (hk (g.E.Keyed.key_of e)) == m) (entries a)) (sym c.bucket_at-bucket.ensures.value) ∙ count-listed (λ (e : g.row.E.Denot). hk (g.E.Keyed.key_of e)) a i c.bucket_at-bucket.ensures.routed in
           let long = c.list_len.ensures in
           record {
-            doubled = λ some not_waiting full half below few down.
-                let had : HasRoomAt hk g.E.Keyed.key_of a c.args.hash = (some, omega arith) in
-                absurd (full (rw c.requires.hashed at had));
+            doubled = λ due down. absurd (due.full (rw c.requires.hashed at (let had : HasRoomAt hk g.E.Keyed.key_of a c.args.hash = (due.array, omega arith) in had)));
             raised = λ low up. absurd (let z : false ≡ true = sym low ∙ sym (ap (λ (x : Bool × Bool). x.0) c.insert_with_room.ensures.refused) ∙ up in cc);
-            unmarked = λ some not_waiting full half below.
-                let had : HasRoomAt hk g.E.Keyed.key_of a c.args.hash = (some, omega arith) in
-                absurd (full (rw c.requires.hashed at had));
+            unmarked = λ due. absurd (due.full (rw c.requires.hashed at (let had : HasRoomAt hk g.E.Keyed.key_of a c.args.hash = (due.array, omega arith) in had)));
+            marked = λ up. sym (ap (λ (x : Bool × Bool). x.1) c.insert_with_room.ensures.refused) ∙ up;
             lowered = λ up low. absurd (let z : true ≡ false = sym up ∙ sym (ap (λ (x : Bool × Bool). x.0) c.insert_with_room.ensures.refused) ∙ low in cc);
             down = λ some ne. absurd (ne c.insert_with_room.ensures.buckets);
           });

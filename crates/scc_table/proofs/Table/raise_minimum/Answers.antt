@@ -17,7 +17,7 @@ returns g c =
           search rules);
       due = (
           let r = c.grow_to_minimum.ensures.due in
-          λ _. record { reached = λ m am some less few down. r.reached m am (omega (arith, c.set_reserved.ensures.buckets)) (omega (arith, c.set_reserved.ensures.buckets)) (rw c.set_reserved.ensures.entries few) down; raised = λ low up m am. let z = r.raised (ap (λ (x : Bool × Bool). x.0) c.set_reserved.ensures.noted ∙ low) up m am in (omega (arith, z.0, c.set_reserved.ensures.buckets), omega (arith, z.1, c.set_reserved.ensures.buckets)); lowered = λ up low e. r.lowered (ap (λ (x : Bool × Bool). x.0) c.set_reserved.ensures.noted ∙ up) low (e ∙ sym c.set_reserved.ensures.buckets); down = λ ne. r.down (λ e. ne (e ∙ c.set_reserved.ensures.buckets)) });
+          λ _. record { reached = λ m am some less down. r.reached m am (omega (arith, c.set_reserved.ensures.buckets)) (omega (arith, c.set_reserved.ensures.buckets)) down; raised = λ low up m am. let z = r.raised (ap (λ (x : Bool × Bool). x.0) c.set_reserved.ensures.noted ∙ low) up m am in (omega (arith, z.0, c.set_reserved.ensures.buckets), omega (arith, z.1, c.set_reserved.ensures.buckets)); lowered = λ up low e. r.lowered (ap (λ (x : Bool × Bool). x.0) c.set_reserved.ensures.noted ∙ up) low (e ∙ sym c.set_reserved.ensures.buckets); down = λ ne. r.down (λ e. ne (e ∙ c.set_reserved.ensures.buckets)); marked = λ up. sym (ap (λ (x : Bool × Bool). x.1) c.set_reserved.ensures.noted) ∙ r.marked up });
       spreads = (
           let a = c.args.self.now in
           let b = c.set_reserved.new.self in

@@ -37,6 +37,7 @@ returns-in-Ok g c =
       settings = (search rules);
       bounded = (λ none short. c.install_fresh.ensures.bounded (c.finish.ensures.bounded none short));
       up = (search rules);
+      unmarked = (search rules);
       unique = (search rules);
     }
 
@@ -55,5 +56,6 @@ returns-in-Err g c =
       settings = (search rules);
       bounded = (λ none short. c.note.ensures.spilled ∙ c.finish.ensures.bounded none short);
       up = (search rules);
+      unmarked = (search rules);
       unique = (search rules);
     }

@@ -34,7 +34,7 @@ returns-then-count-present-clause-due g c =
     let least = rw c.minimum.ensures.value at c.buckets_for.ensures.size in
     let fitting = rw c.len.ensures.len at c.buckets_for-2.ensures.size in
     shrinks-due c.buckets_for.result c.buckets_for-2.result c.args.self.now c.args.self.now least fitting (λ less _. absurd (omega (arith, c.max-count.ensures, c.bucket_count-present.ensures.count)))
-    (λ low up. absurd (true≢false (sym up ∙ low))) (λ up low. absurd (true≢false (sym up ∙ low))) (λ ne. absurd (ne refl))
+    (λ low up. absurd (true≢false (sym up ∙ low))) (λ up low. absurd (true≢false (sym up ∙ low))) (λ ne. absurd (ne refl)) (λ up. up)
 
 pub returns-in-Ok-clause-due : goal.returns-in-Ok-clause-due
 returns-in-Ok-clause-due g c =
@@ -42,7 +42,7 @@ returns-in-Ok-clause-due g c =
     let fitting = rw (c.len.ensures.len, ← length_permutation (entries c.args.self.now) (entries c.resize_to.new.self) c.in-Ok.ensures.same) at c.buckets_for-2.ensures.size in
     shrinks-due c.buckets_for.result c.buckets_for-2.result c.args.self.now c.resize_to.new.self least fitting (λ _ _. c.in-Ok.ensures.lists.count ∙ c.max-count.ensures)
     (λ low up. absurd (true≢false (sym up ∙ c.in-Ok.ensures.down)))
-    (λ _ _ e. let n = c.in-Ok.ensures.lists.count in absurd (omega (arith, c.bucket_count-present.ensures.count))) (λ _. c.in-Ok.ensures.down)
+    (λ _ _ e. let n = c.in-Ok.ensures.lists.count in absurd (omega (arith, c.bucket_count-present.ensures.count))) (λ _. c.in-Ok.ensures.down) (λ up. absurd (true≢false (sym up ∙ c.resize_to.ensures.unmarked)))
 
 pub returns-in-Err-clause-due : goal.returns-in-Err-clause-due
 returns-in-Err-clause-due g c =
@@ -51,7 +51,7 @@ returns-in-Err-clause-due g c =
     let fitting = rw (c.len.ensures.len, ← still.exact) at c.buckets_for-2.ensures.size in
     shrinks-due c.buckets_for.result c.buckets_for-2.result c.args.self.now c.resize_to.new.self least fitting (λ _ down. absurd (true≢false (sym c.in-Err.ensures.up ∙ down)))
     (λ _ _. (rw still.exact c.requires, omega (arith, c.max-count.ensures, c.bucket_count-present.ensures.count)))
-    (λ _ down. absurd (true≢false (sym c.in-Err.ensures.up ∙ down))) (λ ne. absurd (ne still.buckets))
+    (λ _ down. absurd (true≢false (sym c.in-Err.ensures.up ∙ down))) (λ ne. absurd (ne still.buckets)) (λ up. absurd (true≢false (sym up ∙ c.resize_to.ensures.unmarked)))
 
 pub returns-in-Ok-clause-spreads : goal.returns-in-Ok-clause-spreads
 returns-in-Ok-clause-spreads g c =

@@ -1,4 +1,5 @@
 use Rattle.std.proofs.Common.{◌≡◌, ◌∙◌, ℕ, ◌≤◌, ◌<◌, length, refl, sym, subst, arith, rules}
+use Rattle.std.proofs.lemmas.Bool.{true≢false}
 use Rattle.scc_buckets.specs.Bounded.{IsResized, MayShrinkWithin, stays_wide, denied_narrow, narrows}
 use Rattle.scc_common.specs.Contents.{bucket_count, entries, key_hash, minimum_of, settings_of}
 use Rattle.scc_common.specs.Hashing.{hash_of}
@@ -36,7 +37,7 @@ returns-in-Ok-clause-shrinks g c =
       lists = subst (λ m. IsRegrouped hash m a d) (sym size) r.lists;
       bounded = c.resize_to.ensures.bounded c.requires.listed.bounded (short-listed hash a c.requires.listed);
     } in
-    narrows (subst (λ m. IsSmaller (minimum_of a) (length (entries a)) (bucket_count a) m) (sym size) made) (let e = least.enough in omega (arith, size, c.max-count.ensures, c.minimum.ensures.value, c.minimum.ensures.most)) r.down resized
+    narrows (subst (λ m. IsSmaller (minimum_of a) (length (entries a)) (bucket_count a) m) (sym size) made) (let e = least.enough in omega (arith, size, c.max-count.ensures, c.minimum.ensures.value, c.minimum.ensures.most)) r.down (λ up. absurd (true≢false (sym up ∙ c.resize_to.ensures.unmarked))) resized
 
 pub returns-in-Ok-clause-listed : goal.returns-in-Ok-clause-listed
 returns-in-Ok-clause-listed g c =
@@ -92,7 +93,7 @@ returns-in-Err-clause-shrinks g c =
     let may : MayShrinkWithin hash a n = record { array = array; smaller = made; short = short } in
     let r = c.in-Err.ensures in
     let bounded = c.resize_to.ensures.bounded c.requires.listed.bounded (short-listed hash a c.requires.listed) in
-    denied_narrow n may r.up (record { lists = r.still; settings = c.resize_to.ensures.settings; spilled = bounded ∙ sym c.requires.listed.bounded })
+    denied_narrow n may r.up (λ up. absurd (true≢false (sym up ∙ c.resize_to.ensures.unmarked))) (record { lists = r.still; settings = c.resize_to.ensures.settings; spilled = bounded ∙ sym c.requires.listed.bounded })
 
 pub returns-in-Err-clause-listed : goal.returns-in-Err-clause-listed
 returns-in-Err-clause-listed g c =
