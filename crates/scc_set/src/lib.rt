@@ -145,8 +145,7 @@ impl<K: Eq + Hash, H: BuildHasher> Owned<K, H> {
         ensures marks { find K.eq (entries self.old) k.now ≡ None
             → MarksPreparation (hash_in ⟦<H as Hashes<K>>⟧.hash_of self.old) (λ q. q) self.old
             (hash_in ⟦<H as Hashes<K>>⟧.hash_of self.old k.now) self.new }
-        ensures marked { IsMarked self.new
-            → IsMarked self.old ⊎ IsNoteUp self.new }
+        ensures marked { IsMarked self.new → IsMarked self.old ⊎ IsNoteUp self.new }
         ensures err { OnErr result ((find K.eq (entries self.old) k.now ≡ None) × (bucket_count self.old ≡ 0)) }
         ensures same { OnErr result (self.new ≡ self.old) }
         ensures settings { settings_of self.new ≡ settings_of self.old }

@@ -35,13 +35,9 @@ module _ {E F S : Type 0} (f : E → F) where
 
   AreMovedFrom-mapped : (ts : List ℕ) (n : ℕ) (c : Contents E S) → AreMovedFrom ts n c → AreMovedFrom ts n (mapped f c)
   AreMovedFrom-mapped ts n c h = record {
-    count = h.count;
-    most = h.most;
+    kept = h.kept;
     left = targets-mapped c ∙ h.left;
-    stopped = λ l. elim (h.stopped l) [
-      | inl none ↦ inl (targets-mapped c ∙ none)
-      | inr z ↦ inr (z.0, z.1, z.2, rw (length-list-mapped c (slice_index_or ts z.0 0)) z.3)
-    ];
+    long = λ k i l. rw (length-list-mapped c (slice_index_or h.kept k i)) (h.long k i l);
   }
 
   pub Relocates-mapped : (c d : Contents E S) → Relocates c d → Relocates (mapped f c) (mapped f d)

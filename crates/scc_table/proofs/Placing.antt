@@ -121,7 +121,7 @@ pub moved-nothing : {E S : Type 0} (i : ℕ) (c f : Contents E S) → pending_of
 moved-nothing i c f none left =
     let before : pending_targets c ≡ [] = nil_from_length (pending_targets c) (targets-length c ∙ none) in
     let after : pending_targets f ≡ [] = nil_from_length (pending_targets f) (targets-length f ∙ left) in
-    let nothing : AreMovedBeside i [] f = record { count = 0; most = omega arith; left = after; stopped = λ l. inl after } in
+    let nothing : AreMovedBeside i [] f = record { kept = []; left = after; long = λ k x l. absurd (omega arith) } in
     subst (λ ts. AreMovedBeside i ts f) (sym before) nothing
 
 -- if bucket i doesn't wait and the first two are relocated, the waiting buckets are those of `left_after`

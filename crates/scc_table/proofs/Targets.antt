@@ -7,9 +7,9 @@ use Rattle.std.proofs.lemmas.List.Sums.{sum_by-cons}
 use Rattle.scc_common.specs.Contents.{Contents, pending_of, waiting_of}
 use Rattle.scc_buckets.proofs.PairSplits.{by_answer}
 use Rattle.scc_table.specs.Relocates.{left_after}
-use Rattle.scc_table.specs.TwoArrays.{IsFirstWaiting, IsRelocated, pending_targets, cleared, waits_at}
+use Rattle.scc_table.specs.TwoArrays.{IsFirstWaiting, IsLoneWaiting, IsRelocated, IsSecondWaiting, pending_targets, cleared, waits_at}
 use Rattle.scc_table.proofs.Finishing.{pending-is}
-use Rattle.scc_table.proofs.RelocatingLemmas.{not_equal, one-down, up-within}
+use Rattle.scc_table.proofs.RelocatingLemmas.{all-down, not_equal, one-down, up-within}
 
 equal : (a b : ℕ) → a ≡ b → (a == b) ≡ true
 equal a b h = search rules
@@ -89,6 +89,71 @@ ups-head a (suc i) (w ∷ ws) up below =
     let h = ups-head (suc a) i ws up (λ j l. below (suc j) (omega arith)) in
     rw q (h.0, h.1 ∙ near)
 
+-- no number is among those of the flags that are up if none is up
+ups-none : (a : ℕ) (ws : List Bool) → ((k : ℕ) → waits_at ws k ≡ false) → ups a ws ≡ []
+ups-none a ws down = nil_from_length (ups a ws) (ups-length a ws ∙ all-down ws (λ k l. down k))
+
+ups-one : (a i : ℕ) (ws : List Bool) → waits_at ws i ≡ true → ((j : ℕ) → j < i → waits_at ws j ≡ false) → ups a ws ≡ (a + i) ∷ drop 1 (ups a ws)
+ups-one a i [] up below = absurd (let z : false ≡ true = up in cc)
+ups-one a zero (w ∷ ws) up below =
+    let near : a ≡ a + zero = omega arith in
+    let q : w ≡ true = up in
+    rw q (ap (λ n. n ∷ ups (suc a) ws) near)
+ups-one a (suc i) (w ∷ ws) up below =
+    let near : suc a + i ≡ a + suc i = omega arith in
+    let q : w ≡ false = below 0 (omega arith) in
+    rw q (ups-one (suc a) i ws up (λ j l. below (suc j) (omega arith)) ∙ ap (λ n. n ∷ drop 1 (ups (suc a) ws)) near)
+
+ups-lone : (a i : ℕ) (ws : List Bool) → waits_at ws i ≡ true → ((j : ℕ) → j < i → waits_at ws j ≡ false) → ((j : ℕ) → i < j → waits_at ws j ≡ false) → ups a ws ≡ (a + i) ∷ []
+ups-lone a i [] up below after = absurd (let z : false ≡ true = up in cc)
+ups-lone a zero (w ∷ ws) up below after =
+    let near : a ≡ a + zero = omega arith in
+    let q : w ≡ true = up in
+    let none : ups (suc a) ws ≡ [] = ups-none (suc a) ws (λ k. after (suc k) (omega arith)) in
+    rw q (ap (λ n. n ∷ ups (suc a) ws) near ∙ ap (λ z. (a + zero) ∷ z) none)
+ups-lone a (suc i) (w ∷ ws) up below after =
+    let near : suc a + i ≡ a + suc i = omega arith in
+    let q : w ≡ false = below 0 (omega arith) in
+    rw q (ups-lone (suc a) i ws up (λ j l. below (suc j) (omega arith)) (λ j l. after (suc j) (omega arith)) ∙ ap (λ n. n ∷ []) near)
+
+-- the first two numbers among those of the flags that are up
+ups-two : (a i j : ℕ) (ws : List Bool) → waits_at ws i ≡ true → ((k : ℕ) → k < i → waits_at ws k ≡ false) → i < j → waits_at ws j ≡ true → ((k : ℕ) → i < k → k < j → waits_at ws k ≡ false)
+    → ups a ws ≡ (a + i) ∷ (a + j) ∷ drop 2 (ups a ws)
+ups-two a i j [] up below l more between = absurd (let z : false ≡ true = up in cc)
+ups-two a i zero (w ∷ ws) up below l more between = absurd (omega arith)
+ups-two a zero (suc j) (w ∷ ws) up below l more between =
+    let near : a ≡ a + zero = omega arith in
+    let far : suc a + j ≡ a + suc j = omega arith in
+    let q : w ≡ true = up in
+    let one = ups-one (suc a) j ws more (λ k m. between (suc k) (omega arith) (omega arith)) in
+    rw q (ap (λ n. n ∷ ups (suc a) ws) near ∙ ap (λ z. (a + zero) ∷ z) (one ∙ ap (λ n. n ∷ drop 1 (ups (suc a) ws)) far))
+ups-two a (suc i) (suc j) (w ∷ ws) up below l more between =
+    let near : suc a + i ≡ a + suc i = omega arith in
+    let far : suc a + j ≡ a + suc j = omega arith in
+    let q : w ≡ false = below 0 (omega arith) in
+    let rest = ups-two (suc a) i j ws up (λ k m. below (suc k) (omega arith)) (omega arith) more (λ k m n. between (suc k) (omega arith) (omega arith)) in
+    rw q (rest ∙ ap (λ n. n ∷ (suc a + j) ∷ drop 2 (ups (suc a) ws)) near ∙ ap (λ n. (a + suc i) ∷ n ∷ drop 2 (ups (suc a) ws)) far)
+
+-- the numbers that are left without the second
+ups-second : (a i j : ℕ) (ws : List Bool) → waits_at ws i ≡ true → ((k : ℕ) → k < i → waits_at ws k ≡ false) → i < j → waits_at ws j ≡ true → ((k : ℕ) → i < k → k < j → waits_at ws k ≡ false)
+    → filter (λ t. not (t == a + j)) (ups a ws) ≡ (a + i) ∷ drop 2 (ups a ws)
+ups-second a i j [] up below l more between = absurd (let z : false ≡ true = up in cc)
+ups-second a i zero (w ∷ ws) up below l more between = absurd (omega arith)
+ups-second a zero (suc j) (w ∷ ws) up below l more between =
+    let near : a ≡ a + zero = omega arith in
+    let far : suc a + j ≡ a + suc j = omega arith in
+    let other : (a == a + suc j) ≡ false = not_equal _ _ (λ z. absurd (omega arith)) in
+    let q : w ≡ true = up in
+    let rest : filter (λ t. not (t == a + suc j)) (ups (suc a) ws) ≡ drop 1 (ups (suc a) ws) =
+    ap (λ n. filter (λ t. not (t == n)) (ups (suc a) ws)) (sym far) ∙ ups-first (suc a) j ws more (λ k m. between (suc k) (omega arith) (omega arith)) in
+    rw (q, other) (ap (λ n. n ∷ filter (λ t. not (t == a + suc j)) (ups (suc a) ws)) near ∙ ap (λ z. (a + zero) ∷ z) rest)
+ups-second a (suc i) (suc j) (w ∷ ws) up below l more between =
+    let near : suc a + i ≡ a + suc i = omega arith in
+    let far : suc a + j ≡ a + suc j = omega arith in
+    let q : w ≡ false = below 0 (omega arith) in
+    let rest = ups-second (suc a) i j ws up (λ k m. below (suc k) (omega arith)) (omega arith) more (λ k m n. between (suc k) (omega arith) (omega arith)) in
+    rw q (ap (λ n. filter (λ t. not (t == n)) (ups (suc a) ws)) (sym far) ∙ rest ∙ ap (λ n. n ∷ drop 2 (ups (suc a) ws)) near)
+
 ups-without : (i : ℕ) (ws : List Bool) → filter (λ t. not (t == i)) (ups 0 ws) ≡ ups 0 (set ws i false)
 ups-without i ws = let near : 0 + i ≡ i = omega arith in ap (λ n. filter (λ t. not (t == n)) (ups 0 ws)) (sym near) ∙ sym (ups-set 0 i ws)
 
@@ -144,6 +209,38 @@ module _ {E S : Type 0} where
       let near : 0 + i ≡ i = omega arith in
       let h = ups-head 0 i (waiting_of c) first.waits first.below in
       rw (targets-are c) (h.0, h.1 ∙ near)
+
+  -- the first waiting bucket, and those after it
+  pub targets-one : (i : ℕ) (c : Contents E S) → IsFirstWaiting c i → pending_targets c ≡ i ∷ drop 1 (pending_targets c)
+  targets-one i c first =
+      let near : 0 + i ≡ i = omega arith in
+      targets-are c ∙ ups-one 0 i (waiting_of c) first.waits first.below ∙ ap (λ n. n ∷ drop 1 (ups 0 (waiting_of c))) near ∙ ap (λ z. i ∷ drop 1 z) (sym (targets-are c))
+
+  -- the only waiting bucket
+  pub targets-lone : (i : ℕ) (c : Contents E S) → IsLoneWaiting c i → pending_targets c ≡ i ∷ []
+  targets-lone i c h =
+      let near : 0 + i ≡ i = omega arith in
+      targets-are c ∙ ups-lone 0 i (waiting_of c) h.first.waits h.first.below h.after ∙ ap (λ n. n ∷ []) near
+
+  -- the first two waiting buckets, and those after them
+  pub targets-two : (i j : ℕ) (c : Contents E S) → IsSecondWaiting c i j → pending_targets c ≡ i ∷ j ∷ drop 2 (pending_targets c)
+  targets-two i j c h =
+      let near : 0 + i ≡ i = omega arith in
+      let far : 0 + j ≡ j = omega arith in
+      targets-are c ∙ ups-two 0 i j (waiting_of c) h.first.waits h.first.below h.behind h.waits h.between ∙ ap (λ n. n ∷ (0 + j) ∷ drop 2 (ups 0 (waiting_of c))) near
+      ∙ ap (λ n. i ∷ n ∷ drop 2 (ups 0 (waiting_of c))) far ∙ ap (λ z. i ∷ j ∷ drop 2 z) (sym (targets-are c))
+
+  -- after the second waiting bucket is relocated, `pending_targets` loses its second number
+  pub targets-second : (i j : ℕ) (c d : Contents E S) → IsSecondWaiting c i j → IsRelocated j c d → pending_targets d ≡ i ∷ drop 2 (pending_targets c)
+  targets-second i j c d h r =
+      let near : 0 + i ≡ i = omega arith in
+      let far : 0 + j ≡ j = omega arith in
+      targets-after j c d r ∙ ap (filter (λ t. not (t == j))) (targets-are c) ∙ ap (λ n. filter (λ t. not (t == n)) (ups 0 (waiting_of c))) (sym far)
+      ∙ ups-second 0 i j (waiting_of c) h.first.waits h.first.below h.behind h.waits h.between ∙ ap (λ n. n ∷ drop 2 (ups 0 (waiting_of c))) near ∙ ap (λ z. i ∷ drop 2 z) (sym (targets-are c))
+
+  -- there is one first waiting bucket
+  pub same-first : (i j : ℕ) (c : Contents E S) → IsFirstWaiting c i → IsFirstWaiting c j → i ≡ j
+  same-first i j c one other = sym (targets-head i c one).1 ∙ (targets-head j c other).1
 
   pub targets-same : (c d : Contents E S) → waiting_of d ≡ waiting_of c → pending_targets d ≡ pending_targets c
   targets-same c d same = targets-are d ∙ ap (ups 0) same ∙ sym (targets-are c)

@@ -1,6 +1,6 @@
 -- What a call does to the waiting buckets.
-use Rattle.std.specs.Prelude.{◌≡◌, ◌≢◌, ◌==◌, ℕ, ◌+◌, ◌-◌, ◌*◌, ◌<◌, ◌≤◌, ◌⊎◌, List, [], length, drop, not, slice_index_or}
-use Rattle.std.specs.List.{filter}
+use Rattle.std.specs.Prelude.{◌≡◌, ◌≢◌, ◌==◌, ℕ, ◌+◌, ◌-◌, ◌*◌, ◌<◌, ◌≤◌, ◌++◌, List, length, drop, not}
+use Rattle.std.specs.List.{filter, All}
 use Rattle.scc_common.specs.Contents.{Contents, entries, bucket_count, list_of, settings_of, waiting_of, owed_of, pending_of}
 use Rattle.scc_buckets.specs.Pour.{bound_for}
 use Rattle.scc_common.specs.Sizes.{IsArraySize, IsSmaller}
@@ -30,19 +30,19 @@ module _ {E S : Type 0} where
     pub waiting : (due → ⊥) → waiting_of d ≡ waiting_of c
     pub owed : (due → ⊥) → owed_of d ≡ owed_of c
 
-  -- the first buckets of ts are relocated, at most n, and the others wait; if fewer than n are relocated, no bucket
-  -- waits, or memory was refused for one of these or the next, which holds more than 32 entries
+  -- the first n buckets of ts are relocated, and the others wait; but if memory is refused for a bucket, which then
+  -- holds more than 32 entries, it waits too: `kept` are these of the first n
   pub record AreMovedFrom (ts : List ℕ) (n : ℕ) (d : Contents E S) : Type 0 where
-    pub count : ℕ
-    pub most : count ≤ n
-    pub left : pending_targets d ≡ drop count ts
-    pub stopped : count < n → (pending_targets d ≡ []) ⊎ ((k : ℕ) × (k ≤ count) × (k < length ts) × (32 < length (list_of d (slice_index_or ts k 0))))
+    pub kept : List ℕ
+    pub left : pending_targets d ≡ kept ++ drop n ts
+    pub long : All (λ i. 32 < length (list_of d i)) kept
 
-  -- the first buckets that waited are relocated, at most n
+  -- the first n buckets that waited are relocated, but those for which memory is refused
   abbrev pub IsMovedUpTo : ℕ → Contents E S → Contents E S → Type 0
   IsMovedUpTo n c d = AreMovedFrom (pending_targets c) n d
 
-  -- bucket i, if it is among ts, and then the first buckets of ts are relocated, at most two in all
+  -- bucket i, if it is among ts, and then the first others of ts are relocated, two in all, but those for which memory
+  -- is refused
   abbrev pub AreMovedBeside : ℕ → List ℕ → Contents E S → Type 0
   AreMovedBeside i ts d = AreMovedFrom (filter (λ t. not (t == i)) ts) (length (filter (λ t. not (t == i)) ts) + 2 - length ts) d
 

@@ -7,7 +7,7 @@ use Rattle.scc_common.specs.Routing.{bucket_number}
 use Rattle.scc_common.specs.Sizes.{IsSmaller}
 use Rattle.scc_buckets.specs.Bounded.{IsBounded}
 use Rattle.scc_table.specs.Relocates.{AreMovedBeside, AreShort, IsMovedUpTo, left_after}
-use Rattle.scc_table.specs.TwoArrays.{IsFirstWaiting, IsWaiting, pending_targets, waits_at}
+use Rattle.scc_table.specs.TwoArrays.{IsFirstWaiting, IsLoneWaiting, IsRelocated, IsSecondWaiting, IsWaiting, pending_targets, waits_at}
 
 module _ {E S : Type 0} where
   -- what an insertion of a new key does, also if it fails: without a resize, no bucket starts to wait, and at most two
@@ -20,8 +20,8 @@ module _ {E S : Type 0} where
     pub array : bucket_count c ≡ 0 → pending_of d ≡ 0
 
   -- what a successful insertion of a new key with the hash `hash` does: its bucket, if it waits, and then the first
-  -- waiting buckets are relocated, two in all. Fewer are only if no bucket waits any more, or memory was refused for
-  -- one of these or the next, which holds more than 32 entries
+  -- waiting buckets are relocated, two in all. One for which memory is refused counts and waits on; it holds more than
+  -- 32 entries
   pub record RelocatesTwo (hash : ℕ) (c d : Contents E S) : Type 0 where
     -- the bucket of the key doesn't wait
     pub not_waiting : waits_at (waiting_of d) (bucket_number (settings_of c).skipped (bucket_count d) hash) ≡ false
@@ -41,8 +41,7 @@ module _ {E S : Type 0} where
     pub less : bucket_count d ≡ bucket_count c → pending_of d ≤ pending_of c
     pub waiting : ((n : ℕ) → IsSmaller (minimum_of c) (length (entries d)) (bucket_count c) n → ⊥) → waiting_of d ≡ waiting_of c
 
-  -- the first buckets that waited are relocated, at most `count`; a try whose memory is refused counts, and its bucket
-  -- still waits
+  -- the first `count` buckets that waited are relocated; one for which memory is refused counts, and still waits
   pub record RelocatesUpTo (count : ℕ) (c d : Contents E S) : Type 0 where
     -- each list stays
     pub lists : lists_of d ≡ lists_of c
@@ -56,12 +55,18 @@ module _ {E S : Type 0} where
     pub less : pending_of d ≤ pending_of c
     -- at most `count` buckets stop waiting
     pub most : pending_of c ≤ pending_of d + count
-    -- the relocated buckets are the first ones, and fewer than `count` only if no bucket waits or memory was refused
+    -- the first `count` buckets are relocated, but those for which memory is refused
     pub moved : IsMovedUpTo count c d
     -- if no waiting bucket holds more than 32 entries, exactly the first `count` are relocated
     pub exact : AreShort c → pending_targets d ≡ drop count (pending_targets c)
     -- empty overflow lists stay empty, if no waiting bucket holds more than 32 entries
     pub bounded : IsBounded c → AreShort c → IsBounded d
+
+  -- the second waiting bucket is relocated; if there is none, or memory for it is refused, nothing changes
+  pub data TriesSecond (c d : Contents E S) : Type 0 where
+    lone : (i : ℕ) → IsLoneWaiting c i → d ≡ c → TriesSecond c d
+    kept : (i j : ℕ) → IsSecondWaiting c i j → 32 < length (list_of c j) → d ≡ c → TriesSecond c d
+    moved : (i j : ℕ) → IsSecondWaiting c i j → IsRelocated j c d → TriesSecond c d
 
   -- all waiting buckets are relocated, or memory is refused for one, which still waits with those after it
   pub record RelocatesAll {X : Type 0} (c : Contents E S) (result : Result (Unit {0}) X) (d : Contents E S) : Type 0 where
@@ -80,6 +85,6 @@ module _ {E S : Type 0} where
     -- on failure, the first waiting bucket holds more than 32 entries
     pub refused : OnErr result ((i : ℕ) × (IsFirstWaiting d i) × (32 < length (list_of d i)))
     -- the relocated buckets are the first ones
-    pub moved : IsMovedUpTo (pending_of c) c d
+    pub moved : (count : ℕ) × (pending_targets d ≡ drop count (pending_targets c))
     -- empty overflow lists stay empty, if no waiting bucket holds more than 32 entries
     pub bounded : IsBounded c → AreShort c → IsBounded d

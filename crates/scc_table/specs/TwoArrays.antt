@@ -62,6 +62,18 @@ module _ {E S : Type 0} where
     pub waits : IsWaiting c i
     pub below : (j : ℕ) → j < i → waits_at (waiting_of c) j ≡ false
 
+  -- bucket i alone waits
+  pub record IsLoneWaiting (c : Contents E S) (i : ℕ) : Type 0 where
+    pub first : IsFirstWaiting c i
+    pub after : (j : ℕ) → i < j → waits_at (waiting_of c) j ≡ false
+
+  -- bucket i is the first waiting bucket, and bucket j the second
+  pub record IsSecondWaiting (c : Contents E S) (i j : ℕ) : Type 0 where
+    pub first : IsFirstWaiting c i
+    pub behind : i < j
+    pub waits : IsWaiting c j
+    pub between : (k : ℕ) → i < k → k < j → waits_at (waiting_of c) k ≡ false
+
   -- the numbers of the waiting buckets, in rising order
   abbrev pub pending_targets : Contents E S → List ℕ
   pending_targets c = filter (waits_at (waiting_of c)) (range_with_len 0 (length (waiting_of c)))

@@ -7,7 +7,7 @@ ghost use Rattle.scc_table.specs.Puts.{PutsWithin, MovesToEnd, PutsAtEnd};
 ghost use Rattle.scc_table.specs.Relocates.{left_after};
 ghost use Rattle.scc_table.specs.TwoArrays.{IsRelocated, IsWaiting, pending_targets, waits_at};
 ghost use Rattle.std.specs.List.{filter};
-ghost use Rattle.std.specs.Prelude.{◌≡◌, ◌==◌, ◌<◌, false, drop, not, length, Some, slice_get};
+ghost use Rattle.std.specs.Prelude.{◌≡◌, ◌==◌, ◌<◌, ◌≤◌, false, drop, not, length, Some, slice_get};
 
 use crate::Table;
 use scc_common::Keyed;
@@ -84,6 +84,7 @@ where
         requires not_waiting { waits_at (waiting_of self.old) bucket ≡ false }
         requires listed { IsListed (λ e. key_hash H.BuildHasher H.Hasher.Hasher E.Key.hash_input self.old
             (E.key_of e)) self.old }
+        requires most { most ≤ 2 }
         ensures { PutsWithin E.Key.eq E.key_of (key_hash H.BuildHasher H.Hasher.Hasher E.Key.hash_input) self.old
             bucket entry (drop most (pending_targets self.old)) most result self.new }
     {

@@ -5,7 +5,7 @@ ghost use Rattle.scc_table.specs.Insertions.{InsertsAndRelocates, InsertsThenRel
 ghost use Rattle.scc_table.specs.Puts.{InsertsIn};
 ghost use Rattle.scc_table.specs.TwoArrays.{IsWaiting, pending_targets, waits_at};
 ghost use Rattle.std.specs.List.{position};
-ghost use Rattle.std.specs.Prelude.{◌≡◌, ◌<◌, ◌+◌, false, length, None, Ok};
+ghost use Rattle.std.specs.Prelude.{◌≡◌, ◌<◌, ◌≤◌, ◌+◌, false, length, None, Ok};
 
 use crate::Table;
 use scc_buckets::Place;
@@ -108,8 +108,8 @@ where
         }
     }
 
-    /// As `insert_and_relocate`, if `bucket` doesn't wait, and relocates the first `most` waiting buckets after the
-    /// insertion.
+    /// As `insert_and_relocate`, if `bucket` doesn't wait, and relocates the first `most` waiting buckets, at most two,
+    /// after the insertion.
     #[inline(always)]
     pub(crate) fn insert_then_relocate(
         &mut self,
@@ -121,6 +121,7 @@ where
         requires new { IsNewIn E.Key.eq E.key_of (key_hash H.BuildHasher H.Hasher.Hasher E.Key.hash_input self.old) self.old
             bucket hash (E.key_of entry) }
         requires not_waiting { waits_at (waiting_of self.old) bucket ≡ false }
+        requires most { most ≤ 2 }
         ensures { InsertsThenRelocates E.Key.eq E.key_of self.old bucket entry entry (pending_targets self.old) most most
             (HasRoomBy (key_hash H.BuildHasher H.Hasher.Hasher E.Key.hash_input self.old) E.key_of self.old
             (E.key_of entry) → ⊥) result self.new }

@@ -6,7 +6,7 @@ ghost use Rattle.scc_table.specs.MadeInsertions.{InsertsMade, InsertsMadeFirst, 
 ghost use Rattle.scc_table.specs.Puts.{InsertsIn};
 ghost use Rattle.scc_table.specs.TwoArrays.{IsWaiting, pending_targets, waits_at};
 ghost use Rattle.std.specs.List.{position};
-ghost use Rattle.std.specs.Prelude.{◌≡◌, ◌<◌, false, None};
+ghost use Rattle.std.specs.Prelude.{◌≡◌, ◌<◌, ◌≤◌, false, None};
 
 use crate::Table;
 use scc_buckets::Place;
@@ -152,8 +152,8 @@ where
         }
     }
 
-    /// As `insert_made_and_relocate`, if `bucket` doesn't wait, and relocates the first `most` waiting buckets after
-    /// the insertion.
+    /// As `insert_made_and_relocate`, if `bucket` doesn't wait, and relocates the first `most` waiting buckets, at most
+    /// two, after the insertion.
     #[inline(always)]
     fn insert_made_then_relocate(
         &mut self,
@@ -165,6 +165,7 @@ where
         requires new { IsNewIn E.Key.eq E.key_of (key_hash H.BuildHasher H.Hasher.Hasher E.Key.hash_input self.old) self.old
             bucket hash (E.key_of (E.made_of parts)) }
         requires not_waiting { waits_at (waiting_of self.old) bucket ≡ false }
+        requires most { most ≤ 2 }
         ensures { InsertsThenRelocates E.Key.eq E.key_of self.old bucket (E.made_of parts) parts
             (pending_targets self.old) most most (Unit {0}) result self.new }
     {

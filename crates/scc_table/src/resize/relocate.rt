@@ -2,9 +2,9 @@
 ghost use Rattle.scc_buckets.specs.Bounded.{IsBounded};
 ghost use Rattle.scc_common.specs.Contents.{entries, list_of, pending_of};
 ghost use Rattle.scc_table.specs.Relocates.{AreShort};
-ghost use Rattle.scc_table.specs.Relocations.{RelocatesUpTo, RelocatesAll};
-ghost use Rattle.scc_table.specs.TwoArrays.{IsWaiting, IsFirstWaiting, IsRelocated};
-ghost use Rattle.std.specs.Prelude.{◌≡◌, ◌<◌, ◌+◌, false, ◌≤◌, ℕ, length, OnOk, OnErr};
+ghost use Rattle.scc_table.specs.Relocations.{RelocatesUpTo, RelocatesAll, TriesSecond};
+ghost use Rattle.scc_table.specs.TwoArrays.{IsWaiting, IsFirstWaiting, IsLoneWaiting, IsRelocated, IsSecondWaiting};
+ghost use Rattle.std.specs.Prelude.{◌≡◌, ◌<◌, ◌+◌, false, ◌≤◌, ℕ, length, IfNone, IfSome, OnOk, OnErr};
 
 use crate::Table;
 use scc_array::Array;
@@ -17,20 +17,41 @@ impl<E: Keyed, H: BuildHasher> Table<E, H>
 where
     E::Key: Eq + Hash,
 {
-    /// Relocates the first waiting bucket, up to `most` times. A try whose memory is refused counts, and its bucket
-    /// still waits.
+    /// Relocates the first waiting buckets, `most` of them, which is at most two. A bucket whose memory is refused
+    /// counts, and still waits.
     #[inline(always)]
     pub(crate) fn relocate_some(&mut self, most: usize)
+        requires { most ≤ 2 }
         ensures { RelocatesUpTo most self.old self.new }
     {
-        for _ in 0..most {
+        for done in 0..most {
             if self.draining.pending == 0 {
                 return;
             }
             match self.relocate_next() {
                 Ok(()) => {}
-                Err(_) => {}
+                Err(_) => {
+                    if done + 1 < most {
+                        self.relocate_second();
+                    }
+                    return;
+                }
             }
+        }
+    }
+
+    /// Relocates the second waiting bucket, if there is one and its memory isn't refused.
+    #[cold]
+    fn relocate_second(&mut self)
+        requires { 0 < pending_of self.old }
+        ensures { TriesSecond self.old self.new }
+    {
+        match self.second_waiting() {
+            Some(bucket) => match self.relocate(bucket) {
+                Ok(()) => {}
+                Err(_) => {}
+            },
+            None => {}
         }
     }
 
@@ -81,6 +102,22 @@ where
             }
         }
         unreachable!()
+    }
+
+    /// Returns the number of the second waiting bucket, if there is one.
+    fn second_waiting(&self) -> Option<usize>
+        requires { 0 < pending_of self.now }
+        ensures lone { IfNone result ((i : ℕ) × IsLoneWaiting self.now i) }
+        ensures second { IfSome result (λ j. (i : ℕ) × IsSecondWaiting self.now i j) }
+    {
+        let first = self.first_waiting();
+        let end = self.draining.waiting.len();
+        for bucket in first + 1..end {
+            if self.draining.waiting[bucket] {
+                return Some(bucket);
+            }
+        }
+        None
     }
 
     /// Relocates the first waiting bucket, as `relocate` does. Later calls don't visit the buckets before it.

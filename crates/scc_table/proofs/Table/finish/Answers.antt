@@ -1,10 +1,9 @@
 use Rattle.std.proofs.Common.{◌≡◌, ◌≤◌, ◌∙◌, drop, refl, sym, subst, ap, arith, rules}
-use Rattle.scc_table.specs.Relocates.{AreMovedFrom}
 use Rattle.scc_common.specs.Contents.{pending_of, waiting_of}
 use Rattle.scc_table.proofs.Finishing.{finish-start, finish-step}
 use Rattle.scc_table.specs.TwoArrays.{pending_targets}
 use Rattle.scc_table.proofs.Joining.{waiting-together, pending-together}
-use Rattle.scc_table.proofs.RelocatingWithin.{drop-next, moved-all, moved-most, moved-none}
+use Rattle.scc_table.proofs.RelocatingWithin.{drop-next}
 use Rattle.scc_table.proofs.Targets.{targets-first}
 use Rattle.scc_table.proofs.Table.finish.Goals as goal
 
@@ -41,7 +40,7 @@ returns g c =
       less = (search rules);
       ok = (c.loop.invariant.0.none (omega (arith, c.loop.invariant.0.left, counted)));
       refused = (search rules);
-      moved = (moved-all (pending_targets a) c.loop.self c.loop.counter (pending_of a) (moved-most (pending_targets a) c.loop.self c.loop.counter c.loop.invariant.1) (omega (arith, c.loop.invariant.0.left)) (omega (arith, c.loop.invariant.0.left, counted)));
+      moved = (c.loop.counter, c.loop.invariant.1);
       bounded = (search rules);
     }
 
@@ -55,12 +54,6 @@ returns-in_err-relocate_next g c =
       less = (search rules);
       ok = (search rules);
       refused = (search rules);
-      moved = (
-          let a = c.args.self.now in
-          let d = c.loop.self in
-          let long = c.in_err-relocate_next.ensures.refused in
-          let most : c.loop.counter ≤ pending_of a = omega (arith, c.loop.invariant.0.left) in
-          subst (λ z. AreMovedFrom (pending_targets a) (pending_of a) z) (sym c.in_err-relocate_next.ensures.err)
-          (moved-none (pending_targets a) d c.loop.counter (pending_of a) long.0 (moved-most (pending_targets a) d c.loop.counter c.loop.invariant.1) most long.1 long.2));
+      moved = (c.loop.counter, subst (λ z. pending_targets z ≡ drop c.loop.counter (pending_targets c.args.self.now)) (sym c.in_err-relocate_next.ensures.err) c.loop.invariant.1);
       bounded = (search rules);
     }

@@ -1,5 +1,5 @@
 use Rattle.scc_table.proofs.RelocatingWithin.{SettlesFirst}
 use Rattle.scc_table.proofs.Table.relocate_some.Given as goal
 
-abbrev pub invariant-loop : goal.invariant-loop
-invariant-loop g l = SettlesFirst l.initial.self l.self l.counter
+abbrev pub invariant-loop-done : goal.invariant-loop-done
+invariant-loop-done g l = SettlesFirst l.initial.self l.self l.done
