@@ -22,9 +22,9 @@ module _ {K V S : Type 0} (eq : K → K → Bool) where
     -- puts keep the settings
     pub collected-settings : (c : Cached (K × V) S) (ps : List (K × V)) (d : Cached (K × V) S) → PutsAll eq hash c ps d → settings_of d.contents ≡ settings_of c.contents
     collected-settings c [] d s = sym (ap (λ z. settings_of z.contents) s)
-    collected-settings c (p ∷ ps) d s = collected-settings s.0 ps d s.2 ∙ put-settings (hash c.contents) c p s.1.0 s.0 s.1.1
+    collected-settings c (p ∷ ps) d s = collected-settings s.0 ps d s.2 ∙ put-settings (hash c.contents) c p s.1.0 s.0 s.1.1.step
 
     -- puts keep the maximum
     pub collected-maximum : (c : Cached (K × V) S) (ps : List (K × V)) (d : Cached (K × V) S) → PutsAll eq hash c ps d → d.maximum ≡ c.maximum
     collected-maximum c [] d s = sym (ap (λ z. z.maximum) s)
-    collected-maximum c (p ∷ ps) d s = collected-maximum s.0 ps d s.2 ∙ put-maximum (hash c.contents) c p s.1.0 s.0 s.1.1
+    collected-maximum c (p ∷ ps) d s = collected-maximum s.0 ps d s.2 ∙ put-maximum (hash c.contents) c p s.1.0 s.0 s.1.1.step

@@ -21,7 +21,7 @@ use Rattle.scc_buckets.specs.declared.place.Place.{Place}
 use Rattle.scc_array.specs.ShelfWrites.{length-write_at}
 use Rattle.scc_buckets.proofs.KeyWrites.{get-write_at}
 use Rattle.scc_table.proofs.AtPlaces.{place-prop}
-use Rattle.scc_cache.specs.CacheSteps.{ChangesLists, IsFound, IsLastAt, PutsNew, list_number}
+use Rattle.scc_cache.specs.CacheSteps.{ChangesLists, IsFound, IsLastAt, IsPreparedForPut, PutsNew, list_number}
 use Rattle.scc_cache.specs.Caches.{Cached}
 use Rattle.scc_common.specs.declared.errors.InsertError.{InsertError}
 use Rattle.scc_cache.specs.Entries.{Memory, Occupied, Vacant, entry_guard, occupied_pair, IsMoved, IsPut, IsRefreshed, IsReplacedBy, IsWritten, OrPuts, OrPutsSome, Refuses, RefusesSome, SetsEntry, written_cache, still_within, with_value}
@@ -252,14 +252,15 @@ module _ {G N K V S T : Type 0} {d : guard.Ghosts G (Cached (K × V) S)} {g : eq
 
   -- if a pair is put through the guard, the returned entry stands at that pair
   pub put-after : (same : K → K → Bool) (e : HeldVacant G N K V S T d g h b w) (m n : Cached (K × V) S) (v : V) (x : Option (K × V)) (o : HeldOccupied G N K V S T d g h b w) (q : Place) → o.guard ≡ d.with_inner e.guard n → o.place ≡ q → o.rest ≡ e.rest → m ≡ d.inner e.guard
-      → PutsNew (key_hash b w h.hash_input m.contents) same m (e.key, v) x n → RelocatesTwoWithin (key_hash b w h.hash_input m.contents e.key) m.contents n.contents → slice_get (list_of n.contents (spot_of n.contents q).bucket) (spot_of n.contents q).slot ≡ Some (e.key, v) → IsPut same e v x o
-  put-after same e m n v x o q guarded placed rests is step moved got =
+      → PutsNew (key_hash b w h.hash_input m.contents) same m (e.key, v) x n → RelocatesTwoWithin (key_hash b w h.hash_input m.contents e.key) m.contents n.contents → (IsPreparedForPut (key_hash b w h.hash_input m.contents) m e.key → bucket_count n.contents ≡ bucket_count m.contents) → slice_get (list_of n.contents (spot_of n.contents q).bucket) (spot_of n.contents q).slot ≡ Some (e.key, v) → IsPut same e v x o
+  put-after same e m n v x o q guarded placed rests is step moved once got =
       let k : d.inner o.guard ≡ n = ap d.inner guarded ∙ d.inner_law e.guard n in
       record {
         same_guard = guarded ∙ ap (d.with_inner e.guard) (sym k);
         rest = rests;
         step = subst (λ c. PutsNew (key_hash b w h.hash_input c.contents) same c (e.key, v) x (d.inner o.guard)) is (subst (λ c. PutsNew (key_hash b w h.hash_input m.contents) same m (e.key, v) x c) (sym k) step);
         relocates = subst (λ c. RelocatesTwoWithin (key_hash b w h.hash_input c.contents e.key) c.contents (d.inner o.guard).contents) is (subst (λ c. RelocatesTwoWithin (key_hash b w h.hash_input m.contents e.key) m.contents c.contents) (sym k) moved);
+        once = subst (λ c. IsPreparedForPut (key_hash b w h.hash_input c.contents) c e.key → bucket_count (d.inner o.guard).contents ≡ bucket_count c.contents) is (subst (λ c. IsPreparedForPut (key_hash b w h.hash_input m.contents) m e.key → bucket_count c.contents ≡ bucket_count m.contents) (sym k) once);
         pair = sym (pair-is o n (e.key, v) (sym k) (subst (λ a. slice_get (list_of n.contents (spot_of n.contents a).bucket) (spot_of n.contents a).slot ≡ Some (e.key, v)) (sym placed) got));
       }
 

@@ -1,7 +1,7 @@
 -- Which buckets wait after a write, after a removal, and after a shrink that was tried.
-use Rattle.std.proofs.Common.{◌≡◌, ◌≢◌, ◌==◌, ℕ, ◌+◌, ◌<◌, ◌≤◌, inl, inr, Bool, Option, None, Some, false, not, [], length, refl, sym, ap, ◌∙◌, subst, arith}
+use Rattle.std.proofs.Common.{◌≡◌, ◌≢◌, ◌==◌, ℕ, ◌+◌, ◌<◌, ◌≤◌, inl, inr, Bool, Option, None, Some, true, false, not, [], length, replicate, refl, sym, ap, ◌∙◌, subst, arith}
 use Rattle.std.specs.Prelude.{OnSome, MatchOption}
-use Rattle.std.specs.List.{count_by, filter, position}
+use Rattle.std.specs.List.{count_by, filter, position, range_with_len}
 use Rattle.scc_buckets.specs.Bounded.{MayShrinkWithin, ShrinksBounded, stays_wide, denied_narrow, narrows}
 use Rattle.scc_common.specs.Contents.{Contents, Settings, entries, bucket_count, lists_of, pending_of, refused_of, settings_of, waiting_of}
 use Rattle.scc_common.specs.Routing.{bucket_number}
@@ -14,7 +14,7 @@ use Rattle.scc_table.specs.TwoArrays.{pending_targets, waits_at}
 use Rattle.scc_table.proofs.Finishing.{pending-is}
 use Rattle.scc_table.proofs.Placing.{none-left}
 use Rattle.scc_table.proofs.Same.{count-same, pending-same}
-use Rattle.scc_table.proofs.Targets.{targets-length, targets-same, targets-without}
+use Rattle.scc_table.proofs.Targets.{targets-all, targets-length, targets-same, targets-without}
 use Rattle.scc_cache.specs.CacheSteps.{ChangesLists, IsLacking, IsLastAt, list_number}
 use Rattle.scc_cache.specs.Caches.{Cached}
 use Rattle.scc_cache.specs.Lends.{with_key_at, with_value_at}
@@ -85,8 +85,8 @@ module _ {E S : Type 0} (h : ℕ) where
 -- the waiting buckets after a put: m is the cache after the growth, if one was due, and i is the bucket of the key
 module _ {E S : Type 0} (hash i : ℕ) (c m d : Contents E S) (at : i ≡ bucket_number (settings_of c).skipped (bucket_count m) hash) (count : bucket_count d ≡ bucket_count m) (some : i < bucket_count m) (lawful : IsLawful (bucket_count m)) where
   pub put-relocates : (bucket_count c ≡ 0 → waiting_of m ≡ []) → (0 < bucket_count c → bucket_count m ≡ bucket_count c → waiting_of m ≡ waiting_of c) → (0 < bucket_count c → bucket_count m ≢ bucket_count c → pending_of m ≡ bucket_count m)
-      → waits_at (waiting_of d) i ≡ false → pending_targets d ≡ left_after i (pending_targets m) → (2 ≤ pending_of m → pending_of d + 2 ≡ pending_of m) → RelocatesTwoWithin hash c d
-  put-relocates first waiting all not_waiting exact two = record {
+      → (0 < bucket_count c → bucket_count m ≢ bucket_count c → waiting_of m ≡ replicate (bucket_count m) true) → waits_at (waiting_of d) i ≡ false → pending_targets d ≡ left_after i (pending_targets m) → (2 ≤ pending_of m → pending_of d + 2 ≡ pending_of m) → RelocatesTwoWithin hash c d
+  put-relocates first waiting all flags not_waiting exact two = record {
     not_waiting = ap (waits_at (waiting_of d)) (sym (at ∙ ap (λ n. bucket_number (settings_of c).skipped n hash) (sym count))) ∙ not_waiting;
     exact = λ one same.
         let stay : bucket_count m ≡ bucket_count c = sym count ∙ same in
@@ -96,6 +96,9 @@ module _ {E S : Type 0} (hash i : ℕ) (c m d : Contents E S) (at : i ≡ bucket
         let least : 2 ≤ bucket_count m = elim lawful [ inl z ↦ absurd (omega arith) | inr z ↦ z.least ] in
         let both = two (omega arith) in
         omega arith;
+    spread = λ one other.
+        let every = targets-all (bucket_count m) m (flags one (λ e. other (count ∙ e))) in
+        exact ∙ ap (left_after i) (every ∙ ap (range_with_len 0) (sym count)) ∙ ap (λ j. left_after j (range_with_len 0 (bucket_count d))) (at ∙ ap (λ n. bucket_number (settings_of c).skipped n hash) (sym count));
     first = λ zero.
         let none : pending_of m ≡ 0 = pending-is m ∙ ap (count_by (λ w. w)) (first zero) in
         let same : pending_targets d ≡ pending_targets m = exact ∙ sym (none-left i m (pending_targets m) none refl) in

@@ -18,7 +18,7 @@ use Rattle.scc_table.specs.Placed.{entry_of, IsPlace-with_write_at}
 use Rattle.scc_table.specs.Places.{IsPlace, spot_of}
 use Rattle.scc_common.specs.declared.errors.InsertError.{InsertError}
 use Rattle.scc_common.specs.declared.guard.Guard as guard
-use Rattle.scc_cache.specs.CacheSteps.{ChangesLists, IsAbsent, PutsNew, list_number}
+use Rattle.scc_cache.specs.CacheSteps.{ChangesLists, IsAbsent, IsPreparedForPut, PutsNew, list_number}
 use Rattle.scc_cache.specs.Caches.{Cached}
 use Rattle.scc_cache.specs.Lends.{cache_row, with_value_at}
 use Rattle.scc_cache.specs.ListSteps.{RefreshesAs}
@@ -97,6 +97,8 @@ module _ {G N K V S T : Type 0} {d : guard.Ghosts G (Cached (K × V) S)} {g : eq
     pub rest : o.rest ≡ e.rest
     pub step : PutsNew (key_hash b w h.hash_input (d.inner e.guard).contents) same (d.inner e.guard) (e.key, v) x (d.inner o.guard)
     pub relocates : RelocatesTwoWithin (key_hash b w h.hash_input (d.inner e.guard).contents e.key) (d.inner e.guard).contents (d.inner o.guard).contents
+    -- if the put was prepared, the number of buckets stays
+    pub once : IsPreparedForPut (key_hash b w h.hash_input (d.inner e.guard).contents) (d.inner e.guard) e.key → bucket_count (d.inner o.guard).contents ≡ bucket_count (d.inner e.guard).contents
     pub pair : occupied_pair o ≡ (e.key, v)
 
   -- the cache after v became the value of the entry's pair

@@ -5,6 +5,7 @@ pub mod Collections
 pub mod Entries
 pub mod Lends
 pub mod ListSteps
+pub mod LookUps
 pub mod Making
 pub mod Relocations
 pub mod TakingWalks

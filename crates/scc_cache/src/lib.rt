@@ -4,11 +4,13 @@
 ghost use Rattle.scc_cache.specs.CacheSteps.{AnswersOn, IsAbsent, IsPreparedForPut, IsPresent, Puts, Removes};
 ghost use Rattle.scc_cache.specs.CacheWalks.{RemovesIf};
 ghost use Rattle.scc_cache.specs.Caches.{IsCacheState};
+ghost use Rattle.scc_cache.specs.LookUps.{FindsAfterPut};
 ghost use Rattle.scc_cache.specs.Relocations.{RelocatesNoneWithin, RelocatesTwoWithin};
-ghost use Rattle.scc_common.specs.Contents.{entries, bucket_count, minimum_of, pending_of, waiting_of, key_hash, hash_in, IsUnmarked};
+ghost use Rattle.scc_common.specs.Contents.{entries, bucket_count, minimum_of, pending_of, refused_of, waiting_of, key_hash, hash_in};
+ghost use Rattle.scc_common.specs.Pairs.{FindsInstead};
 ghost use Rattle.std.specs.Borrow.{Bor};
 ghost use Rattle.std.specs.Fn.{FnOnceTakesAtMut};
-ghost use Rattle.std.specs.Prelude.{◌≡◌, ◌≤◌, ◌<◌, ◌*◌, ◌↔◌, [], false, length, None, Some, IsTrue, IsOk, OnOk, MatchOption};
+ghost use Rattle.std.specs.Prelude.{◌≡◌, ◌≤◌, ◌<◌, ◌*◌, ◌↔◌, [], false, length, None, Some, IsTrue, IsOk, IfOk, OnOk, OnSome, MatchOption};
 
 pub mod borrowed;
 pub mod held;
@@ -150,6 +152,8 @@ impl<K: Eq + Hash, V, H: BuildHasher> Owned<K, V, H> {
     #[inline(always)]
     pub fn put_sync(&mut self, k: K, v: V) -> Result<EvictedEntry<K, V>, InsertError<K, V>>
         ensures step { Puts (hash_in ⟦<H as Hashes<K>>⟧.hash_of self.old.contents) K.eq self.old (k, v) result self.new }
+        ensures finds { IfOk result (λ out. FindsAfterPut K.eq (entries self.old.contents) (k, v) out
+            (entries self.new.contents)) }
         ensures succeeds { IsAbsent (hash_in ⟦<H as Hashes<K>>⟧.hash_of self.old.contents) K.eq self.old.contents k
             → 0 < bucket_count self.old.contents → IsOk result }
         ensures state { IsCacheState K.eq (hash_in ⟦<H as Hashes<K>>⟧.hash_of self.new.contents) self.new }
@@ -157,7 +161,7 @@ impl<K: Eq + Hash, V, H: BuildHasher> Owned<K, V, H> {
             self.old.contents self.new.contents) }
         ensures once { IsPreparedForPut (hash_in ⟦<H as Hashes<K>>⟧.hash_of self.old.contents) self.old k
             → bucket_count self.new.contents ≡ bucket_count self.old.contents }
-        ensures unmarked { OnOk result (IsUnmarked self.new.contents) }
+        ensures unmarked { OnOk result ((refused_of self.new.contents).1 ≡ false) }
     {
         let hash = self.table.hash(&k);
         match self.find(hash, &k) {
@@ -175,6 +179,8 @@ impl<K: Eq + Hash, V, H: BuildHasher> Owned<K, V, H> {
     pub fn remove_sync(&mut self, k: &K) -> Option<(K, V)>
         ensures step { Removes (hash_in ⟦<H as Hashes<K>>⟧.hash_of self.old.contents) K.eq self.old k.now result
             self.new }
+        ensures finds { OnSome result (FindsInstead K.eq (entries self.old.contents) k.now None
+            (entries self.new.contents)) }
         ensures state { IsCacheState K.eq (hash_in ⟦<H as Hashes<K>>⟧.hash_of self.new.contents) self.new }
         ensures relocates { RelocatesNoneWithin (λ p. hash_in ⟦<H as Hashes<K>>⟧.hash_of self.old.contents p.0)
             self.old.contents self.new.contents }

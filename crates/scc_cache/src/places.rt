@@ -2,13 +2,15 @@
 ghost use Rattle.scc_cache.specs.CacheSteps.{IsFound, IsLacking, IsLastAt, IsPreparedForPut, PutsNew, TakesAt};
 ghost use Rattle.scc_cache.specs.Caches.{IsCacheState};
 ghost use Rattle.scc_cache.specs.Lends.{lends_value, with_key_at, with_value_at};
+ghost use Rattle.scc_cache.specs.LookUps.{FindsAfterPut};
 ghost use Rattle.scc_cache.specs.Relocations.{RelocatesNoneWithin, RelocatesOne, RelocatesTwoWithin};
-ghost use Rattle.scc_common.specs.Contents.{entries, bucket_count, list_of, hash_in, settings_of, waiting_of, IsUnmarked};
+ghost use Rattle.scc_common.specs.Contents.{entries, bucket_count, list_of, hash_in, refused_of, settings_of, waiting_of};
+ghost use Rattle.scc_common.specs.Pairs.{FindsInstead};
 ghost use Rattle.scc_common.specs.Routing.{bucket_number};
 ghost use Rattle.scc_table.specs.Places.{IsPlace, index_of, spot_of};
 ghost use Rattle.scc_table.specs.TwoArrays.{IsWaiting};
 ghost use Rattle.std.specs.Borrow.{sem};
-ghost use Rattle.std.specs.Prelude.{◌≡◌, ◌<◌, true, Some, OnSome, MatchOption, IfOk, IfErr, OnOk, slice_get};
+ghost use Rattle.std.specs.Prelude.{◌≡◌, ◌<◌, true, false, Some, None, OnSome, MatchOption, IfOk, IfErr, OnOk, slice_get};
 
 use crate::{EvictedEntry, Owned};
 use scc_buckets::Place;
@@ -68,7 +70,9 @@ impl<K: Eq + Hash, V, H: BuildHasher> Owned<K, V, H> {
             self.old.contents self.new.contents) }
         ensures once { IsPreparedForPut (hash_in ⟦<H as Hashes<K>>⟧.hash_of self.old.contents) self.old k
             → bucket_count self.new.contents ≡ bucket_count self.old.contents }
-        ensures unmarked { OnOk result (IsUnmarked self.new.contents) }
+        ensures unmarked { OnOk result ((refused_of self.new.contents).1 ≡ false) }
+        ensures finds { IfOk result (λ r. FindsAfterPut K.eq (entries self.old.contents) (k, v) r.0
+            (entries self.new.contents)) }
     {
         match self.table.bucket_within(hash, self.maximum) {
             Ok(bucket) => {
@@ -149,6 +153,7 @@ impl<K: Eq + Hash, V, H: BuildHasher> Owned<K, V, H> {
         requires { IsPlace self.old.contents place }
         ensures pair { slice_get (list_of self.old.contents (spot_of self.old.contents place).bucket)
             (spot_of self.old.contents place).slot ≡ Some result }
+        ensures finds { FindsInstead K.eq (entries self.old.contents) result.0 None (entries self.new.contents) }
         ensures left { TakesAt (hash_in ⟦<H as Hashes<K>>⟧.hash_of self.old.contents) self.old place self.new }
         ensures state { IsCacheState K.eq (hash_in ⟦<H as Hashes<K>>⟧.hash_of self.new.contents) self.new }
         ensures relocates { RelocatesNoneWithin (λ p. hash_in ⟦<H as Hashes<K>>⟧.hash_of self.old.contents p.0)

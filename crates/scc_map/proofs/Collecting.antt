@@ -14,11 +14,6 @@ use Rattle.scc_map.proofs.CallerLemmas.{finds-inserted, finds-set_value, find-eq
 use Rattle.scc_buckets.proofs.Lookups.{distinct-IsPermutation}
 use Rattle.scc_buckets.proofs.PairSplits.{by_answer, cond-true, cond-false, distinct-added}
 
--- the step of a successful upsert doesn't depend on the hash: only a refusal for memory depends on it
-pub upsert-any_hash : {K V S : Type 0} (eq : K → K → Bool) (h i : K → ℕ) (c : Contents (K × V) S) (p : K × V) (r : Option V) (d : Contents (K × V) S) → Upserts eq h c p (Ok r) d → Upserts eq i c p (Ok r) d
-upsert-any_hash eq h i c p None d s = s
-upsert-any_hash eq h i c p (Some v) d s = s
-
 module _ {K V : Type 0} where
   -- what a look-up finds after p is upserted: true says that the searched key equals the key of p
   abbrev stored : Bool → K × V → Option (K × V) → Option (K × V)
@@ -73,24 +68,25 @@ module _ {K V S : Type 0} {eq : K → K → Bool} (laws : IsEquivalence eq) (h :
   upsert-settings c p None d s = s.1.settings
   upsert-settings c p (Some v) d s = s.2.settings
 
+module _ {K V S : Type 0} {eq : K → K → Bool} (laws : IsEquivalence eq) (hash : Contents (K × V) S → K → ℕ) where
   -- upserts keep the settings
-  pub collected-settings : (c : Contents (K × V) S) (ps : List (K × V)) (d : Contents (K × V) S) → UpsertsAll eq h c ps d → settings_of d ≡ settings_of c
+  pub collected-settings : (c : Contents (K × V) S) (ps : List (K × V)) (d : Contents (K × V) S) → UpsertsAll eq hash c ps d → settings_of d ≡ settings_of c
   collected-settings c [] d s = sym (ap settings_of s)
-  collected-settings c (p ∷ ps) d s = collected-settings s.0 ps d s.2 ∙ upsert-settings c p s.1.0 s.0 s.1.1
+  collected-settings c (p ∷ ps) d s = collected-settings s.0 ps d s.2 ∙ upsert-settings laws (hash c) c p s.1.0 s.0 s.1.1.step
 
   -- upserts keep the keys distinct
-  pub collected-distinct : (c : Contents (K × V) S) (ps : List (K × V)) (d : Contents (K × V) S) → UpsertsAll eq h c ps d → IsUnique eq c → IsUnique eq d
+  pub collected-distinct : (c : Contents (K × V) S) (ps : List (K × V)) (d : Contents (K × V) S) → UpsertsAll eq hash c ps d → IsUnique eq c → IsUnique eq d
   collected-distinct c [] d s u = subst (λ z. IsUnique eq z) s u
-  collected-distinct c (p ∷ ps) d s u = collected-distinct s.0 ps d s.2 (upsert-distinct c p s.1.0 s.0 s.1.1 u)
+  collected-distinct c (p ∷ ps) d s u = collected-distinct s.0 ps d s.2 (upsert-distinct laws (hash c) c p s.1.0 s.0 s.1.1.step u)
 
-  finds-along : (c : Contents (K × V) S) (ps : List (K × V)) (d : Contents (K × V) S) → UpsertsAll eq h c ps d → IsUnique eq c → (q : K) → find eq (entries d) q ≡ fold (λ o p. stored (eq q p.0) p o) (find eq (entries c) q) ps
+  finds-along : (c : Contents (K × V) S) (ps : List (K × V)) (d : Contents (K × V) S) → UpsertsAll eq hash c ps d → IsUnique eq c → (q : K) → find eq (entries d) q ≡ fold (λ o p. stored (eq q p.0) p o) (find eq (entries c) q) ps
   finds-along c [] d s u q = ap (λ z. find eq (entries z) q) (sym s)
   finds-along c (p ∷ ps) d s u q =
-      let v = upsert-distinct c p s.1.0 s.0 s.1.1 u in
-      finds-along s.0 ps d s.2 v q ∙ ap (λ o. fold (λ o p. stored (eq q p.0) p o) o ps) (upsert-finds c p s.1.0 s.0 s.1.1 v q)
+      let v = upsert-distinct laws (hash c) c p s.1.0 s.0 s.1.1.step u in
+      finds-along s.0 ps d s.2 v q ∙ ap (λ o. fold (λ o p. stored (eq q p.0) p o) o ps) (upsert-finds laws (hash c) c p s.1.0 s.0 s.1.1.step v q)
 
   -- after upserts into an empty map, a look-up finds the first upserted key with the last upserted value
-  pub collected-finds : (c : Contents (K × V) S) (ps : List (K × V)) (d : Contents (K × V) S) → UpsertsAll eq h c ps d → IsUnique eq c → entries c ≡ [] → FindsItems eq ps (entries d)
+  pub collected-finds : (c : Contents (K × V) S) (ps : List (K × V)) (d : Contents (K × V) S) → UpsertsAll eq hash c ps d → IsUnique eq c → entries c ≡ [] → FindsItems eq ps (entries d)
   collected-finds c ps d s u e = record {
     finds = λ k.
         finds-along c ps d s u k ∙ ap (λ es. fold (λ o p. stored (eq k p.0) p o) (find eq es k) ps) e ∙ folded (eq k) None ps

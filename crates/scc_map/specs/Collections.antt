@@ -1,23 +1,32 @@
 -- A map that is made from items, or from another map's pairs.
-use Rattle.std.specs.Prelude.{◌≡◌, ℕ, ◌*◌, ◌<◌, Bool, List, [], length, reverse, Option, None, Some, Ok, MatchOption}
+use Rattle.std.specs.Prelude.{◌≡◌, ℕ, ◌*◌, ◌<◌, Bool, false, List, [], length, reverse, Option, None, Some, Result, Ok, MatchOption}
 use Rattle.std.specs.List.{FoldsTo}
 use Rattle.std.specs.Option.{IsSomeAnd}
-use Rattle.scc_common.specs.Contents.{Contents, entries, bucket_count, settings_of}
+use Rattle.scc_common.specs.Contents.{Contents, entries, bucket_count, settings_of, refused_of, waiting_of}
 use Rattle.scc_common.specs.Pairs.{find}
 use Rattle.scc_common.specs.Sizes.{IsArraySize}
+use Rattle.scc_common.specs.declared.errors.InsertError.{InsertError}
+use Rattle.scc_table.specs.Arrays.{GrowsByRule}
 use Rattle.scc_map.specs.MapSteps.{Upserts}
 
-module _ {K V S : Type 0} (eq : K → K → Bool) (hash : K → ℕ) where
+module _ {K V S : Type 0} (eq : K → K → Bool) (hash : Contents (K × V) S → K → ℕ) where
+  -- an upsert with the result r, and what it does to the array
+  pub record UpsertsBy (c : Contents (K × V) S) (p : K × V) (r : Result (Option V) (InsertError K V)) (d : Contents (K × V) S) : Type 0 where
+    -- what becomes of the pairs
+    pub step : Upserts eq (hash c) c p r d
+    -- what becomes of the array
+    pub array : GrowsByRule (λ q. q.0) (hash c) (find eq (entries c) p.0) c p.0 r d
+
   -- an upsert that succeeds
   abbrev pub UpsertsOne : Contents (K × V) S → K × V → Contents (K × V) S → Type 0
-  UpsertsOne c p d = (r : Option V) × Upserts eq hash c p (Ok r) d
+  UpsertsOne c p d = (r : Option V) × UpsertsBy c p (Ok r) d
 
   -- the pairs were upserted in their order
   abbrev pub UpsertsAll : Contents (K × V) S → List (K × V) → Contents (K × V) S → Type 0
   UpsertsAll c ps d = FoldsTo UpsertsOne c ps d
 
-module _ {K V S : Type 0} (eq : K → K → Bool) (hash : Contents (K × V) S → K → ℕ) where
-  -- d is made from an empty map, with an array for `length ps` pairs, by upserts of the pairs in their order
+  -- d is made from an empty map, with an array for `length ps` pairs, where nothing is noted and nothing waits, by
+  -- upserts of the pairs in their order
   pub record IsCollected (ps : List (K × V)) (d : Contents (K × V) S) : Type 0 where
     pub made : Contents (K × V) S
     pub empty : entries made ≡ []
@@ -26,8 +35,10 @@ module _ {K V S : Type 0} (eq : K → K → Bool) (hash : Contents (K × V) S �
     pub asked : (settings_of made).asked ≡ 32 * bucket_count made
     pub reserved : (settings_of made).reserved ≡ 0
     pub skipped : (settings_of made).skipped ≡ 0
+    pub noted : refused_of made ≡ (false, false)
+    pub waiting : waiting_of made ≡ []
     pub settings : settings_of d ≡ settings_of made
-    pub run : UpsertsAll eq (hash made) made ps d
+    pub run : UpsertsAll made ps d
 
 module _ {K V : Type 0} where
   -- the key of the first pair with the value of the second, if there are both

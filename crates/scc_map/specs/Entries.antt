@@ -12,12 +12,12 @@ use Rattle.std.specs.declared.hash.Hash as hash
 use Rattle.std.specs.declared.hash.Hasher as hasher
 use Rattle.std.specs.declared.hash.BuildHasher as builder
 use Rattle.std.proofs.Common.{sym, subst}
-use Rattle.scc_common.specs.Contents.{Contents, entries, hash_in, key_hash, waiting_of}
+use Rattle.scc_common.specs.Contents.{Contents, entries, bucket_count, hash_in, key_hash, waiting_of}
 use Rattle.scc_common.specs.PairSteps.{SwapsKey}
 use Rattle.scc_common.specs.Pairs.{find, without, HasRoom, IsUnique, with_pair_value}
 use Rattle.scc_table.specs.Placed.{entry_of, front_of, back_of, IsWrittenAt, IsPutAt}
 use Rattle.scc_table.specs.Places.{IsPlace}
-use Rattle.scc_common.specs.Steps.{FirstArrayWhenDue, GrowsForInsertion, HoldsExactly, Rests}
+use Rattle.scc_common.specs.Steps.{FirstArrayWhenDue, GrowsForInsertion, HoldsExactly, IsPreparedFor, Rests}
 use Rattle.scc_table.specs.Placed.{IsPlace-with_write_at}
 use Rattle.scc_table.specs.Places.{with_write_at}
 use Rattle.scc_table.specs.Relocations.{Relocates, RelocatesTwo}
@@ -36,12 +36,16 @@ module _ {K V S : Type 0} where
   pub record IsGrownFor (hash : K → ℕ) (c : Contents (K × V) S) (k : K) (d : Contents (K × V) S) : Type 0 where
     pub grows : GrowsForInsertion hash (λ p. p.0) c k d
     pub first : FirstArrayWhenDue c d
+    -- if the insertion was prepared, the number of buckets stays
+    pub once : IsPreparedFor hash (λ p. p.0) c k → bucket_count d ≡ bucket_count c
 
   -- d is c after an insertion of the new key k was refused memory: unchanged, or resized once as that insertion may
   -- and must be resized, with distinct keys; only buckets wait that an insertion leaves waiting
   pub record RestsRefused (same : K → K → Bool) (hash : K → ℕ) (c : Contents (K × V) S) (k : K) (d : Contents (K × V) S) : Type 0 where
     pub rests : Rests c d
     pub grows : GrowsForInsertion hash (λ p. p.0) c k d
+    -- if the insertion was prepared, the number of buckets stays
+    pub once : IsPreparedFor hash (λ p. p.0) c k → bucket_count d ≡ bucket_count c
     pub relocates : Relocates c d
     pub unique : IsUnique same d
 

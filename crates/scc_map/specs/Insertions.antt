@@ -1,9 +1,9 @@
 -- What an insertion of a new pair does to a map and to its array, in one word.
 use Rattle.std.specs.Prelude.{◌≡◌, ℕ, Bool, Result, IfOk, IfErr}
 use Rattle.std.specs.Result.{OnOk, OnErr}
-use Rattle.scc_common.specs.Contents.{Contents, settings_of}
+use Rattle.scc_common.specs.Contents.{Contents, bucket_count, settings_of}
 use Rattle.scc_common.specs.Pairs.{HasRoom, IsUnique}
-use Rattle.scc_common.specs.Steps.{FirstArrayWhenDue, GrowsForInsertion, Rests}
+use Rattle.scc_common.specs.Steps.{FirstArrayWhenDue, GrowsForInsertion, IsPreparedFor, Rests}
 use Rattle.scc_buckets.specs.declared.place.Place.{Place}
 use Rattle.scc_table.specs.Places.{IsInsertedAt}
 use Rattle.scc_table.specs.Relocations.{Relocates, RelocatesTwo}
@@ -21,6 +21,8 @@ module _ {K V S : Type 0} (eq : K → K → Bool) (hash_of : S → K → ℕ) wh
     pub full : OnErr result (HasRoom (hash_of (settings_of c).hasher) c p.0 → ⊥)
     -- the array grows as an insertion of the key may and must grow it
     pub grows : GrowsForInsertion (hash_of (settings_of c).hasher) (λ q. q.0) c p.0 d
+    -- if the insertion was prepared, the number of buckets stays
+    pub once : IsPreparedFor (hash_of (settings_of c).hasher) (λ q. q.0) c p.0 → bucket_count d ≡ bucket_count c
     -- the first array has the size of the minimum
     pub first : OnOk result (FirstArrayWhenDue c d)
     -- it relocates at most two buckets

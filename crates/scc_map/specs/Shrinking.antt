@@ -1,10 +1,11 @@
 -- What the calls that take pairs out of a map, or keys out of a set, do to the array, in one word a call.
-use Rattle.std.specs.Prelude.{◌≡◌, ◌≢◌, ◌≤◌, ◌++◌, ℕ, suc, List, [], ◌∷◌, Option, Result, length, remove, slice_get, Some, MatchOption}
+use Rattle.std.specs.Prelude.{◌≡◌, ◌≢◌, ◌≤◌, ◌++◌, ℕ, suc, List, [], ◌∷◌, Option, Result, length, remove, slice_get, Some, MatchOption, ⊤}
 use Rattle.std.specs.Result.{OnErr}
 use Rattle.scc_buckets.specs.declared.place.Place.{Place}
 use Rattle.scc_common.specs.Contents.{Contents, entries, bucket_count, minimum_of, refused_of, waiting_of}
 use Rattle.scc_common.specs.Sizes.{IsSmaller}
 use Rattle.scc_common.specs.Steps.{Holds, HoldsExactly, ShrinksWhenDue}
+use Rattle.scc_table.specs.Arrays.{ShrinksByRule}
 use Rattle.scc_table.specs.Places.{StandsAt, index_of}
 use Rattle.scc_table.specs.Relocations.{RelocatesNone}
 
@@ -15,12 +16,8 @@ module _ {E S : Type 0} (Distinct : Contents E S → Type 0) where
     pub pair : slice_get (entries c) (index_of c place) ≡ Some result
     -- the others stay
     pub others : Holds c (remove (entries c) (index_of c place)) d
-    -- the number of buckets changes only by a shrink to the size that the pairs and the minimum name
-    pub smaller : bucket_count d ≢ bucket_count c → IsSmaller (minimum_of c) (length (entries d)) (bucket_count c) (bucket_count d)
-    -- a due shrink is made, unless memory for it was refused
-    pub due : ShrinksWhenDue c d
-    -- it relocates no bucket
-    pub relocates : RelocatesNone c d
+    -- what it does to the array
+    pub array : ShrinksByRule ⊤ c d
     -- no two keys are equal
     pub unique : Distinct d
 
@@ -46,12 +43,8 @@ module _ {E S : Type 0} (Distinct : Contents E S → Type 0) where
     pub empty : entries d ≡ []
     -- the settings stay, and the array doesn't shrink below the minimum
     pub holds : Holds c [] d
-    -- the number of buckets changes only by a shrink to the size of the minimum
-    pub smaller : bucket_count d ≢ bucket_count c → IsSmaller (minimum_of c) 0 (bucket_count c) (bucket_count d)
-    -- a due shrink is made, unless memory for it was refused
-    pub due : ShrinksWhenDue c d
-    -- it relocates no bucket
-    pub relocates : RelocatesNone c d
+    -- what it does to the array
+    pub array : ShrinksByRule ⊤ c d
     -- no two keys are equal
     pub unique : Distinct d
 
@@ -59,12 +52,8 @@ module _ {E S : Type 0} (Distinct : Contents E S → Type 0) where
   pub record RetainsByRule (Step : Type 0) (c d : Contents E S) : Type 0 where
     -- which calls it makes, and which pairs stay
     pub step : Step
-    -- the number of buckets changes only by a shrink to the size that the remaining pairs and the minimum name
-    pub smaller : bucket_count d ≢ bucket_count c → IsSmaller (minimum_of c) (length (entries d)) (bucket_count c) (bucket_count d)
-    -- a due shrink is made, unless memory for it was refused
-    pub due : ShrinksWhenDue c d
-    -- it relocates no bucket
-    pub relocates : RelocatesNone c d
+    -- what it does to the array
+    pub array : ShrinksByRule ⊤ c d
     -- no two keys were equal
     pub was_unique : Distinct c
     -- no two keys are equal

@@ -126,8 +126,7 @@ impl<K: Eq + Hash, V, H: BuildHasher> Owned<K, V, H> {
     where
         K: Drop,
         V: Drop,
-        ensures { OnOk result (UpsertsAll K.eq (hash_in ⟦<H as Hashes<K>>⟧.hash_of self.old) self.old pairs.items
-            self.new) }
+        ensures { OnOk result (UpsertsAll K.eq (hash_in ⟦<H as Hashes<K>>⟧.hash_of) self.old pairs.items self.new) }
     {
         for (k, v) in pairs {
             match self.upsert_sync(k, v) {

@@ -176,6 +176,8 @@ module _ {E K S : Type 0} (eq : K → K → Bool) (key : E → K) where
       pub waiting : bucket_count d ≡ bucket_count c → waiting_of d ≡ waiting_of c
       -- after a doubling, every bucket waits
       pub all : bucket_count d ≢ bucket_count c → pending_of d ≡ bucket_count d
+      -- after a doubling, the flag of every bucket says that it waits
+      pub flags : bucket_count d ≢ bucket_count c → waiting_of d ≡ replicate (bucket_count d) true
       -- if the result is true, a doubling was due, and each list stays
       pub refused : IsTrue result → IsDoublingDue most c × HasListsOf c d
       -- if the result is false, no doubling is due afterwards
@@ -208,6 +210,8 @@ module _ {E K S : Type 0} (eq : K → K → Bool) (key : E → K) where
       pub waiting : 0 < bucket_count c → bucket_count d ≡ bucket_count c → waiting_of d ≡ waiting_of c
       -- after a doubling, every bucket waits
       pub all : 0 < bucket_count c → bucket_count d ≢ bucket_count c → pending_of d ≡ bucket_count d
+      -- after a doubling, the flag of every bucket says that it waits
+      pub flags : 0 < bucket_count c → bucket_count d ≢ bucket_count c → waiting_of d ≡ replicate (bucket_count d) true
       -- no two keys are equal
       pub unique : IsUniqueBy eq key d
 

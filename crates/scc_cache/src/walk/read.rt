@@ -1,5 +1,6 @@
 //! Walks over the pairs of a cache. No walk makes a pair more recent.
 ghost use Rattle.scc_cache.specs.CacheSteps.{Clears};
+ghost use Rattle.scc_cache.specs.CacheWalks.{GoesOver};
 ghost use Rattle.scc_cache.specs.Caches.{IsCacheState};
 ghost use Rattle.scc_cache.specs.Relocations.{RelocatesNoneWithin};
 ghost use Rattle.scc_cache.specs.TakingWalks.{TakesOutWithNext};
@@ -16,13 +17,14 @@ use scc_common::Hashes;
 use std::hash::{BuildHasher, Hash};
 
 impl<K: Eq + Hash, V, H: BuildHasher> Owned<K, V, H> {
-    /// Calls `f` on the pairs in some order, each at most once, until `f` returns false. Returns false if it did, else
-    /// true. The order of the pairs stays.
+    /// Calls `f` on the pairs, each at most once, until `f` returns false. Returns false if it did, else true. Goes
+    /// over each bucket from its least to its most recent pair; the order of the pairs stays.
     #[inline(always)]
     pub fn iter_sync<F: FnMut(&K, &V) -> bool>(&self, f: F) -> bool
         requires { (es : List (K × V)) → IsPermutation (entries self.now.contents) es
             → CallableWhile F.FnMut true f es }
-        ensures { (es : List (K × V)) × (last : F) × IsPermutation (entries self.now.contents) es
+        ensures { (es : List (K × V)) × (last : F)
+            × GoesOver (hash_in ⟦<H as Hashes<K>>⟧.hash_of self.now.contents) self.now.contents es
             × Walks (CalledOn F.FnMut) f es result last }
     {
         self.table.walk(f)

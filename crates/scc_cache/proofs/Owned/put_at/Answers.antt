@@ -1,5 +1,6 @@
 use Rattle.std.proofs.Common.{◌∙◌, ℕ, ◌≤◌, ◌<◌, ◌*◌, Bool, refl, sym, ap, subst, arith}
 use Rattle.std.specs.List.{position}
+use Rattle.std.specs.List.Sorted.{IsPermutation}
 use Rattle.scc_buckets.specs.Bounded.{IsListed}
 use Rattle.scc_table.specs.Bounded.{GrowsBelow}
 use Rattle.scc_table.specs.Relocates.{left_after}
@@ -12,6 +13,7 @@ use Rattle.scc_buckets.proofs.Resizes.{absent-permuted}
 use Rattle.scc_cache.proofs.Caching.{at-spot, grown-within, missing-grown, once-grown, put-place, puts-count, puts-pair, puts-refused, state-after}
 use Rattle.scc_cache.specs.Caches.{Cached, IsCacheState}
 use Rattle.scc_cache.specs.ListSteps.{PutsPair}
+use Rattle.scc_cache.proofs.LookUps.{finds-put}
 use Rattle.scc_cache.proofs.Relocations.{put-relocates}
 use Rattle.scc_cache.proofs.Owned.put_at.Goals as goal
 
@@ -103,7 +105,7 @@ returns-in-Ok-clause-relocates g c =
     let same = count-same m u c.drop_mark_within.ensures.lists in
     let pending = pending-same m u c.drop_mark_within.ensures.waiting in
     let targets = targets-same m u c.drop_mark_within.ensures.waiting in
-    rw (← c.self.view_is) (put-relocates _ c.in-Ok.bucket t m d routed (put.0 ∙ same) c.in-Ok.ensures.within w.listed.lawful w.first w.waiting w.all x.not_waiting (x.exact ∙ ap (left_after c.in-Ok.bucket) targets) (λ two. let z : 2 ≤ pending_of u = omega arith in x.count z ∙ pending))
+    rw (← c.self.view_is) (put-relocates _ c.in-Ok.bucket t m d routed (put.0 ∙ same) c.in-Ok.ensures.within w.listed.lawful w.first w.waiting w.all w.flags x.not_waiting (x.exact ∙ ap (left_after c.in-Ok.bucket) targets) (λ two. let z : 2 ≤ pending_of u = omega arith in x.count z ∙ pending))
 
 pub returns-in-Ok-clause-once : goal.returns-in-Ok-clause-once
 returns-in-Ok-clause-once g c =
@@ -133,3 +135,14 @@ returns-in-Err-clause-state g c =
 
 pub returns-in-Err-clause-once : goal.returns-in-Err-clause-once
 returns-in-Err-clause-once g c = rw (← c.self.view_is) (λ _. ap bucket_count c.in-Err.ensures.none.1)
+
+pub returns-in-Ok-clause-finds : goal.returns-in-Ok-clause-finds
+returns-in-Ok-clause-finds g c =
+    let t = c.self.inside.table in
+    let m = c.bucket_within.new.self in
+    let u = c.drop_mark_within.new.self in
+    let d = c.put_within-evicted.new.self in
+    let lists = c.drop_mark_within.ensures.lists in
+    let n = count-same m u lists in
+    let perm = subst (λ es. IsPermutation (entries t) es) (sym (entries-same m u lists)) c.bucket_within.ensures.same in
+    rw (← c.self.view_is) (finds-put g.met.K.Eq.laws t u d c.in-Ok.bucket (c.args.k, c.args.v) c.put_within-evicted.result.0 (omega (arith, c.in-Ok.ensures.within, n)) perm c.self.invariant.unique c.put_within-evicted.ensures.step c.put_within-evicted.ensures.unique)

@@ -2,11 +2,13 @@ use Rattle.std.proofs.Common.{◌∙◌, ℕ, refl, sym, subst, arith}
 use Rattle.std.specs.List.{remove}
 use Rattle.scc_buckets.specs.Bounded.{MayShrinkWithin, ShrinksBounded}
 use Rattle.scc_common.specs.Hashing.{hash_of}
-use Rattle.scc_table.specs.Places.{IsPlace, spot_of}
+use Rattle.scc_common.specs.Contents.{entries}
+use Rattle.scc_table.specs.Places.{IsPlace, index_of, spot_of}
 use Rattle.scc_table.specs.Relocates.{Spreads}
 use Rattle.scc_table.proofs.Listing.{listed-removed}
 use Rattle.scc_table.proofs.Short.{listed-anew}
 use Rattle.scc_cache.proofs.Caching.{list-count, lists-set, shrunk-within, state-after}
+use Rattle.scc_cache.proofs.LookUps.{finds-taken}
 use Rattle.scc_cache.proofs.Relocations.{shrunk-none}
 use Rattle.scc_cache.proofs.Owned.remove_at.Goals as goal
 
@@ -60,3 +62,9 @@ returns-clause-relocates g c =
     let shrinks = subst (λ s. ShrinksBounded (λ e. hash_of g.H.BuildHasher g.H.Hasher.Hasher s.hasher (g.K.Hash.hash_input e.0)) left c.shrink_within.new.self) list.settings c.shrink_within.ensures.shrinks in
     let spreads = subst (λ s. Spreads ((n : ℕ) × MayShrinkWithin (λ e. hash_of g.H.BuildHasher g.H.Hasher.Hasher s.hasher (g.K.Hash.hash_input e.0)) left n) left c.shrink_within.new.self) list.settings c.shrink_within.ensures.spreads in
     rw (← c.self.view_is) (shrunk-none _ t left c.shrink_within.new.self same c.take_in-pair.ensures.waiting shrinks spreads)
+
+pub returns-clause-finds : goal.returns-clause-finds
+returns-clause-finds g c =
+    let t = c.self.inside.table in
+    let left = c.take_in-pair.new.self in
+    rw (← c.self.view_is) (finds-taken g.met.K.Eq.laws (entries t) (entries left) (entries c.shrink_within.new.self) (index_of t c.args.place) c.take_in-pair.result c.take_in-pair.ensures.others.exact c.shrink_within.ensures.same c.self.invariant.unique c.take_in-pair.ensures.entry)

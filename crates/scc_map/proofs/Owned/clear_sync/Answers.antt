@@ -1,6 +1,5 @@
-use Rattle.std.proofs.Common.{◌≡◌, ◌+◌, ◌∙◌, [], length, rules, subst, sym, ap}
+use Rattle.std.proofs.Common.{◌≡◌, ◌+◌, ◌∙◌, [], length, rules, sym, ap}
 use Rattle.scc_common.specs.Contents.{entries, bucket_count, minimum_of}
-use Rattle.scc_common.specs.Sizes.{IsSmaller}
 use Rattle.std.proofs.lemmas.List.Sorted.{length_permutation}
 use Rattle.scc_buckets.proofs.Standing.{length-zero}
 use Rattle.scc_buckets.proofs.Resizes.{smaller-by, shrinks-after}
@@ -17,9 +16,12 @@ returns g c =
     record {
       empty = length-zero (entries c.shrink.new.self) (sym none);
       holds = holds-after c.args.self.now c.take_all.new.self c.shrink.new.self [] held resizes;
-      smaller = (λ other. subst (λ n. IsSmaller (minimum_of c.args.self.now) n (bucket_count c.args.self.now) (bucket_count c.shrink.new.self)) none
-          (smaller-by c.take_all.new.self c.shrink.new.self (minimum_of c.args.self.now) (bucket_count c.args.self.now) (rw c.self.view_is at c.shrink.ensures.shrinks) keeps held.buckets other));
-      due = shrinks-after c.args.self.now c.take_all.new.self c.shrink.new.self held.buckets c.take_all.ensures.noted (rw c.self.view_is at c.shrink.ensures.due);
-      relocates = shrunk-after c.args.self.now c.take_all.new.self c.shrink.new.self held.buckets keeps c.take_all.ensures.waiting resizes (rw c.self.view_is at c.shrink.ensures.spreads);
+      array = record {
+        smaller = smaller-by c.take_all.new.self c.shrink.new.self (minimum_of c.args.self.now) (bucket_count c.args.self.now) (rw c.self.view_is at c.shrink.ensures.shrinks) keeps held.buckets;
+        due = λ _. shrinks-after c.args.self.now c.take_all.new.self c.shrink.new.self held.buckets c.take_all.ensures.noted (rw c.self.view_is at c.shrink.ensures.due);
+        noted = (search rules);
+        relocates = λ _. shrunk-after c.args.self.now c.take_all.new.self c.shrink.new.self held.buckets keeps c.take_all.ensures.waiting resizes (rw c.self.view_is at c.shrink.ensures.spreads);
+        waiting = (search rules);
+      };
       unique = (search rules);
     }

@@ -20,6 +20,7 @@ returns g c =
       rests = (search rules);
       full = rw (← c.self.view_is) c.insert_new.ensures.full;
       grows = rw (← c.self.view_is) record { growth = c.insert_new.ensures.growth; due = c.insert_new.ensures.due; kept = c.insert_new.ensures.kept };
+      once = rw (← c.self.view_is) c.insert_new.ensures.once;
       first = rw (← c.self.view_is) c.insert_new.ensures.first;
       relocates = rw (← c.self.view_is) record { fewer = c.insert_new.ensures.fewer; less = c.insert_new.ensures.less; most = c.insert_new.ensures.most; grown = c.insert_new.ensures.grown; array = c.insert_new.ensures.array };
       two = (

@@ -6,8 +6,12 @@ returns g c =
     record {
       pair = (search rules);
       others = (search rules);
-      smaller = (search rules);
-      due = rw (← c.self.view_is) c.remove_at.ensures.due;
-      relocates = rw (← c.self.view_is) record { all = c.remove_at.ensures.all; less = c.remove_at.ensures.less; waiting = c.remove_at.ensures.waiting };
+      array = rw (← c.self.view_is) record {
+        smaller = c.remove_at.ensures.smaller;
+        due = λ _. c.remove_at.ensures.due;
+        noted = (search rules);
+        relocates = λ _. record { all = c.remove_at.ensures.all; less = c.remove_at.ensures.less; waiting = c.remove_at.ensures.waiting };
+        waiting = (search rules);
+      };
       unique = (search rules);
     }

@@ -63,14 +63,14 @@ returns-then-f-clause-array g c =
           let unique = rw c.self.view_is at c.in_ok-place.ensures.unique in
           let f = place-found g.K.PartialEq.eq m c.args.k.now c.in_ok-place.place found in
           let x = value-written laws m c.in_ok-place.place found.within c.args.k.now unique f c.f.new.arg2 in
-          rw (x.buckets, x.settings) at c.remove_at.ensures.smaller);
+          rw (x.buckets, x.settings) at c.remove_at.ensures.array.smaller);
       due = (
           let laws = g.met.K.Eq.laws in
           let m = c.args.self.now in
           let found = rw c.self.view_is at c.in_ok-place.ensures.place in
           let unique = rw c.self.view_is at c.in_ok-place.ensures.unique in
           let f = place-found g.K.PartialEq.eq m c.args.k.now c.in_ok-place.place found in
-          λ _. shrinks-after m _ c.remove_at.new.self (value-written laws m c.in_ok-place.place found.within c.args.k.now unique f c.f.new.arg2).buckets (noted-write with_pair_value m c.in_ok-place.place c.f.new.arg2) c.remove_at.ensures.due);
+          λ _. shrinks-after m _ c.remove_at.new.self (value-written laws m c.in_ok-place.place found.within c.args.k.now unique f c.f.new.arg2).buckets (noted-write with_pair_value m c.in_ok-place.place c.f.new.arg2) (c.remove_at.ensures.array.due tt));
       noted = (search rules);
       relocates = (
           let laws = g.met.K.Eq.laws in
@@ -79,7 +79,7 @@ returns-then-f-clause-array g c =
           let unique = rw c.self.view_is at c.in_ok-place.ensures.unique in
           let f = place-found g.K.PartialEq.eq m c.args.k.now c.in_ok-place.place found in
           let x = value-written laws m c.in_ok-place.place found.within c.args.k.now unique f c.f.new.arg2 in
-          λ _. removed-after m _ c.remove_at.new.self x.buckets (ap (λ s. s.asked + s.reserved) x.settings) (waiting-write with_pair_value m c.in_ok-place.place c.f.new.arg2) c.remove_at.ensures.relocates);
+          λ _. removed-after m _ c.remove_at.new.self x.buckets (ap (λ s. s.asked + s.reserved) x.settings) (waiting-write with_pair_value m c.in_ok-place.place c.f.new.arg2) (c.remove_at.ensures.array.relocates tt));
       waiting = (search rules);
     }
 

@@ -16,9 +16,13 @@ returns g c =
     let keeps = ap (λ s. s.asked + s.reserved) x.2.settings in
     record {
       step = (entries c.args.self.now, x.0, IsPermutation-refl _, x.1, holds-after c.args.self.now c.retain_all.new.self c.shrink.new.self x.0 x.2 resizes);
-      smaller = smaller-by c.retain_all.new.self c.shrink.new.self (minimum_of c.args.self.now) (bucket_count c.args.self.now) (rw c.self.view_is at c.shrink.ensures.shrinks) keeps x.2.buckets;
-      due = shrinks-after c.args.self.now c.retain_all.new.self c.shrink.new.self x.2.buckets c.retain_all.ensures.noted (rw c.self.view_is at c.shrink.ensures.due);
-      relocates = shrunk-after c.args.self.now c.retain_all.new.self c.shrink.new.self x.2.buckets keeps c.retain_all.ensures.waiting resizes (rw c.self.view_is at c.shrink.ensures.spreads);
+      array = record {
+        smaller = smaller-by c.retain_all.new.self c.shrink.new.self (minimum_of c.args.self.now) (bucket_count c.args.self.now) (rw c.self.view_is at c.shrink.ensures.shrinks) keeps x.2.buckets;
+        due = λ _. shrinks-after c.args.self.now c.retain_all.new.self c.shrink.new.self x.2.buckets c.retain_all.ensures.noted (rw c.self.view_is at c.shrink.ensures.due);
+        noted = (search rules);
+        relocates = λ _. shrunk-after c.args.self.now c.retain_all.new.self c.shrink.new.self x.2.buckets keeps c.retain_all.ensures.waiting resizes (rw c.self.view_is at c.shrink.ensures.spreads);
+        waiting = (search rules);
+      };
       was_unique = (search rules);
       unique = (search rules);
     }

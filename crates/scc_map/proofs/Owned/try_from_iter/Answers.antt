@@ -11,7 +11,7 @@ returns-clause-items g c =
     let last = ran.3.2 tt in
     let made = c.in_ok-made.made in
     let none = c.in_ok-made.ensures.entries in
-    let finds = collected-finds g.met.K.Eq.laws (hash made) made _ _ c.in_ok-upsert_all.ensures (none-unique g.K.PartialEq.eq made none) none in (
+    let finds = collected-finds g.met.K.Eq.laws hash made _ _ c.in_ok-upsert_all.ensures (none-unique g.K.PartialEq.eq made none) none in (
       ran.0,
       ran.1,
       ran.2,
@@ -24,7 +24,9 @@ returns-clause-items g c =
         asked = ap (λ s. s.asked) c.in_ok-made.ensures.settings;
         reserved = ap (λ s. s.reserved) c.in_ok-made.ensures.settings;
         skipped = ap (λ s. s.skipped) c.in_ok-made.ensures.settings;
-        settings = collected-settings g.met.K.Eq.laws (hash made) made _ _ c.in_ok-upsert_all.ensures;
+        noted = c.in_ok-made.ensures.noted;
+        waiting = c.in_ok-made.ensures.waiting;
+        settings = collected-settings g.met.K.Eq.laws hash made _ _ c.in_ok-upsert_all.ensures;
         run = rw (← ran.4.0) c.in_ok-upsert_all.ensures;
       },
       rw (← ran.4.0) finds,
@@ -33,4 +35,4 @@ returns-clause-items g c =
 pub returns-clause-unique : goal.returns-clause-unique
 returns-clause-unique g c =
     let made = c.in_ok-made.made in
-    collected-distinct g.met.K.Eq.laws (key_hash g.H.BuildHasher g.H.Hasher.Hasher g.K.Hash.hash_input made) made _ _ c.in_ok-upsert_all.ensures (none-unique g.K.PartialEq.eq made c.in_ok-made.ensures.entries)
+    collected-distinct g.met.K.Eq.laws (key_hash g.H.BuildHasher g.H.Hasher.Hasher g.K.Hash.hash_input) made _ _ c.in_ok-upsert_all.ensures (none-unique g.K.PartialEq.eq made c.in_ok-made.ensures.entries)

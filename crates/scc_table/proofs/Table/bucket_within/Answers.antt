@@ -17,5 +17,6 @@ returns-then-bucket_count-eq0 g c =
       first = (search rules);
       waiting = (search rules);
       all = (search rules);
+      flags = (search rules);
       unique = (search rules);
     }

@@ -1,4 +1,4 @@
-use Rattle.std.proofs.Common.{◌≡◌, ◌∙◌, ◌*◌, ◌≤◌, length, sym, ap, subst, arith, rules}
+use Rattle.std.proofs.Common.{◌≡◌, ◌∙◌, ◌*◌, ◌≤◌, true, replicate, length, sym, ap, subst, arith, rules}
 use Rattle.std.specs.List.Sorted.{IsPermutation}
 use Rattle.std.proofs.lemmas.List.Sorted.{IsPermutation-refl}
 use Rattle.scc_buckets.specs.Bounded.{IsResized}
@@ -42,6 +42,7 @@ returns-in-Ok g c =
       array = (search rules);
       waiting = (search rules);
       all = (search rules);
+      flags = (λ _. r.waiting ∙ ap (λ n. replicate n true) (sym r.lists.count));
       refused = (search rules);
       made = (search rules);
       marked = (search rules);
@@ -60,6 +61,7 @@ returns-in-Err g c =
       array = (let n = count-same c.args.self.now c.install_fresh.new.self c.in-Err.ensures.err in omega (arith, c.requires.array));
       waiting = (search rules);
       all = (λ ne. absurd (ne (count-same c.args.self.now c.install_fresh.new.self c.in-Err.ensures.err)));
+      flags = (λ ne. absurd (ne (count-same c.args.self.now c.install_fresh.new.self c.in-Err.ensures.err)));
       refused = (search rules);
       made = (search rules);
       marked = (search rules);
@@ -78,6 +80,7 @@ returns-then-is_marked g c =
       array = (let n = count-same c.args.self.now c.note.new.self c.note.ensures.lists in omega (arith, c.requires.array));
       waiting = (search rules);
       all = (λ ne. absurd (ne (count-same c.args.self.now c.note.new.self c.note.ensures.lists)));
+      flags = (λ ne. absurd (ne (count-same c.args.self.now c.note.new.self c.note.ensures.lists)));
       refused = (search rules);
       made = (search rules);
       marked = (search rules);

@@ -6,14 +6,14 @@ pub returns-in-Ok : goal.returns-in-Ok
 returns-in-Ok g c = (
   (same-name c.at.ensures.guard, λ w. refl, tt),
   record {
-    inserts = inserts-at-vacant g.K.PartialEq.eq _ c.args.self c.args.self.guard.now c.insert_new.new.self c.args.value c.at.result _ c.at.ensures.guard c.at.ensures.place c.at.ensures.rest refl c.in-Ok.ensures.ok record { grows = c.insert_new.ensures.grows; first = c.in-Ok.ensures.first } c.insert_new.ensures.relocates c.in-Ok.ensures.two c.insert_new.ensures.unique;
+    inserts = inserts-at-vacant g.K.PartialEq.eq _ c.args.self c.args.self.guard.now c.insert_new.new.self c.args.value c.at.result _ c.at.ensures.guard c.at.ensures.place c.at.ensures.rest refl c.in-Ok.ensures.ok record { grows = c.insert_new.ensures.grows; first = c.in-Ok.ensures.first; once = c.insert_new.ensures.once } c.insert_new.ensures.relocates c.in-Ok.ensures.two c.insert_new.ensures.unique;
     kept = tt;
   },
 )
 
 pub returns-in-Err : goal.returns-in-Err
 returns-in-Err g c = (
-  (refl, λ _. tt, record { rests = c.in-Err.ensures.rests; grows = c.insert_new.ensures.grows; relocates = c.insert_new.ensures.relocates; unique = c.insert_new.ensures.unique }),
+  (refl, λ _. tt, record { rests = c.in-Err.ensures.rests; grows = c.insert_new.ensures.grows; once = c.insert_new.ensures.once; relocates = c.insert_new.ensures.relocates; unique = c.insert_new.ensures.unique }),
   record {
     inserts = record {
       inserted = tt;

@@ -4,7 +4,7 @@ use Rattle.scc_map.proofs.locked.methods.VacantEntry+K+V+H.insert_entry.Goals as
 
 pub returns-in-Ok : goal.returns-in-Ok
 returns-in-Ok g c =
-    inserts-at-vacant g.K.PartialEq.eq _ c.args.self c.deref_mut.result.now c.insert_new.new.self c.args.value c.at.result _ c.at.ensures.guard c.at.ensures.place c.at.ensures.rest c.deref_mut.ensures.value c.in-Ok.ensures.ok record { grows = c.insert_new.ensures.grows; first = c.in-Ok.ensures.first } c.insert_new.ensures.relocates c.in-Ok.ensures.two c.insert_new.ensures.unique
+    inserts-at-vacant g.K.PartialEq.eq _ c.args.self c.deref_mut.result.now c.insert_new.new.self c.args.value c.at.result _ c.at.ensures.guard c.at.ensures.place c.at.ensures.rest c.deref_mut.ensures.value c.in-Ok.ensures.ok record { grows = c.insert_new.ensures.grows; first = c.in-Ok.ensures.first; once = c.insert_new.ensures.once } c.insert_new.ensures.relocates c.in-Ok.ensures.two c.insert_new.ensures.unique
 
 pub returns : goal.returns
 returns g c =
