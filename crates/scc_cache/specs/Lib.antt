@@ -7,4 +7,5 @@ pub mod Lends
 pub mod ListSteps
 pub mod Making
 pub mod Relocations
+pub mod Seats
 pub mod TakingWalks
