@@ -36,7 +36,8 @@ impl<K: Eq + Hash, V, H: BuildHasher> Part<H> for Owned<K, V, Shared<H>> {
     where
         H: Drop,
         requires { skipped ≤ 4 }
-        ensures { IfOk result (is_made skipped slots maximum (arc_value owner)) }
+        ensures { IfOk result (λ part. MakesEmptyCache {X = Unit {0}} (λ _. arc_value owner) skipped slots maximum
+            (Ok part)) }
     {
         Owned::part(alloc, skipped, slots, maximum, owner)
     }

@@ -75,7 +75,7 @@ impl<K: Eq + Hash, V, H: BuildHasher> Part<H> for Owned<K, V, Shared<H>> {
     where
         H: Drop,
         requires { skipped ≤ 4 }
-        ensures { IfOk result (is_made skipped slots _maximum (arc_value owner)) }
+        ensures { IfOk result (λ part. MakesEmpty {X = Unit {0}} (λ _. arc_value owner) skipped slots (Ok part)) }
     {
         Owned::part(alloc, skipped, slots, owner)
     }

@@ -1,9 +1,13 @@
 -- A walk over the list of one stripe after another.
+use Rattle.std.specs.Prelude.{IsPermutation}
 use Rattle.std.proofs.Common.{◌≡◌, ◌+◌, ◌-◌, ◌≤◌, ◌++◌, ◌∷◌, [], List, ℕ, zero, suc, Bool, map, refl, arith, ap, sym, subst, ◌∙◌, append-nil}
+use Rattle.std.specs.Cmp.{IsEquivalence}
 use Rattle.std.specs.List.{flat_map, IsDistinct}
+use Rattle.std.specs.Map.{keys_of}
 use Rattle.std.proofs.lemmas.List.{length_push}
 use Rattle.std.proofs.lemmas.List.Concat.{flat_map-append}
 use Rattle.std.proofs.lemmas.List.Elements.{All-nil, All-push}
+use Rattle.scc_buckets.proofs.Lookups.{distinct-IsPermutation}
 use Rattle.scc_stripes.specs.Walks.{AreOfStripes}
 
 module _ {E K : Type 0} (eq : K → K → Bool) (key : E → K) where
@@ -31,3 +35,7 @@ module _ {E K : Type 0} (eq : K → K → Bool) (key : E → K) where
   -- the walk ended before the last stripe
   pub walked-short : (n m : ℕ) (es : List E) → n ≤ m → AreOfStripes eq key n es → AreOfStripes eq key m es
   walked-short n m es l w = let same : m - n + n ≡ m = omega (arith, l) in subst (λ z. AreOfStripes eq key z es) same (walked-more (m - n) n es w)
+
+-- one more stripe of pairs is walked, in any order
+pub walked-permuted : {K V : Type 0} {eq : K → K → Bool} (laws : IsEquivalence eq) (n : ℕ) (es fs gs : List (K × V)) → AreOfStripes eq (λ p. p.0) n es → IsPermutation fs gs → IsDistinct eq (keys_of fs) → AreOfStripes eq (λ p. p.0) (suc n) (es ++ gs)
+walked-permuted {eq = eq} laws n es fs gs w same d = walked-next eq (λ p. p.0) n es gs w (distinct-IsPermutation laws fs gs same d)
