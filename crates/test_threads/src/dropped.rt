@@ -215,37 +215,33 @@ fn gives_back<C: Reserving, R: Wait>(
     }
 }
 
-// Returns the first removal that doesn't give back 1000 slots of a container of 64, with what it shows, or `None` if
-// there is none.
-fn keeps<C: Reserving + Drop, R: Wait>(
-    rt: &R,
-    alloc: Global,
-) -> Option<(Removal, Option<[usize; 4]>)> {
-    for way in REMOVALS {
-        let shown = match C::make(alloc, 64) {
-            Some(made) => gives_back(rt, alloc, &made, way),
+// Returns what each removal shows of 1000 slots that a container of 64 is to give back.
+fn given_back<C: Reserving + Drop, R: Wait>(rt: &R, alloc: Global) -> [Option<[usize; 4]>; 7] {
+    let mut found = [None; 7];
+    for (way, found) in REMOVALS.iter().zip(found.iter_mut()) {
+        *found = match C::make(alloc, 64) {
+            Some(made) => gives_back(rt, alloc, &made, *way),
             None => None,
         };
-        if shown != Some([1, 32, 32, 1]) {
-            return Some((way, shown));
-        }
     }
-    None
+    found
 }
+
+const GIVEN_BACK: [Option<[usize; 4]>; 7] = [Some([1, 32, 32, 1]); 7];
 
 #[test]
 fn shared_map_removal_gives_back(rt: HostRuntime) {
-    assert!(rt; keeps::<Map, _>(&rt, rt.alloc()).is_none());
+    expect_eq(&rt, given_back::<Map, _>(&rt, rt.alloc()), GIVEN_BACK);
 }
 
 #[test]
 fn shared_set_removal_gives_back(rt: HostRuntime) {
-    assert!(rt; keeps::<Set, _>(&rt, rt.alloc()).is_none());
+    expect_eq(&rt, given_back::<Set, _>(&rt, rt.alloc()), GIVEN_BACK);
 }
 
 #[test]
 fn shared_index_removal_gives_back(rt: HostRuntime) {
-    assert!(rt; keeps::<Index, _>(&rt, rt.alloc()).is_none());
+    expect_eq(&rt, given_back::<Index, _>(&rt, rt.alloc()), GIVEN_BACK);
 }
 
 const INSERTIONS: [Insertion; 4] = [
