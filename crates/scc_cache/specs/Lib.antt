@@ -8,4 +8,5 @@ pub mod ListSteps
 pub mod LookUps
 pub mod Making
 pub mod Relocations
+pub mod Seats
 pub mod TakingWalks

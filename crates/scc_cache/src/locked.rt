@@ -7,13 +7,14 @@ mod methods;
 use crate::Owned;
 use crate::held::{HeldEntry, HeldOccupied, HeldReplace, HeldVacant};
 use scc_common::Shared;
+use scc_stripes::Seat;
 use std::hash::{BuildHasherDefault, FoldHasher};
 use std::sync::RwLockWriteGuard;
 
 /// The entry of a key. It holds the lock of its stripe.
 pub type Entry<'a, K, V, H = BuildHasherDefault<FoldHasher>> = HeldEntry<
     RwLockWriteGuard<'a, Owned<K, V, Shared<H>>>,
-    (),
+    Seat<'a, Owned<K, V, Shared<H>>, H>,
     K,
     V,
     Shared<H>,
@@ -22,7 +23,7 @@ pub type Entry<'a, K, V, H = BuildHasherDefault<FoldHasher>> = HeldEntry<
 /// An occupied entry. It holds the lock of its stripe.
 pub type OccupiedEntry<'a, K, V, H = BuildHasherDefault<FoldHasher>> = HeldOccupied<
     RwLockWriteGuard<'a, Owned<K, V, Shared<H>>>,
-    (),
+    Seat<'a, Owned<K, V, Shared<H>>, H>,
     K,
     V,
     Shared<H>,
@@ -31,7 +32,7 @@ pub type OccupiedEntry<'a, K, V, H = BuildHasherDefault<FoldHasher>> = HeldOccup
 /// A vacant entry: a key that its stripe lacks. It holds the lock of the stripe.
 pub type VacantEntry<'a, K, V, H = BuildHasherDefault<FoldHasher>> = HeldVacant<
     RwLockWriteGuard<'a, Owned<K, V, Shared<H>>>,
-    (),
+    Seat<'a, Owned<K, V, Shared<H>>, H>,
     K,
     V,
     Shared<H>,
@@ -41,7 +42,7 @@ pub type VacantEntry<'a, K, V, H = BuildHasherDefault<FoldHasher>> = HeldVacant<
 /// stripe lacks.
 pub type ReplaceResult<'a, K, V, H = BuildHasherDefault<FoldHasher>> = HeldReplace<
     RwLockWriteGuard<'a, Owned<K, V, Shared<H>>>,
-    (),
+    Seat<'a, Owned<K, V, Shared<H>>, H>,
     K,
     V,
     Shared<H>,

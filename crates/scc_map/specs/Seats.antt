@@ -12,6 +12,7 @@ use Rattle.scc_stripes.specs.declared.Striped.{Striped}
 use Rattle.scc_map.specs.declared.held.HeldOccupied.{HeldOccupied}
 use Rattle.scc_map.specs.declared.held.HeldEntry.{HeldEntry}
 use Rattle.scc_map.specs.declared.held.HeldEntry.TheVariants.{Occupied, Vacant}
+use Rattle.scc_map.specs.declared.held.HeldVacant.{HeldVacant}
 use Rattle.scc_map.specs.declared.held.HeldReplace.{HeldReplace}
 use Rattle.scc_map.specs.declared.held.HeldReplace.TheVariants.{Replaced, NotReplaced}
 
@@ -19,6 +20,10 @@ module _ {G N K V S T : Type 0} {d : guard.Ghosts G (Contents (K × V) S)} {g : 
   -- the `rest` of an occupied entry: its seat if the entry holds a stripe
   abbrev pub occupied_rest : HeldOccupied G N K V S T d g h b w → N
   occupied_rest o = o.rest
+
+  -- the `rest` of a vacant entry
+  abbrev pub vacant_rest : HeldVacant G N K V S T d g h b w → N
+  vacant_rest e = e.rest
 
   -- the `rest` of an entry
   abbrev pub entry_rest : HeldEntry G N K V S T d g h b w → N
@@ -35,9 +40,13 @@ module _ {G N K V S T : Type 0} {d : guard.Ghosts G (Contents (K × V) S)} {g : 
   HasSameRest o p = p.rest ≡ o.rest
 
 module _ {G O H K V S T : Type 0} {d : guard.Ghosts G (Contents (K × V) S)} {g : eq.Ghosts K} {h : hash.Ghosts K} {b : builder.Ghosts S T} {w : hasher.Ghosts T} where
-  -- the number of the stripe that an entry holds
+  -- the number of the stripe that an occupied entry holds
   abbrev pub occupied_stripe : HeldOccupied G (Seat O H) K V S T d g h b w → ℕ
   occupied_stripe o = seat_stripe o.rest
+
+  -- the number of the stripe that a vacant entry holds
+  abbrev pub vacant_stripe : HeldVacant G (Seat O H) K V S T d g h b w → ℕ
+  vacant_stripe e = seat_stripe e.rest
 
   -- the entry holds one of the stripes
   abbrev pub HasSeatIn : Striped O H → HeldOccupied G (Seat O H) K V S T d g h b w → Type 0

@@ -1,6 +1,8 @@
 //! How a part of a shared map follows its share of the minimum.
 ghost use Rattle.scc_stripes.specs.Minimums.{FollowsMinimum};
-ghost use Rattle.std.specs.Prelude.{◌≤◌, ◌^◌};
+ghost use Rattle.scc_table.specs.Making.{MakesEmpty};
+ghost use Rattle.std.specs.Arc.{arc_value};
+ghost use Rattle.std.specs.Prelude.{◌≤◌, ◌^◌, IfOk, Ok};
 
 use crate::Owned;
 use scc_common::{MakeError, Shared};
@@ -61,6 +63,8 @@ impl<K: Eq + Hash, V, H: BuildHasher> Follow for Owned<K, V, H> {
 }
 
 impl<K: Eq + Hash, V, H: BuildHasher> Part<H> for Owned<K, V, Shared<H>> {
+    ghost is_made = { λ skipped slots _ hasher part. MakesEmpty {X = Unit {0}} (λ _. hasher) skipped slots (Ok part) };
+
     fn make_part(
         alloc: Global,
         skipped: u32,
@@ -71,6 +75,7 @@ impl<K: Eq + Hash, V, H: BuildHasher> Part<H> for Owned<K, V, Shared<H>> {
     where
         H: Drop,
         requires { skipped ≤ 4 }
+        ensures { IfOk result (λ part. MakesEmpty {X = Unit {0}} (λ _. arc_value owner) skipped slots (Ok part)) }
     {
         Owned::part(alloc, skipped, slots, owner)
     }

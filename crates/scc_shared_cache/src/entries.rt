@@ -5,6 +5,9 @@ ghost use Rattle.std.specs.Sync.RwLock.{write_guard_value};
 ghost use Rattle.scc_common.specs.Contents.{key_hash};
 ghost use Rattle.scc_cache.specs.Caches.{Cached, IsCacheState};
 ghost use Rattle.scc_cache.specs.Entries.{entry_guard, entry_key, occupied_cache, occupied_pair, IsEntryOf, IsRefreshed, replaced_guard, Replaces};
+ghost use Rattle.scc_cache.specs.Seats.{entry_rest, occupied_rest, replaced_rest};
+ghost use Rattle.scc_stripes.specs.Seats.{IsSeatOfKey};
+ghost use Rattle.scc_shared_cache.specs.Stripes.{stripes_of};
 ghost use Rattle.scc_common.specs.Replies.{HasKey};
 ghost use Rattle.scc_shared_cache.specs.Replies.{ReplacesEqual};
 
@@ -23,9 +26,11 @@ impl<K: Eq + Hash, V, H: BuildHasher> HashCache<K, V, H> {
         ensures entry { (before : Cached (K × V) H) × IsEntryOf K.eq before k result }
         ensures state { IsCacheState K.eq (key_hash H.BuildHasher H.Hasher.Hasher K.hash_input
             (write_guard_value (entry_guard result)).contents) (write_guard_value (entry_guard result)) }
+        ensures seat { IsSeatOfKey H.BuildHasher H.Hasher.Hasher K.hash_input (stripes_of self.now) k (entry_rest result) }
     {
         let stripe = self.stripes.route(&k);
-        HeldEntry::of(self.stripes.write(rt, stripe), k, ())
+        let (guard, seat) = self.stripes.hold(rt, stripe);
+        HeldEntry::of(guard, k, seat)
     }
 
     /// Returns the occupied entry of `k`, whose pair becomes the most recent of its bucket, or `None` if no key equals
@@ -35,8 +40,12 @@ impl<K: Eq + Hash, V, H: BuildHasher> HashCache<K, V, H> {
         ensures entry { IfSome result (λ o. (before : Cached (K × V) H) × IsRefreshed K.eq before k.now o) }
         ensures state { IfSome result (λ o. IsCacheState K.eq
             (key_hash H.BuildHasher H.Hasher.Hasher K.hash_input (occupied_cache o).contents) (occupied_cache o)) }
+        ensures seat { IfSome result (λ o. IsSeatOfKey H.BuildHasher H.Hasher.Hasher K.hash_input (stripes_of self.now)
+            k.now (occupied_rest o)) }
     {
-        HeldOccupied::of(self.stripes.write(rt, self.stripes.route(k)), k, ())
+        let stripe = self.stripes.route(k);
+        let (guard, seat) = self.stripes.hold(rt, stripe);
+        HeldOccupied::of(guard, k, seat)
     }
 
     /// Puts `k` in the place of the key that equals `k`, keeps the value, makes the pair the most recent of its
@@ -47,8 +56,11 @@ impl<K: Eq + Hash, V, H: BuildHasher> HashCache<K, V, H> {
         ensures step { (before : Cached (K × V) H) × Replaces K.eq before k result }
         ensures state { IsCacheState K.eq (key_hash H.BuildHasher H.Hasher.Hasher K.hash_input
             (write_guard_value (replaced_guard result)).contents) (write_guard_value (replaced_guard result)) }
+        ensures seat { IsSeatOfKey H.BuildHasher H.Hasher.Hasher K.hash_input (stripes_of self.now) k
+            (replaced_rest result) }
     {
         let stripe = self.stripes.route(&k);
-        HeldReplace::of(self.stripes.write(rt, stripe), k, ())
+        let (guard, seat) = self.stripes.hold(rt, stripe);
+        HeldReplace::of(guard, k, seat)
     }
 }

@@ -32,11 +32,14 @@ pub struct HashCache<K: Eq + Hash, V, H: BuildHasher = BuildHasherDefault<FoldHa
 
 impl<K: Eq + Hash + Drop, V: Drop> HashCache<K, V> {
     ghost use Rattle.scc_shared_cache.specs.SharedSizes.{maximum_of};
-    ghost use Rattle.scc_stripes.specs.Sizes.{IsSlotsAsked};
+    ghost use Rattle.scc_shared_cache.specs.Stripes.{hasher_of, stripes_of};
+    ghost use Rattle.scc_stripes.specs.Sizes.{IsBitsAsked, IsSlotsAsked};
+    ghost use Rattle.scc_stripes.specs.Stripes.{stripe_bits};
 
     /// Returns an empty cache of four stripes without arrays, with a maximum of 256 slots. Fails if memory is refused.
     pub fn new(alloc: Global) -> Result<Self, MakeError>
         ensures maximum { IfOk result (λ c. maximum_of c ≡ 256) }
+        ensures stripes { IfOk result (λ c. IsBitsAsked 0 256 (stripe_bits (stripes_of c))) }
     {
         HashCache::with_hasher(alloc, BuildHasherDefault::new())
     }
@@ -44,6 +47,7 @@ impl<K: Eq + Hash + Drop, V: Drop> HashCache<K, V> {
     /// Returns an empty cache of `capacity` and `maximum`, as `with_capacity_and_hasher` does.
     pub fn with_capacity(alloc: Global, capacity: usize, maximum: usize) -> Result<Self, MakeError>
         ensures maximum { IfOk result (λ c. (n : ℕ) × IsSlotsAsked capacity n × IsArraySize (max maximum n) (maximum_of c)) }
+        ensures stripes { IfOk result (λ c. IsBitsAsked capacity maximum (stripe_bits (stripes_of c))) }
     {
         HashCache::with_capacity_and_hasher(alloc, capacity, maximum, BuildHasherDefault::new())
     }
@@ -51,11 +55,15 @@ impl<K: Eq + Hash + Drop, V: Drop> HashCache<K, V> {
 
 impl<K: Eq + Hash + Drop, V: Drop, H: BuildHasher + Drop> HashCache<K, V, H> {
     ghost use Rattle.scc_shared_cache.specs.SharedSizes.{maximum_of};
-    ghost use Rattle.scc_stripes.specs.Sizes.{IsSlotsAsked};
+    ghost use Rattle.scc_shared_cache.specs.Stripes.{hasher_of, stripes_of};
+    ghost use Rattle.scc_stripes.specs.Sizes.{IsBitsAsked, IsSlotsAsked};
+    ghost use Rattle.scc_stripes.specs.Stripes.{stripe_bits};
 
     /// Returns an empty cache of four stripes without arrays, with a maximum of 256 slots. Fails if memory is refused.
     pub fn with_hasher(alloc: Global, hasher: H) -> Result<Self, MakeError>
         ensures maximum { IfOk result (λ c. maximum_of c ≡ 256) }
+        ensures stripes { IfOk result (λ c. IsBitsAsked 0 256 (stripe_bits (stripes_of c))) }
+        ensures hasher { IfOk result (λ c. hasher_of c ≡ hasher) }
     {
         HashCache::with_capacity_and_hasher(alloc, 0, DEFAULT_MAXIMUM_CAPACITY, hasher)
     }
@@ -72,6 +80,8 @@ impl<K: Eq + Hash + Drop, V: Drop, H: BuildHasher + Drop> HashCache<K, V, H> {
         hasher: H,
     ) -> Result<Self, MakeError>
         ensures maximum { IfOk result (λ c. (n : ℕ) × IsSlotsAsked capacity n × IsArraySize (max maximum n) (maximum_of c)) }
+        ensures stripes { IfOk result (λ c. IsBitsAsked capacity maximum (stripe_bits (stripes_of c))) }
+        ensures hasher { IfOk result (λ c. hasher_of c ≡ hasher) }
     {
         let (bits, slots) = sizes_for(capacity, maximum);
         let maximum = slots_for(maximum.max(slots));

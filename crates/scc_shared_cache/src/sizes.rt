@@ -1,6 +1,9 @@
 //! Sizes. A call looks at the stripes one after another.
 ghost use Rattle.std.specs.Prelude.{◌≡◌};
+ghost use Rattle.scc_common.specs.Routing.{stripe_of};
+ghost use Rattle.scc_stripes.specs.Stripes.{stripe_count};
 ghost use Rattle.scc_shared_cache.specs.SharedSizes.{maximum_of};
+ghost use Rattle.scc_shared_cache.specs.Stripes.{hasher_of, stripes_of};
 
 use super::HashCache;
 use std::hash::{BuildHasher, Hash};
@@ -21,6 +24,14 @@ impl<K: Eq + Hash, V, H: BuildHasher> HashCache<K, V, H> {
     /// Returns the number of slots of all stripes, at most `usize::MAX`.
     pub fn capacity(&self, rt: &impl Wait) -> usize {
         self.stripes.slots(rt)
+    }
+
+    /// Returns the number of the stripe of `k`.
+    pub fn stripe_of(&self, k: &K) -> usize
+        ensures { result ≡ stripe_of H.BuildHasher H.Hasher.Hasher K.hash_input (hasher_of self.now)
+            (stripe_count (stripes_of self.now)) k.now }
+    {
+        self.stripes.route(k)
     }
 
     /// Returns the range from the minimum of the cache to the greatest number of slots that it may grow to.

@@ -1,5 +1,8 @@
 //! Walks over all stripes, one after another. A walk lends its closure to each stripe in turn. No walk refreshes a
 //! pair.
+ghost use Rattle.scc_shared_cache.specs.Stripes.{stripes_of};
+ghost use Rattle.scc_stripes.specs.Stripes.{stripe_count};
+ghost use Rattle.scc_stripes.specs.Walks.{AreOfStripes};
 ghost use Rattle.std.specs.Prelude.{◌≡◌, ◌≤◌, ◌++◌, List, OnErr};
 ghost use Rattle.std.specs.Vec.{vec_len, vec_capacity};
 ghost use Rattle.scc_common.specs.Walks.{CalledOn, Walks};
@@ -15,10 +18,13 @@ impl<K: Eq + Hash, V, H: BuildHasher> HashCache<K, V, H> {
     /// stripe is locked at a time, for reading.
     pub fn iter_sync<F: FnMut(&K, &V) -> bool>(&self, rt: &impl Wait, mut f: F) -> bool
         requires { F.IsAlwaysCallable f }
-        ensures calls { (es : List (K × V)) × (last : F) × Walks (CalledOn F.FnMut) f es result last }
+        ensures calls { (es : List (K × V)) × (last : F) × Walks (CalledOn F.FnMut) f es result last
+            × AreOfStripes K.eq (λ p. p.0) (stripe_count (stripes_of self.now)) es }
     {
         for stripe in 0..self.stripes.stripes() {
-            if !self.stripes.read(rt, stripe).iter_lent(&mut f) {
+            let guard = self.stripes.read(rt, stripe);
+            let _ = guard.len();
+            if !guard.iter_lent(&mut f) {
                 return false;
             }
         }
@@ -33,7 +39,8 @@ impl<K: Eq + Hash, V, H: BuildHasher> HashCache<K, V, H> {
         V: Drop,
         requires { F.IsAlwaysCallable f }
         ensures calls { (es : List (K × V)) × (stay : List (K × V)) × (last : F)
-            × Retains (CalledToWrite F.FnMut) f es stay last }
+            × Retains (CalledToWrite F.FnMut) f es stay last
+            × AreOfStripes K.eq (λ p. p.0) (stripe_count (stripes_of self.now)) es }
     {
         for stripe in 0..self.stripes.stripes() {
             self.stripes.write(rt, stripe).retain_lent(&mut f);
@@ -52,7 +59,8 @@ impl<K: Eq + Hash, V, H: BuildHasher> HashCache<K, V, H> {
     ) -> Result<bool, WalkError>
         requires { F.IsAlwaysCallable f }
         ensures calls { (es : List (K × V)) × (stay : List (K × V)) × (more : List (K × V)) × (last : F)
-            × Takes (CalledToWrite F.FnMut) f es stay more result last × (taken.new.items ≡ taken.old.items ++ more) }
+            × Takes (CalledToWrite F.FnMut) f es stay more result last × (taken.new.items ≡ taken.old.items ++ more)
+            × AreOfStripes K.eq (λ p. p.0) (stripe_count (stripes_of self.now)) es }
         ensures full { OnErr result (vec_capacity taken.new ≤ vec_len taken.new) }
         ensures room { vec_capacity taken.old ≤ vec_capacity taken.new }
     {

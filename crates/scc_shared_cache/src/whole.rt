@@ -1,7 +1,9 @@
 //! Calls on a whole cache: comparing, making a cache of items. They look at the stripes one after another.
-ghost use Rattle.std.specs.Prelude.{◌<◌};
-ghost use Rattle.std.specs.Iterator.{IsFinite};
-ghost use Rattle.scc_stripes.specs.Stripes.{stripe_count};
+ghost use Rattle.std.specs.Prelude.{◌<◌, List, length, IfOk};
+ghost use Rattle.std.specs.Iterator.{Drains, IsFinite};
+ghost use Rattle.scc_shared_cache.specs.Stripes.{hasher_of, stripes_of};
+ghost use Rattle.scc_stripes.specs.Sizes.{IsBitsAsked};
+ghost use Rattle.scc_stripes.specs.Stripes.{stripe_bits, stripe_count};
 
 use super::HashCache;
 use scc_common::{InsertError, MakeError};
@@ -83,6 +85,9 @@ impl<K: Eq + Hash + Drop, V: Drop, H: BuildHasher + Default + Drop> HashCache<K,
     ) -> Result<Self, MakeError>
         requires { (it : I.IntoIter) → I.into_iter_gives items it
             → I.IntoIter.can_next it × IsFinite (I.IntoIter.remaining it) }
+        ensures stripes { IfOk result (λ c. (it : I.IntoIter) × (xs : List (K × V)) × I.into_iter_gives items it
+            × Drains I.IntoIter.next_gives it xs × IsBitsAsked (length xs) (length xs) (stripe_bits (stripes_of c))) }
+        ensures hasher { IfOk result (λ c. H.is_default (hasher_of c)) }
     {
         let Ok(pairs) = Vec::from_iter(alloc, items) else {
             return Err(MakeError);

@@ -4,9 +4,10 @@ ghost use Rattle.std.specs.Sync.RwLock.{write_guard_value};
 ghost use Rattle.scc_common.specs.Pairs.{IsUnique};
 ghost use Rattle.scc_index.specs.Entries.{occupied_index, entry_guard, occupied_pair, occupied_front, IsEntryOf, IsOccupiedAt};
 ghost use Rattle.scc_index.specs.EntrySteps.{StandsIn};
-ghost use Rattle.scc_index.specs.Seats.{entry_rest, occupied_rest, HasSeatIn};
+ghost use Rattle.scc_index.specs.Seats.{entry_rest, occupied_rest, occupied_stripe, HasSeatIn};
 ghost use Rattle.scc_shared_index.specs.Stripes.{stripes_of};
 ghost use Rattle.scc_stripes.specs.Seats.{IsSeatOfKey};
+ghost use Rattle.scc_stripes.specs.Walks.{AreOfStripes};
 ghost use Rattle.scc_common.specs.Walks.{CalledOn};
 ghost use Rattle.scc_common.specs.PairWalks.{Declines, PassesAt};
 
@@ -46,6 +47,7 @@ impl<K: Eq + Hash, V, H: BuildHasher> HashIndex<K, V, H> {
     /// Returns the first entry of the first stripe that has an entry, or `None` if no stripe has one.
     pub fn begin_sync(&self, rt: &impl Wait) -> Option<OccupiedEntry<'_, K, V, H>>
         ensures first { IfSome result (λ o. StandsIn (occupied_index o) o × (occupied_front o ≡ [])) }
+        ensures unique { IfSome result (λ o. IsUnique K.eq (occupied_index o)) }
         ensures seat { IfSome result (HasSeatIn (stripes_of self.now)) }
     {
         let (guard, seat) = self.stripes.hold(rt, 0);
@@ -64,9 +66,11 @@ impl<K: Eq + Hash, V, H: BuildHasher> HashIndex<K, V, H> {
     ) -> Option<OccupiedEntry<'_, K, V, H>>
         requires { P.IsAlwaysCallable p }
         ensures here { IfSome result (λ o. StandsIn (occupied_index o) o) }
+        ensures unique { IfSome result (λ o. IsUnique K.eq (occupied_index o)) }
         ensures seat { IfSome result (HasSeatIn (stripes_of self.now)) }
         ensures first { IfSome result (λ o. (es : List (K × V)) × (q : P) × Declines (CalledOn P.FnMut) p es q
-            × PassesAt (CalledOn P.FnMut) q (occupied_front o) (occupied_pair o)) }
+            × PassesAt (CalledOn P.FnMut) q (occupied_front o) (occupied_pair o)
+            × AreOfStripes K.eq (λ p. p.0) (occupied_stripe o) es) }
     {
         for stripe in 0..self.stripes.stripes() {
             let (guard, seat) = self.stripes.hold(rt, stripe);

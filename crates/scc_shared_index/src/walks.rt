@@ -1,5 +1,8 @@
 //! Walks over all stripes, one after another. A contract says on which pairs the closure was called in turn and what
 //! it returned, for lists of pairs found in the stripes.
+ghost use Rattle.scc_shared_index.specs.Stripes.{stripes_of};
+ghost use Rattle.scc_stripes.specs.Stripes.{stripe_count};
+ghost use Rattle.scc_stripes.specs.Walks.{AreOfStripes};
 ghost use Rattle.std.specs.Prelude.{List};
 ghost use Rattle.scc_common.specs.Walks.{CalledOn, Walks};
 ghost use Rattle.scc_index.specs.IndexWalks.{Retains};
@@ -14,10 +17,13 @@ impl<K: Eq + Hash, V, H: BuildHasher> HashIndex<K, V, H> {
     /// stripe is locked at a time, for reading.
     pub fn iter_sync<F: FnMut(&K, &V) -> bool>(&self, rt: &impl Wait, mut f: F) -> bool
         requires { F.IsAlwaysCallable f }
-        ensures calls { (es : List (K × V)) × (last : F) × Walks (CalledOn F.FnMut) f es result last }
+        ensures calls { (es : List (K × V)) × (last : F) × Walks (CalledOn F.FnMut) f es result last
+            × AreOfStripes K.eq (λ p. p.0) (stripe_count (stripes_of self.now)) es }
     {
         for stripe in 0..self.stripes.stripes() {
-            if !self.stripes.read(rt, stripe).iter_lent(&mut f) {
+            let guard = self.stripes.read(rt, stripe);
+            let _ = guard.len();
+            if !guard.iter_lent(&mut f) {
                 return false;
             }
         }
@@ -32,10 +38,12 @@ impl<K: Eq + Hash, V, H: BuildHasher> HashIndex<K, V, H> {
         V: Drop,
         requires { F.IsAlwaysCallable f }
         ensures calls { (es : List (K × V)) × (stay : List (K × V)) × (last : F)
-            × Retains (CalledOn F.FnMut) f es stay last }
+            × Retains (CalledOn F.FnMut) f es stay last
+            × AreOfStripes K.eq (λ p. p.0) (stripe_count (stripes_of self.now)) es }
     {
         for stripe in 0..self.stripes.stripes() {
             let mut guard = self.stripes.write(rt, stripe);
+            let _ = guard.len();
             guard.retain_lent(&mut f);
             self.stripes.follow(&mut *guard);
         }

@@ -1,6 +1,11 @@
 //! A hash map that threads share: a fixed number of stripes, each an owned map behind a lock.
 #![tactic(auto)]
 
+ghost use Rattle.scc_shared_map.specs.Stripes.{hasher_of, stripes_of};
+ghost use Rattle.scc_stripes.specs.Sizes.{IsBitsAsked};
+ghost use Rattle.scc_stripes.specs.Stripes.{stripe_bits};
+ghost use Rattle.std.specs.Prelude.{◌≡◌, IfOk};
+
 mod calls;
 mod entries;
 mod sizes;
@@ -28,20 +33,27 @@ pub struct HashMap<K: Eq + Hash, V, H: BuildHasher = BuildHasherDefault<FoldHash
 
 impl<K: Eq + Hash + Drop, V: Drop> HashMap<K, V> {
     /// Returns an empty map of 16 stripes without arrays. Fails if memory is refused.
-    pub fn new(alloc: Global) -> Result<Self, MakeError> {
+    pub fn new(alloc: Global) -> Result<Self, MakeError>
+        ensures stripes { IfOk result (λ m. IsBitsAsked 0 1024 (stripe_bits (stripes_of m))) }
+    {
         HashMap::with_hasher(alloc, BuildHasherDefault::new())
     }
 
     /// Returns an empty map with at least `capacity` slots in all stripes together, as `with_capacity_and_hasher`
     /// does.
-    pub fn with_capacity(alloc: Global, capacity: usize) -> Result<Self, MakeError> {
+    pub fn with_capacity(alloc: Global, capacity: usize) -> Result<Self, MakeError>
+        ensures stripes { IfOk result (λ m. IsBitsAsked capacity 1024 (stripe_bits (stripes_of m))) }
+    {
         HashMap::with_capacity_and_hasher(alloc, capacity, BuildHasherDefault::new())
     }
 }
 
 impl<K: Eq + Hash + Drop, V: Drop, H: BuildHasher + Drop> HashMap<K, V, H> {
     /// Returns an empty map of 16 stripes without arrays. Fails if memory is refused.
-    pub fn with_hasher(alloc: Global, hasher: H) -> Result<Self, MakeError> {
+    pub fn with_hasher(alloc: Global, hasher: H) -> Result<Self, MakeError>
+        ensures stripes { IfOk result (λ m. IsBitsAsked 0 1024 (stripe_bits (stripes_of m))) }
+        ensures hasher { IfOk result (λ m. hasher_of m ≡ hasher) }
+    {
         HashMap::with_capacity_and_hasher(alloc, 0, hasher)
     }
 
@@ -52,7 +64,10 @@ impl<K: Eq + Hash + Drop, V: Drop, H: BuildHasher + Drop> HashMap<K, V, H> {
         alloc: Global,
         capacity: usize,
         hasher: H,
-    ) -> Result<Self, MakeError> {
+    ) -> Result<Self, MakeError>
+        ensures stripes { IfOk result (λ m. IsBitsAsked capacity 1024 (stripe_bits (stripes_of m))) }
+        ensures hasher { IfOk result (λ m. hasher_of m ≡ hasher) }
+    {
         let stripes = Striped::with_capacity(alloc, capacity, hasher)?;
         Ok(HashMap { stripes, alloc })
     }

@@ -1,8 +1,9 @@
 //! Calls on a whole map: comparing, cloning, making a map of items. They look at the stripes one after another.
-ghost use Rattle.std.specs.Prelude.{◌≡◌, ◌<◌, IfOk};
-ghost use Rattle.std.specs.Iterator.{IsFinite};
-ghost use Rattle.scc_stripes.specs.Stripes.{stripe_count};
-ghost use Rattle.scc_shared_map.specs.Stripes.{hasher_of};
+ghost use Rattle.std.specs.Prelude.{◌≡◌, ◌<◌, List, length, IfOk};
+ghost use Rattle.std.specs.Iterator.{Drains, IsFinite};
+ghost use Rattle.scc_stripes.specs.Sizes.{IsBitsAsked};
+ghost use Rattle.scc_stripes.specs.Stripes.{stripe_bits, stripe_count};
+ghost use Rattle.scc_shared_map.specs.Stripes.{hasher_of, stripes_of};
 
 use super::HashMap;
 use super::unlocked::Unlocked;
@@ -100,6 +101,9 @@ impl<K: Eq + Hash + Drop, V: Drop, H: BuildHasher + Default + Drop> HashMap<K, V
     ) -> Result<Self, MakeError>
         requires { (it : I.IntoIter) → I.into_iter_gives items it
             → I.IntoIter.can_next it × IsFinite (I.IntoIter.remaining it) }
+        ensures stripes { IfOk result (λ m. (it : I.IntoIter) × (xs : List (K × V)) × I.into_iter_gives items it
+            × Drains I.IntoIter.next_gives it xs × IsBitsAsked (length xs) 1024 (stripe_bits (stripes_of m))) }
+        ensures hasher { IfOk result (λ m. H.is_default (hasher_of m)) }
     {
         let Ok(pairs) = Vec::from_iter(alloc, items) else {
             return Err(MakeError);

@@ -1,14 +1,15 @@
 -- The key of an entry, and where the key stands in its stripe.
-use Rattle.std.specs.Prelude.{◌≡◌, List, []}
+use Rattle.std.specs.Prelude.{◌≡◌, ℕ, Bool, List, []}
 use Rattle.std.specs.Map.{keys_of}
 use Rattle.std.specs.declared.cmp.PartialEq as eq
 use Rattle.std.specs.declared.hash.Hash as hash
 use Rattle.std.specs.declared.hash.Hasher as hasher
 use Rattle.std.specs.declared.hash.BuildHasher as builder
-use Rattle.scc_map.specs.Entries.{occupied_pair, occupied_front as pairs_before, occupied_back as pairs_after}
+use Rattle.scc_map.specs.Entries.{occupied_map, occupied_pair, occupied_front as pairs_before, occupied_back as pairs_after}
 use Rattle.scc_map.specs.EntrySteps as pairs
 use Rattle.scc_map.specs.Seats as seats
 use Rattle.scc_common.specs.Contents.{Contents}
+use Rattle.scc_common.specs.Pairs.{IsUnique}
 use Rattle.scc_common.specs.declared.guard.Guard as guard
 use Rattle.scc_map.specs.declared.held.HeldOccupied.{HeldOccupied}
 use Rattle.scc_shared_set.specs.declared.entries.HeldKey.{HeldKey}
@@ -45,11 +46,19 @@ module _ {G N K S T : Type 0} {d : guard.Ghosts G (Contents (K × Unit {0}) S)} 
   abbrev pub IsFirstOfStripe : HeldKey (HeldOccupied G N K (Unit {0}) S T d g h b w) → Type 0
   IsFirstOfStripe o = pairs_before o.entry ≡ []
 
+  -- no two keys of the stripe are equal
+  abbrev pub HasUniqueKeys : (K → K → Bool) → HeldKey (HeldOccupied G N K (Unit {0}) S T d g h b w) → Type 0
+  HasUniqueKeys same o = IsUnique same (occupied_map o.entry)
+
   -- p holds the stripe that o holds
   abbrev pub HasSameRest : HeldKey (HeldOccupied G N K (Unit {0}) S T d g h b w) → HeldKey (HeldOccupied G N K (Unit {0}) S T d g h b w) → Type 0
   HasSameRest o p = seats.HasSameRest o.entry p.entry
 
 module _ {G O H K S T : Type 0} {d : guard.Ghosts G (Contents (K × Unit {0}) S)} {g : eq.Ghosts K} {h : hash.Ghosts K} {b : builder.Ghosts S T} {w : hasher.Ghosts T} where
+  -- the number of the stripe that o holds
+  abbrev pub occupied_stripe : HeldKey (HeldOccupied G (Seat O H) K (Unit {0}) S T d g h b w) → ℕ
+  occupied_stripe o = seats.occupied_stripe o.entry
+
   -- o holds one of these stripes
   abbrev pub HasSeatIn : Striped O H → HeldKey (HeldOccupied G (Seat O H) K (Unit {0}) S T d g h b w) → Type 0
   HasSeatIn stripes o = seats.HasSeatIn stripes o.entry

@@ -2,8 +2,9 @@
 ghost use Rattle.std.specs.Prelude.{◌≡◌, List, IfSome, IsSomeAnd};
 ghost use Rattle.std.specs.Fn.{CalledAt, TakesAt};
 ghost use Rattle.scc_set.specs.SetWalks.{Declines, PassesAt};
-ghost use Rattle.scc_shared_set.specs.SetEntries.{occupied_key, occupied_front, HasLaterSeat, HasSeatIn, IsFirstOfStripe, IsLastOfStripe, IsNext, IsNextPastRemoved, HasSameRest};
+ghost use Rattle.scc_shared_set.specs.SetEntries.{occupied_key, occupied_front, occupied_stripe, HasLaterSeat, HasSeatIn, HasUniqueKeys, IsFirstOfStripe, IsLastOfStripe, IsNext, IsNextPastRemoved, HasSameRest};
 ghost use Rattle.scc_shared_set.specs.Stripes.{stripes_of};
+ghost use Rattle.scc_stripes.specs.Walks.{AreOfStripes};
 
 use super::HashSet;
 use std::hash::{BuildHasher, BuildHasherDefault, FoldHasher, Hash};
@@ -24,6 +25,7 @@ impl<K: Eq + Hash, H: BuildHasher> HashSet<K, H> {
     /// Returns the entry of the first key of the first stripe that has a key, or `None` if no stripe has one.
     pub fn begin_sync(&self, rt: &impl Wait) -> Option<OccupiedEntry<'_, K, H>>
         ensures first { IfSome result IsFirstOfStripe }
+        ensures unique { IfSome result (HasUniqueKeys K.eq) }
         ensures seat { IfSome result (HasSeatIn (stripes_of self.now)) }
     {
         match self.map.begin_sync(rt) {
@@ -41,7 +43,9 @@ impl<K: Eq + Hash, H: BuildHasher> HashSet<K, H> {
     ) -> Option<OccupiedEntry<'_, K, H>>
         requires { P.IsAlwaysCallable p }
         ensures first { IfSome result (λ o. (ks : List K) × (q : P) × Declines (CalledAt P.FnMut) p ks q
-            × PassesAt (CalledAt P.FnMut) q (occupied_front o) (occupied_key o)) }
+            × PassesAt (CalledAt P.FnMut) q (occupied_front o) (occupied_key o)
+            × AreOfStripes K.eq (λ k. k) (occupied_stripe o) ks) }
+        ensures unique { IfSome result (HasUniqueKeys K.eq) }
         ensures seat { IfSome result (HasSeatIn (stripes_of self.now)) }
     {
         match self.map.any_sync(
@@ -65,6 +69,13 @@ impl<'a, K: Eq + Hash, H: BuildHasher> HeldKey<scc_map::locked::OccupiedEntry<'a
         self.entry.key()
     }
 
+    /// Returns the number of the locked stripe.
+    pub fn stripe(&self) -> usize
+        ensures { result ≡ occupied_stripe self.now }
+    {
+        self.entry.stripe()
+    }
+
     /// Removes the key, and returns it. Then the array of the stripe may shrink, and the lock is released.
     pub fn remove_entry(self) -> K
         ensures { result ≡ occupied_key self.entry }
@@ -80,6 +91,7 @@ impl<'a, K: Eq + Hash, H: BuildHasher> HeldKey<scc_map::locked::OccupiedEntry<'a
         ensures later { IsLastOfStripe self.entry → IfSome result IsFirstOfStripe }
         ensures stays { (IsLastOfStripe self.entry → ⊥) → IfSome result (HasSameRest self.entry) }
         ensures goes_on { IsLastOfStripe self.entry → IfSome result (HasLaterSeat self.entry) }
+        ensures unique { IfSome result (HasUniqueKeys K.eq) }
     {
         match self.entry.next_sync(rt) {
             Some(entry) => Some(HeldKey { entry }),
@@ -95,6 +107,7 @@ impl<'a, K: Eq + Hash, H: BuildHasher> HeldKey<scc_map::locked::OccupiedEntry<'a
         ensures later { IsLastOfStripe self.entry → IfSome result.1 IsFirstOfStripe }
         ensures stays { (IsLastOfStripe self.entry → ⊥) → IfSome result.1 (HasSameRest self.entry) }
         ensures goes_on { IsLastOfStripe self.entry → IfSome result.1 (HasLaterSeat self.entry) }
+        ensures unique { IfSome result.1 (HasUniqueKeys K.eq) }
     {
         let ((key, _), next) = self.entry.remove_and_sync(rt);
         match next {

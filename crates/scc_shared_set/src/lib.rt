@@ -1,6 +1,11 @@
 //! A hash set that threads share, over the hash map that threads share.
 #![tactic(auto)]
 
+ghost use Rattle.scc_shared_set.specs.Stripes.{hasher_of, stripes_of};
+ghost use Rattle.scc_stripes.specs.Sizes.{IsBitsAsked};
+ghost use Rattle.scc_stripes.specs.Stripes.{stripe_bits};
+ghost use Rattle.std.specs.Prelude.{◌≡◌, IfOk};
+
 mod calls;
 mod entries;
 mod sizes;
@@ -27,20 +32,27 @@ pub struct HashSet<K: Eq + Hash, H: BuildHasher = BuildHasherDefault<FoldHasher>
 
 impl<K: Eq + Hash + Drop> HashSet<K> {
     /// Returns an empty set of 16 stripes without arrays. Fails if memory is refused.
-    pub fn new(alloc: Global) -> Result<Self, MakeError> {
+    pub fn new(alloc: Global) -> Result<Self, MakeError>
+        ensures stripes { IfOk result (λ s. IsBitsAsked 0 1024 (stripe_bits (stripes_of s))) }
+    {
         HashSet::with_hasher(alloc, BuildHasherDefault::new())
     }
 
     /// Returns an empty set with at least `capacity` slots in all stripes together, as `with_capacity_and_hasher`
     /// does.
-    pub fn with_capacity(alloc: Global, capacity: usize) -> Result<Self, MakeError> {
+    pub fn with_capacity(alloc: Global, capacity: usize) -> Result<Self, MakeError>
+        ensures stripes { IfOk result (λ s. IsBitsAsked capacity 1024 (stripe_bits (stripes_of s))) }
+    {
         HashSet::with_capacity_and_hasher(alloc, capacity, BuildHasherDefault::new())
     }
 }
 
 impl<K: Eq + Hash + Drop, H: BuildHasher + Drop> HashSet<K, H> {
     /// Returns an empty set of 16 stripes without arrays. Fails if memory is refused.
-    pub fn with_hasher(alloc: Global, hasher: H) -> Result<Self, MakeError> {
+    pub fn with_hasher(alloc: Global, hasher: H) -> Result<Self, MakeError>
+        ensures stripes { IfOk result (λ s. IsBitsAsked 0 1024 (stripe_bits (stripes_of s))) }
+        ensures hasher { IfOk result (λ s. hasher_of s ≡ hasher) }
+    {
         match HashMap::with_hasher(alloc, hasher) {
             Ok(map) => Ok(HashSet { map }),
             Err(e) => Err(e),
@@ -54,7 +66,10 @@ impl<K: Eq + Hash + Drop, H: BuildHasher + Drop> HashSet<K, H> {
         alloc: Global,
         capacity: usize,
         hasher: H,
-    ) -> Result<Self, MakeError> {
+    ) -> Result<Self, MakeError>
+        ensures stripes { IfOk result (λ s. IsBitsAsked capacity 1024 (stripe_bits (stripes_of s))) }
+        ensures hasher { IfOk result (λ s. hasher_of s ≡ hasher) }
+    {
         match HashMap::with_capacity_and_hasher(alloc, capacity, hasher) {
             Ok(map) => Ok(HashSet { map }),
             Err(e) => Err(e),

@@ -1,5 +1,8 @@
 //! Sizes and reservations of a set. A call looks at the stripes one after another.
 ghost use Rattle.std.specs.Prelude.{◌≡◌, ◌<◌, ◌≤◌, ◌^◌, IfSome};
+ghost use Rattle.scc_common.specs.Routing.{stripe_of};
+ghost use Rattle.scc_stripes.specs.Stripes.{stripe_count};
+ghost use Rattle.scc_shared_set.specs.Stripes.{hasher_of, stripes_of};
 ghost use Rattle.scc_shared_map.specs.Reserves.{reserved_slots};
 
 use super::{HashSet, Reserve};
@@ -29,6 +32,14 @@ impl<K: Eq + Hash, H: BuildHasher> HashSet<K, H> {
         ensures high { result.end ≡ 2 ^ 63 }
     {
         self.map.capacity_range()
+    }
+
+    /// Returns the number of the stripe of `k`.
+    pub fn stripe_of(&self, k: &K) -> usize
+        ensures { result ≡ stripe_of H.BuildHasher H.Hasher.Hasher K.hash_input (hasher_of self.now)
+            (stripe_count (stripes_of self.now)) k.now }
+    {
+        self.map.stripe_of(k)
     }
 
     /// Returns the number of the bucket of `k` in its stripe, or 0 if the stripe has no array.

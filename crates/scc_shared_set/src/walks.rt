@@ -2,6 +2,9 @@
 ghost use Rattle.std.specs.Prelude.{◌≡◌, ◌≤◌, ◌++◌, List, OnErr};
 ghost use Rattle.std.specs.Vec.{vec_len, vec_capacity};
 ghost use Rattle.std.specs.Fn.{CalledAt, TakesAt};
+ghost use Rattle.scc_shared_set.specs.Stripes.{stripes_of};
+ghost use Rattle.scc_stripes.specs.Stripes.{stripe_count};
+ghost use Rattle.scc_stripes.specs.Walks.{AreOfStripes};
 ghost use Rattle.scc_set.specs.SetWalks.{Retains, Takes, Walks};
 
 use super::HashSet;
@@ -14,7 +17,8 @@ impl<K: Eq + Hash, H: BuildHasher> HashSet<K, H> {
     /// stripe is locked at a time, for reading.
     pub fn iter_sync<F: FnMut(&K) -> bool>(&self, rt: &impl Wait, mut f: F) -> bool
         requires { F.IsAlwaysCallable f }
-        ensures calls { (ks : List K) × (last : F) × Walks (CalledAt F.FnMut) f ks result last }
+        ensures calls { (ks : List K) × (last : F) × Walks (CalledAt F.FnMut) f ks result last
+            × AreOfStripes K.eq (λ k. k) (stripe_count (stripes_of self.now)) ks }
     {
         self.map.iter_sync(
             rt,
@@ -31,7 +35,8 @@ impl<K: Eq + Hash, H: BuildHasher> HashSet<K, H> {
     where
         K: Drop,
         requires { F.IsAlwaysCallable f }
-        ensures calls { (ks : List K) × (stay : List K) × (last : F) × Retains (CalledAt F.FnMut) f ks stay last }
+        ensures calls { (ks : List K) × (stay : List K) × (last : F) × Retains (CalledAt F.FnMut) f ks stay last
+            × AreOfStripes K.eq (λ k. k) (stripe_count (stripes_of self.now)) ks }
     {
         self.map.retain_sync(
             rt,
@@ -54,7 +59,8 @@ impl<K: Eq + Hash, H: BuildHasher> HashSet<K, H> {
     ) -> Result<bool, WalkError>
         requires { F.IsAlwaysCallable f }
         ensures calls { (ks : List K) × (stay : List K) × (more : List K) × (last : F)
-            × Takes (CalledAt F.FnMut) f ks stay more result last × (taken.new.items ≡ taken.old.items ++ more) }
+            × Takes (CalledAt F.FnMut) f ks stay more result last × (taken.new.items ≡ taken.old.items ++ more)
+            × AreOfStripes K.eq (λ k. k) (stripe_count (stripes_of self.now)) ks }
         ensures full { OnErr result (vec_capacity taken.new ≤ vec_len taken.new) }
         ensures room { vec_capacity taken.old ≤ vec_capacity taken.new }
     {

@@ -1,7 +1,9 @@
 //! Calls on a whole set: comparing, cloning, making a set of items. They look at the stripes one after another.
-ghost use Rattle.std.specs.Prelude.{◌≡◌, IfOk};
-ghost use Rattle.std.specs.Iterator.{IsFinite};
-ghost use Rattle.scc_shared_set.specs.Stripes.{hasher_of};
+ghost use Rattle.std.specs.Prelude.{◌≡◌, List, length, IfOk};
+ghost use Rattle.std.specs.Iterator.{Drains, IsFinite};
+ghost use Rattle.scc_stripes.specs.Sizes.{IsBitsAsked};
+ghost use Rattle.scc_stripes.specs.Stripes.{stripe_bits};
+ghost use Rattle.scc_shared_set.specs.Stripes.{hasher_of, stripes_of};
 
 use super::HashSet;
 use scc_common::{KeyError, MakeError};
@@ -41,6 +43,9 @@ impl<K: Eq + Hash + Drop, H: BuildHasher + Default + Drop> HashSet<K, H> {
     ) -> Result<Self, MakeError>
         requires { (it : I.IntoIter) → I.into_iter_gives items it
             → I.IntoIter.can_next it × IsFinite (I.IntoIter.remaining it) }
+        ensures stripes { IfOk result (λ s. (it : I.IntoIter) × (xs : List K) × I.into_iter_gives items it
+            × Drains I.IntoIter.next_gives it xs × IsBitsAsked (length xs) 1024 (stripe_bits (stripes_of s))) }
+        ensures hasher { IfOk result (λ s. H.is_default (hasher_of s)) }
     {
         let Ok(keys) = Vec::from_iter(alloc, items) else {
             return Err(MakeError);

@@ -1,9 +1,11 @@
 -- What the parts hold that will be stripes.
 use Rattle.std.specs.Prelude.{ℕ, List, vec_len}
+use Rattle.std.specs.List.{All}
 use Rattle.std.specs.Arc.{arc_value}
 use Rattle.std.specs.declared.alloc.Global.{Global}
 use Rattle.std.specs.declared.sync.Arc.{Arc}
 use Rattle.scc_stripes.specs.declared.parts.OpenStripes.{OpenStripes}
+use Rattle.scc_stripes.specs.Stripes.{share_of}
 
 module _ {O H : Type 0} where
   -- the containers
@@ -29,3 +31,8 @@ module _ {O H : Type 0} where
   -- the hasher, which all parts share
   abbrev pub parts_hasher : OpenStripes O H → H
   parts_hasher p = arc_value (parts_owner p)
+
+  -- each part is made with the hasher of all, for its share of the slots asked for and of `maximum`, and skips the bits
+  -- that name it
+  abbrev pub AreMade : (ℕ → ℕ → ℕ → H → O → Type 0) → ℕ → OpenStripes O H → Type 0
+  AreMade made maximum p = All (made (part_bits p) (share_of (part_bits p) (part_slots p)) (share_of (part_bits p) maximum) (parts_hasher p)) (parts_of p)

@@ -5,7 +5,7 @@
 ghost use Rattle.scc_common.specs.Hashing.{hash_of};
 ghost use Rattle.scc_common.specs.Routing.{stripe_number, stripe_of};
 ghost use Rattle.std.specs.Arc.{arc_value};
-ghost use Rattle.std.specs.Prelude.{◌≡◌, ◌≤◌, ◌<◌, ◌^◌, IfOk, IfSome, vec_len};
+ghost use Rattle.std.specs.Prelude.{◌≡◌, ◌≤◌, ◌<◌, ◌^◌, ℕ, IfOk, IfSome, vec_len};
 
 pub mod parts;
 pub mod seats;
@@ -38,6 +38,10 @@ pub trait Follow {
 
 /// A container that can be made as one of several parts.
 pub trait Part<H>: Sized {
+    /// What a new part holds: `is_made skipped slots maximum hasher part` holds of an empty part with the hasher
+    /// `hasher` that skips `skipped` bits of each hash and is for `slots` slots, at most `maximum` in a cache.
+    ghost is_made: { ℕ → ℕ → ℕ → H → Self → Type 0 };
+
     /// Makes an empty container for `slots` slots, which skips `skipped` bits of each hash, and hashes as every other
     /// part of the hasher of `owner`. Only a cache uses `maximum`.
     fn make_part(
@@ -49,7 +53,8 @@ pub trait Part<H>: Sized {
     ) -> Result<Self, MakeError>
     where
         H: Drop,
-        requires { skipped ≤ 4 };
+        requires { skipped ≤ 4 }
+        ensures { IfOk result (is_made skipped slots maximum (arc_value owner)) };
 }
 
 /// How often a call tries a taken lock again before it waits.

@@ -24,7 +24,7 @@ pub struct OpenStripes<O, H> {
 }
 
 impl<O, H> OpenStripes<O, H> {
-    ghost use Rattle.scc_stripes.specs.Parts.{part_bits, part_count, part_slots, parts_hasher, parts_of, parts_owner};
+    ghost use Rattle.scc_stripes.specs.Parts.{AreMade, part_bits, part_count, part_slots, parts_hasher, parts_of, parts_owner};
     ghost use Rattle.scc_stripes.specs.Sizes.{IsBitsAsked, IsSlotsAsked};
     ghost use Rattle.scc_stripes.specs.Stripes.{stripe_bits, stripes_hasher};
 
@@ -45,6 +45,7 @@ impl<O, H> OpenStripes<O, H> {
         ensures bits { IfOk result (λ p. part_bits p ≡ bits) }
         ensures slots { IfOk result (λ p. part_slots p ≡ slots) }
         ensures hasher { IfOk result (λ p. parts_hasher p ≡ arc_value hasher) }
+        ensures parts { IfOk result (AreMade O.is_made maximum) }
     {
         let count = 1usize << bits;
         let mut parts = Vec::new(alloc);
@@ -75,6 +76,7 @@ impl<O, H> OpenStripes<O, H> {
         ensures bits { IfOk result (λ p. IsBitsAsked capacity 1024 (part_bits p)) }
         ensures slots { IfOk result (λ p. IsSlotsAsked capacity (part_slots p)) }
         ensures hasher { IfOk result (λ p. parts_hasher p ≡ stripes_hasher stripes.now) }
+        ensures parts { IfOk result (AreMade O.is_made 0) }
     {
         let owner = stripes.owner()?;
         let (bits, slots) = sizes_for(capacity, SLOTS_OF_MOST_STRIPES);

@@ -1,7 +1,7 @@
 //! `Seat`: the stripe that an entry has locked. A seat is made only together with the guard of its stripe.
 ghost use Rattle.scc_stripes.specs.Seats.{seat_stripe, seat_stripes, IsNextSeat, IsSeatIn};
 ghost use Rattle.scc_stripes.specs.Stripes.{stripe_count};
-ghost use Rattle.std.specs.Prelude.{◌≤◌, ◌<◌, suc, IfNone, IfSome};
+ghost use Rattle.std.specs.Prelude.{◌≡◌, ◌≤◌, ◌<◌, suc, IfNone, IfSome};
 
 use crate::{Follow, Striped};
 use std::sync::{RwLockWriteGuard, Wait};
@@ -50,6 +50,13 @@ impl<'a, O, H> Seat<'a, O, H> {
             return None;
         }
         Some(stripes.hold(rt, stripe + 1))
+    }
+
+    /// Returns the number of the locked stripe.
+    pub fn stripe(&self) -> usize
+        ensures { result ≡ seat_stripe self.now }
+    {
+        self.stripe
     }
 
     /// Gives `container`, that of the locked stripe, its share of the current minimum.

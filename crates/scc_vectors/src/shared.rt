@@ -215,15 +215,15 @@ trait Reserving: Filling {
     fn hold_both<R: Wait>(&self, rt: &R) -> Option<[[usize; 3]; 3]>;
 }
 
-// Adds the keys from `first` up to, but without, `end`. Returns whether each went in and reservations of the greatest
-// number of slots and of 0 are refused.
+// Adds the keys from `first` up to, but without, `end`. Returns whether each went in, and reservations of the greatest
+// number, of the greatest number of slots and of 0 are refused.
 fn refuses_and_adds<C: Filling, R: Wait>(rt: &R, form: &C, first: u64, end: u64) -> bool {
     for key in first..end {
         if !form.add(rt, key) {
             return false;
         }
     }
-    form.refuses(rt, usize::MAX) && form.refuses(rt, 0)
+    form.refuses(rt, usize::MAX) && form.refuses(rt, GREATEST) && form.refuses(rt, 0)
 }
 
 impl Filling for HashMap<u64, u64> {
@@ -429,6 +429,40 @@ fn shared_set_reserve_without_array(rt: HostRuntime) {
 fn shared_index_reserve_without_array(rt: HostRuntime) {
     match HashIndex::<u64, u64>::new(rt.alloc()) {
         Ok(index) => expect_first_array(&rt, &index),
+        Err(_) => expect(&rt, false),
+    }
+}
+
+// While the greatest number of slots is reserved, it can't be reserved again: the sum of both would be 0 in a word.
+fn expect_most<C: Reserving, R: Abort + Wait>(rt: &R, form: &C) {
+    let held = form.hold(rt, GREATEST, 0, 0);
+    expect_eq(
+        rt,
+        (held, form.sizes(rt)),
+        (Some([[0, GREATEST, GREATEST]; 2]), [0, 0, GREATEST]),
+    );
+}
+
+#[test]
+fn shared_map_reserves_the_most_once(rt: HostRuntime) {
+    match HashMap::<u64, u64>::new(rt.alloc()) {
+        Ok(map) => expect_most(&rt, &map),
+        Err(_) => expect(&rt, false),
+    }
+}
+
+#[test]
+fn shared_set_reserves_the_most_once(rt: HostRuntime) {
+    match HashSet::<u64>::new(rt.alloc()) {
+        Ok(set) => expect_most(&rt, &set),
+        Err(_) => expect(&rt, false),
+    }
+}
+
+#[test]
+fn shared_index_reserves_the_most_once(rt: HostRuntime) {
+    match HashIndex::<u64, u64>::new(rt.alloc()) {
+        Ok(index) => expect_most(&rt, &index),
         Err(_) => expect(&rt, false),
     }
 }

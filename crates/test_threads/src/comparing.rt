@@ -15,6 +15,9 @@ const KEYS: u64 = 100;
 
 const ROUNDS: u64 = 200;
 
+/// One of the keys.
+const FIFTH: u64 = (5 << 57) | 5;
+
 /// Slots for two stripes.
 const SLOTS: usize = 512;
 
@@ -133,11 +136,19 @@ fn comparisons_in_opposite_ways_end(rt: HostRuntime) {
     expect_eq(&rt, right, [true; 4]);
 }
 
-// Returns whether a container differs from its equal as soon as it lacks a key, looked at from either side.
-fn differs<C: Threaded, R: Wait>(rt: &R, one: &C, other: &C) -> bool {
+// Returns whether a container differs from its equal, looked at from either side.
+fn differ<C: Threaded, R: Wait>(rt: &R, one: &C, other: &C) -> bool {
+    !one.equals(rt, other) && !other.equals(rt, one)
+}
+
+// Returns whether a container equals its equal, differs from it while a value is another, and as soon as it lacks a
+// key. Only a set has no values.
+fn differs<C: Threaded, R: Wait>(rt: &R, one: &C, other: &C, has_values: bool) -> bool {
     let same = one.equals(rt, other) && other.equals(rt, one);
+    let written = one.rewrite(rt, FIFTH, 8) && differ(rt, one, other) == has_values;
+    let again = one.rewrite(rt, FIFTH, FIFTH) && one.equals(rt, other);
     let gone = one.take(rt, 0);
-    same && gone && !one.equals(rt, other) && !other.equals(rt, one)
+    same && written && again && gone && differ(rt, one, other)
 }
 
 // Returns whether a map's clone has its slots, and equals it only while their values are equal.
@@ -157,7 +168,7 @@ fn is_clone(rt: &impl Wait, map: &Map, copy: &Map) -> bool {
 fn shared_map_clone_equals(rt: HostRuntime) -> Result<(), Fail> {
     let map: Map = filled(&rt, rt.alloc()).ok_or("there is memory")?;
     let copy = map.try_clone(&rt)?;
-    expect(&rt, is_clone(&rt, &map, &copy) && differs(&rt, &copy, &map));
+    expect(&rt, is_clone(&rt, &map, &copy) && differs(&rt, &copy, &map, true));
     Ok(())
 }
 
@@ -165,7 +176,7 @@ fn shared_map_clone_equals(rt: HostRuntime) -> Result<(), Fail> {
 fn shared_set_clone_equals(rt: HostRuntime) -> Result<(), Fail> {
     let set: Set = filled(&rt, rt.alloc()).ok_or("there is memory")?;
     let copy = set.try_clone(&rt)?;
-    expect(&rt, differs(&rt, &copy, &set));
+    expect(&rt, differs(&rt, &copy, &set, false));
     Ok(())
 }
 
@@ -173,7 +184,7 @@ fn shared_set_clone_equals(rt: HostRuntime) -> Result<(), Fail> {
 fn shared_index_clone_equals(rt: HostRuntime) -> Result<(), Fail> {
     let index: Index = filled(&rt, rt.alloc()).ok_or("there is memory")?;
     let copy = index.try_clone(&rt)?;
-    expect(&rt, differs(&rt, &copy, &index));
+    expect(&rt, differs(&rt, &copy, &index, true));
     Ok(())
 }
 
@@ -190,7 +201,7 @@ fn shared_cache_equality_ignores_recency(rt: HostRuntime) -> Result<(), Fail> {
     let first: Cache = filled(&rt, rt.alloc()).ok_or("there is memory")?;
     let second: Cache = filled(&rt, rt.alloc()).ok_or("there is memory")?;
     refreshes(&rt, &second);
-    expect(&rt, differs(&rt, &first, &second));
+    expect(&rt, differs(&rt, &first, &second, true));
     Ok(())
 }
 

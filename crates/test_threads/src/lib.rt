@@ -4,6 +4,8 @@
 #[cfg(test)]
 mod comparing;
 #[cfg(test)]
+mod dropped;
+#[cfg(test)]
 mod expect;
 #[cfg(test)]
 mod flags;
@@ -11,6 +13,8 @@ mod flags;
 mod kinds;
 #[cfg(test)]
 mod locks;
+#[cfg(test)]
+mod stripes;
 #[cfg(test)]
 mod waits;
 #[cfg(test)]

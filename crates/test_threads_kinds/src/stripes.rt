@@ -1,5 +1,4 @@
-// Stripes of a shared map: which key lies in which stripe, what a reservation that ends does beside a held entry, and
-// which slots a removal gives back.
+// Stripes of a shared map: which key lies in which stripe, what a reservation that ends does beside a held entry.
 use crate::expect::{expect, expect_eq};
 use scc_script::same::Same;
 use scc_shared_map::HashMap;
@@ -51,44 +50,6 @@ fn reserve_drop_under_entry(rt: HostRuntime) -> Result<(), Fail> {
     expect_eq(&rt, (old, *entry.get()), (10, 11));
     drop(entry);
     expect_eq(&rt, map.capacity(&rt), 64);
-    Ok(())
-}
-
-// Removes a key by a call, or by the entry of the key.
-fn removes(rt: &impl Wait, map: &Map, key: u64, by_entry: bool) -> bool {
-    if !by_entry {
-        return map.remove_sync(rt, &key) == Some((key, key));
-    }
-    match map.get_sync(rt, &key) {
-        Some(entry) => entry.remove_entry() == (key, key),
-        None => false,
-    }
-}
-
-// Returns the number of a bucket at first, under a reservation, after the reservation and after a removal. The number
-// shows the size of the array, and asking for it changes nothing.
-fn gives_back(rt: &impl Wait, map: &Map, key: u64, by_entry: bool) -> Option<[usize; 4]> {
-    let before = map.bucket_index(rt, &HALF);
-    let reserve = map.reserve(rt, 1000)?;
-    let grown = map.bucket_index(rt, &HALF);
-    drop(reserve);
-    let left = map.bucket_index(rt, &HALF);
-    if removes(rt, map, key, by_entry) {
-        Some([before, grown, left, map.bucket_index(rt, &HALF)])
-    } else {
-        None
-    }
-}
-
-#[test]
-fn shared_map_removal_gives_back(rt: HostRuntime) -> Result<(), Fail> {
-    let map: Map = HashMap::with_capacity_and_hasher(rt.alloc(), 64, Same)?;
-    expect(&rt, map.insert_sync(&rt, 1, 1).is_ok());
-    expect(&rt, map.insert_sync(&rt, 2, 2).is_ok());
-    let by_call = gives_back(&rt, &map, 1, false);
-    expect_eq(&rt, by_call, Some([1, 32, 32, 1]));
-    let by_entry = gives_back(&rt, &map, 2, true);
-    expect_eq(&rt, by_entry, Some([1, 32, 32, 1]));
     Ok(())
 }
 

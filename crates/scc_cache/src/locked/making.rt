@@ -3,6 +3,7 @@
 ghost use Rattle.scc_cache.specs.CacheSteps.{IsAbsent};
 ghost use Rattle.scc_cache.specs.Caches.{IsCacheState};
 ghost use Rattle.scc_cache.specs.Entries.{entry_guard, occupied_cache, IsEntryOf, IsRefreshed, replaced_guard, Replaces, occupied_guard};
+ghost use Rattle.scc_cache.specs.Seats.{entry_rest, occupied_rest, replaced_rest};
 ghost use Rattle.scc_common.specs.Contents.{hash_in};
 ghost use Rattle.std.specs.Prelude.{◌≡◌, IfSome, IfNone};
 
@@ -24,6 +25,7 @@ impl<G: Guard<Inner = Owned<K, V, H>>, N, K: Eq + Hash, V, H: BuildHasher> HeldE
     where
         K: Drop,
         ensures same_guard { entry_guard result ≡ G.with_inner guard (G.inner (entry_guard result)) }
+        ensures rest { entry_rest result ≡ rest }
         ensures entry { IsEntryOf K.eq (G.inner guard) k result }
         ensures state { IsCacheState K.eq (hash_in ⟦<H as Hashes<K>>⟧.hash_of (G.inner (entry_guard result)).contents)
             (G.inner (entry_guard result)) }
@@ -51,6 +53,7 @@ impl<G: Guard<Inner = Owned<K, V, H>>, N, K: Eq + Hash, V, H: BuildHasher> HeldO
         G: Drop,
         N: Drop,
         ensures same_guard { IfSome result (λ o. occupied_guard o ≡ G.with_inner guard (occupied_cache o)) }
+        ensures rest { IfSome result (λ o. occupied_rest o ≡ rest) }
         ensures entry { IfSome result (IsRefreshed K.eq (G.inner guard) k.now) }
         ensures missing { IfNone result (IsAbsent (hash_in ⟦<H as Hashes<K>>⟧.hash_of (G.inner guard).contents) K.eq
             (G.inner guard).contents k.now) }
@@ -76,6 +79,7 @@ impl<G: Guard<Inner = Owned<K, V, H>>, N, K: Eq + Hash, V, H: BuildHasher> HeldR
     /// Puts `k` in the place of the key that equals it, makes the pair the most recent of its bucket, and returns the
     /// entry with the old key. If no key equals `k`, returns the vacant entry of `k`.
     pub fn of(guard: G, k: K, rest: N) -> Self
+        ensures rest { replaced_rest result ≡ rest }
         ensures step { Replaces K.eq (G.inner guard) k result }
         ensures state { IsCacheState K.eq (hash_in ⟦<H as Hashes<K>>⟧.hash_of
             (G.inner (replaced_guard result)).contents) (G.inner (replaced_guard result)) }

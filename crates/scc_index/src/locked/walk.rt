@@ -1,5 +1,6 @@
 //! From entry to entry, inside a stripe and on to later stripes. The lock of a stripe is released before the next one
 //! is taken.
+ghost use Rattle.scc_common.specs.Pairs.{IsUnique};
 ghost use Rattle.scc_index.specs.Entries.{occupied_index, occupied_front, occupied_back};
 ghost use Rattle.scc_index.specs.EntrySteps.{StandsIn, IsNext, IsNextPastRemoved};
 ghost use Rattle.scc_index.specs.Seats.{occupied_rest, HasLaterSeat, HasSameRest};
@@ -9,7 +10,7 @@ ghost use Rattle.std.specs.Prelude.{◌≡◌, [], IfSome, IsSomeAnd};
 use crate::Owned;
 use crate::held::HeldOccupied;
 use crate::locked::OccupiedEntry;
-use scc_common::Shared;
+use scc_common::{Guard, Shared};
 use scc_stripes::Seat;
 use std::hash::{BuildHasher, Hash};
 use std::sync::Wait;
@@ -22,6 +23,7 @@ pub fn first_later<'a, K: Eq + Hash, V, H: BuildHasher>(
 ) -> Option<OccupiedEntry<'a, K, V, H>>
     ensures first { IfSome result (λ n. StandsIn (occupied_index n) n × (occupied_front n ≡ [])) }
     ensures seat { IfSome result (λ n. IsLaterSeat seat.entry (occupied_rest n)) }
+    ensures unique { IfSome result (λ n. IsUnique K.eq (occupied_index n)) }
 {
     let mut seat = seat;
     for _ in 0..16u8 {
@@ -43,6 +45,7 @@ impl<'a, K: Eq + Hash, V, H: BuildHasher> OccupiedEntry<'a, K, V, H> {
             → IfSome result (λ n. StandsIn (occupied_index n) n × (occupied_front n ≡ [])) }
         ensures stays { (occupied_back self.entry ≡ [] → ⊥) → IfSome result (HasSameRest self.entry) }
         ensures goes_on { occupied_back self.entry ≡ [] → IfSome result (HasLaterSeat self.entry) }
+        ensures unique { IfSome result (λ n. IsUnique K.eq (occupied_index n)) }
     {
         let HeldOccupied {
             guard,
@@ -50,6 +53,7 @@ impl<'a, K: Eq + Hash, V, H: BuildHasher> OccupiedEntry<'a, K, V, H> {
             rest,
             of: _,
         } = self;
+        let _ = guard.look().len();
         match guard.next_place(place) {
             Some(place) => Some(HeldOccupied::at(guard, place, rest)),
             None => {
@@ -71,6 +75,7 @@ impl<'a, K: Eq + Hash, V, H: BuildHasher> OccupiedEntry<'a, K, V, H> {
             → IfSome result (λ n. StandsIn (occupied_index n) n × (occupied_front n ≡ [])) }
         ensures stays { (occupied_back self.entry ≡ [] → ⊥) → IfSome result (HasSameRest self.entry) }
         ensures goes_on { occupied_back self.entry ≡ [] → IfSome result (HasLaterSeat self.entry) }
+        ensures unique { IfSome result (λ n. IsUnique K.eq (occupied_index n)) }
     {
         let HeldOccupied {
             mut guard,

@@ -73,7 +73,9 @@ impl<G: Guard<Inner = Owned<K, V, H>>, N, K: Eq + Hash, V, H: BuildHasher> HeldO
         ensures rest { IfOk result (λ o. occupied_rest o ≡ rest) }
         ensures first { IfOk result (λ o. StandsIn (G.inner guard) o × (occupied_front o ≡ [])) }
         ensures empty { IfErr result (λ n. (n ≡ rest) × (entries (G.inner guard) ≡ [])) }
+        ensures unique { IsUnique K.eq (G.inner guard) }
     {
+        let _ = guard.look().len();
         match guard.look().first_place() {
             Some(place) => Ok(HeldOccupied::at(guard, place, rest)),
             None => Err(rest),
@@ -86,12 +88,15 @@ impl<G: Guard<Inner = Owned<K, V, H>>, N, K: Eq + Hash, V, H: BuildHasher> HeldO
     where
         G: Drop,
         requires { CallableWhile P.FnMut false p.old (entries (G.inner guard)) }
+        ensures guard { IfOk result (λ o. occupied_guard o ≡ guard) }
         ensures rest { IfOk result (λ o. occupied_rest o ≡ rest) }
         ensures here { IfOk result (StandsIn (G.inner guard)) }
         ensures first { IfOk result (λ o. PassesAt (CalledOn P.FnMut) p.old (occupied_front o) (occupied_pair o)) }
         ensures none { IfErr result (λ n. (n ≡ rest)
             × Declines (CalledOn P.FnMut) p.old (entries (G.inner guard)) p.new) }
+        ensures unique { IsUnique K.eq (G.inner guard) }
     {
+        let _ = guard.look().len();
         match guard.look().first_passing(p) {
             Some(place) => Ok(HeldOccupied::at(guard, place, rest)),
             None => Err(rest),

@@ -1,5 +1,6 @@
 //! The calls of an entry of a locked stripe that release the lock, and those that insert.
 ghost use Rattle.scc_map.specs.Entries.{occupied_pair, InsertsAtVacant, vacant_key};
+ghost use Rattle.scc_map.specs.Seats.{occupied_stripe, vacant_stripe};
 ghost use Rattle.std.specs.Prelude.{◌≡◌};
 
 use crate::held::{HeldOccupied, HeldVacant};
@@ -8,6 +9,13 @@ use scc_common::{Hashes, InsertError};
 use std::hash::{BuildHasher, Hash};
 
 impl<'a, K: Eq + Hash, V, H: BuildHasher> OccupiedEntry<'a, K, V, H> {
+    /// Returns the number of the locked stripe.
+    pub fn stripe(&self) -> usize
+        ensures { result ≡ occupied_stripe self.now }
+    {
+        self.rest.stripe()
+    }
+
     /// Removes the pair, returns its value, and releases the lock. The array may shrink.
     pub fn remove(self) -> V
     where
@@ -35,6 +43,13 @@ impl<'a, K: Eq + Hash, V, H: BuildHasher> OccupiedEntry<'a, K, V, H> {
 }
 
 impl<'a, K: Eq + Hash, V, H: BuildHasher> VacantEntry<'a, K, V, H> {
+    /// Returns the number of the locked stripe.
+    pub fn stripe(&self) -> usize
+        ensures { result ≡ vacant_stripe self.now }
+    {
+        self.rest.stripe()
+    }
+
     /// Returns the key, and releases the lock.
     pub fn into_key(self) -> K
         ensures key { result ≡ vacant_key self.entry }

@@ -1,0 +1,242 @@
+// Which stripe and which bucket a key has, the order of stripes in a walk, and the stripe that an entry tells. Under
+// `Same` the highest bits of a key name its stripe, and the bits after them its bucket.
+use crate::expect::expect_eq;
+use crate::kinds::{Cache, Index, Map, Set, Threaded, Visit, Way};
+use scc_cache::locked::Entry as CacheEntry;
+use scc_index::locked::Entry as IndexEntry;
+use scc_map::locked::Entry as MapEntry;
+use std::alloc::Global;
+use std::process::Abort;
+use std::sync::Wait;
+
+/// Slots for four stripes of two buckets each.
+const SLOTS: usize = 256;
+
+// A container that tells the bucket of a key.
+trait Bucketed: Threaded {
+    fn bucket<R: Wait>(&self, rt: &R, key: u64) -> usize;
+}
+
+impl Bucketed for Map {
+    fn bucket<R: Wait>(&self, rt: &R, key: u64) -> usize {
+        self.bucket_index(rt, &key)
+    }
+}
+
+impl Bucketed for Set {
+    fn bucket<R: Wait>(&self, rt: &R, key: u64) -> usize {
+        self.bucket_index(rt, &key)
+    }
+}
+
+impl Bucketed for Index {
+    fn bucket<R: Wait>(&self, rt: &R, key: u64) -> usize {
+        self.bucket_index(rt, &key)
+    }
+}
+
+// Returns the buckets of the least keys of the last stripe whose third bit is 0 and 1. The first two bits of both are
+// 1, and name the stripe alone.
+fn buckets_of_last<C: Bucketed + Drop, R: Wait>(rt: &R, alloc: Global) -> Option<[usize; 2]> {
+    match C::make(alloc, SLOTS) {
+        Some(made) => Some([made.bucket(rt, 6 << 61), made.bucket(rt, 7 << 61)]),
+        None => None,
+    }
+}
+
+#[test]
+fn a_stripe_skips_the_bits_that_name_it(rt: HostRuntime) {
+    let found = [
+        buckets_of_last::<Map, _>(&rt, rt.alloc()),
+        buckets_of_last::<Set, _>(&rt, rt.alloc()),
+        buckets_of_last::<Index, _>(&rt, rt.alloc()),
+    ];
+    expect_eq(&rt, found, [Some([0, 1]); 3]);
+}
+
+// Puts 64 keys into the last of four stripes, half of them into each of its two buckets. Returns how many are there
+// then.
+fn fills_last<R: Wait>(rt: &R, alloc: Global) -> Option<usize> {
+    let Ok(cache) = Cache::with_capacity_and_hasher(alloc, SLOTS, SLOTS, scc_script::same::Same) else {
+        return None;
+    };
+    for number in 0..64u64 {
+        if !cache.add(rt, (6 << 61) | ((number % 2) << 61) | number) {
+            return None;
+        }
+    }
+    Some(cache.len(rt))
+}
+
+#[test]
+fn a_stripe_of_a_cache_uses_all_its_buckets(rt: HostRuntime) {
+    expect_eq(&rt, fills_last(&rt, rt.alloc()), Some(64));
+}
+
+// Compares each key with the least key of the next stripe.
+#[derive(Drop)]
+struct InOrder {
+    next: u64,
+    right: bool,
+}
+
+impl Visit for InOrder {
+    fn meet(&mut self, key: u64) {
+        self.right = self.right && self.next < 16 && key == self.next << 60;
+        self.next = self.next.saturating_add(1);
+    }
+}
+
+// Adds the least key of each of 16 stripes, the last first. Returns whether each was added.
+fn fills_each<C: Threaded, R: Wait>(rt: &R, container: &C) -> bool {
+    let mut right = true;
+    for number in 0..16u64 {
+        right = container.add(rt, (15 - number) << 60) && right;
+    }
+    right
+}
+
+// Returns whether this way over all keys goes from each stripe to the next, from the first to the last.
+fn goes_in_order<C: Threaded + Drop, R: Wait>(rt: &R, alloc: Global, way: Way) -> bool {
+    let mut order = InOrder {
+        next: 0,
+        right: true,
+    };
+    match C::make(alloc, 1024) {
+        Some(made) => {
+            fills_each(rt, &made)
+                && made.go_over(rt, alloc, way, &mut order)
+                && order.right
+                && order.next == 16
+        }
+        None => false,
+    }
+}
+
+/// The ways over all keys that go from stripe to stripe. A kind without entries walks instead of the last two.
+const WAYS: [Way; 6] = [
+    Way::Walk,
+    Way::Keep,
+    Way::Take,
+    Way::Ask,
+    Way::Next,
+    Way::Remove,
+];
+
+// Returns how many ways go in order, counted up to the first that doesn't.
+fn ways_in_order<C: Threaded + Drop, R: Wait>(rt: &R, alloc: Global) -> usize {
+    let mut right = 0usize;
+    for way in WAYS {
+        if !goes_in_order::<C, R>(rt, alloc, way) {
+            return right;
+        }
+        right = right.saturating_add(1);
+    }
+    right
+}
+
+#[test]
+fn every_way_goes_from_stripe_to_stripe(rt: HostRuntime) {
+    let right = [
+        ways_in_order::<Map, _>(&rt, rt.alloc()),
+        ways_in_order::<Set, _>(&rt, rt.alloc()),
+        ways_in_order::<Index, _>(&rt, rt.alloc()),
+        ways_in_order::<Cache, _>(&rt, rt.alloc()),
+    ];
+    expect_eq(&rt, right, [6; 4]);
+}
+
+// A container whose entries tell their stripe.
+trait Telling: Threaded {
+    // Returns the stripe that the container names for a missing key, the stripe that its vacant entry tells, and after
+    // the key was added the stripe that its occupied entry tells. A set has no vacant entry.
+    fn told<R: Wait>(&self, rt: &R, key: u64) -> Option<[usize; 3]>;
+}
+
+impl Telling for Map {
+    fn told<R: Wait>(&self, rt: &R, key: u64) -> Option<[usize; 3]> {
+        let vacant = match self.entry_sync(rt, key) {
+            MapEntry::Vacant(entry) => entry.stripe(),
+            MapEntry::Occupied(_) => return None,
+        };
+        if !self.add(rt, key) {
+            return None;
+        }
+        match self.get_sync(rt, &key) {
+            Some(entry) => Some([self.stripe_of(&key), vacant, entry.stripe()]),
+            None => None,
+        }
+    }
+}
+
+impl Telling for Set {
+    fn told<R: Wait>(&self, rt: &R, key: u64) -> Option<[usize; 3]> {
+        let named = self.stripe_of(&key);
+        if !self.add(rt, key) {
+            return None;
+        }
+        match self.any_sync(rt, |other| *other == key) {
+            Some(entry) => Some([named, named, entry.stripe()]),
+            None => None,
+        }
+    }
+}
+
+impl Telling for Index {
+    fn told<R: Wait>(&self, rt: &R, key: u64) -> Option<[usize; 3]> {
+        let vacant = match self.entry_sync(rt, key) {
+            IndexEntry::Vacant(entry) => entry.stripe(),
+            IndexEntry::Occupied(_) => return None,
+        };
+        if !self.add(rt, key) {
+            return None;
+        }
+        match self.get_sync(rt, &key) {
+            Some(entry) => Some([self.stripe_of(&key), vacant, entry.stripe()]),
+            None => None,
+        }
+    }
+}
+
+impl Telling for Cache {
+    fn told<R: Wait>(&self, rt: &R, key: u64) -> Option<[usize; 3]> {
+        let vacant = match self.entry_sync(rt, key) {
+            CacheEntry::Vacant(entry) => entry.stripe(),
+            CacheEntry::Occupied(_) => return None,
+        };
+        if !self.add(rt, key) {
+            return None;
+        }
+        match self.get_sync(rt, &key) {
+            Some(entry) => Some([self.stripe_of(&key), vacant, entry.stripe()]),
+            None => None,
+        }
+    }
+}
+
+// Returns what is told of a key of the first, the tenth and the last of 16 stripes.
+fn told_of_three<C: Telling + Drop, R: Wait>(
+    rt: &R,
+    alloc: Global,
+) -> Option<[Option<[usize; 3]>; 3]> {
+    match C::make(alloc, 1024) {
+        Some(made) => Some([
+            made.told(rt, 1),
+            made.told(rt, 9 << 60),
+            made.told(rt, u64::MAX),
+        ]),
+        None => None,
+    }
+}
+
+#[test]
+fn an_entry_tells_its_stripe(rt: HostRuntime) {
+    let told = [
+        told_of_three::<Map, _>(&rt, rt.alloc()),
+        told_of_three::<Set, _>(&rt, rt.alloc()),
+        told_of_three::<Index, _>(&rt, rt.alloc()),
+        told_of_three::<Cache, _>(&rt, rt.alloc()),
+    ];
+    let wanted = Some([Some([0; 3]), Some([9; 3]), Some([15; 3])]);
+    expect_eq(&rt, told, [wanted; 4]);
+}
