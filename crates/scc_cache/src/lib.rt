@@ -6,7 +6,7 @@ ghost use Rattle.scc_cache.specs.CacheWalks.{RemovesIf};
 ghost use Rattle.scc_cache.specs.Caches.{IsCacheState};
 ghost use Rattle.scc_cache.specs.LookUps.{FindsAfterPut};
 ghost use Rattle.scc_cache.specs.Relocations.{RelocatesNoneWithin, RelocatesTwoWithin};
-ghost use Rattle.scc_common.specs.Contents.{entries, bucket_count, minimum_of, pending_of, refused_of, waiting_of, key_hash, hash_in};
+ghost use Rattle.scc_common.specs.Contents.{entries, bucket_count, minimum_of, pending_of, waiting_of, key_hash, hash_in, IsUnmarked};
 ghost use Rattle.scc_common.specs.Pairs.{FindsInstead};
 ghost use Rattle.std.specs.Borrow.{Bor};
 ghost use Rattle.std.specs.Fn.{FnOnceTakesAtMut};
@@ -161,7 +161,7 @@ impl<K: Eq + Hash, V, H: BuildHasher> Owned<K, V, H> {
             self.old.contents self.new.contents) }
         ensures once { IsPreparedForPut (hash_in ⟦<H as Hashes<K>>⟧.hash_of self.old.contents) self.old k
             → bucket_count self.new.contents ≡ bucket_count self.old.contents }
-        ensures unmarked { OnOk result ((refused_of self.new.contents).1 ≡ false) }
+        ensures unmarked { OnOk result (IsUnmarked self.new.contents) }
     {
         let hash = self.table.hash(&k);
         match self.find(hash, &k) {

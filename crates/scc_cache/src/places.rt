@@ -4,13 +4,13 @@ ghost use Rattle.scc_cache.specs.Caches.{IsCacheState};
 ghost use Rattle.scc_cache.specs.Lends.{lends_value, with_key_at, with_value_at};
 ghost use Rattle.scc_cache.specs.LookUps.{FindsAfterPut};
 ghost use Rattle.scc_cache.specs.Relocations.{RelocatesNoneWithin, RelocatesOne, RelocatesTwoWithin};
-ghost use Rattle.scc_common.specs.Contents.{entries, bucket_count, list_of, hash_in, refused_of, settings_of, waiting_of};
+ghost use Rattle.scc_common.specs.Contents.{entries, bucket_count, list_of, hash_in, settings_of, waiting_of, IsUnmarked};
 ghost use Rattle.scc_common.specs.Pairs.{FindsInstead};
 ghost use Rattle.scc_common.specs.Routing.{bucket_number};
 ghost use Rattle.scc_table.specs.Places.{IsPlace, index_of, spot_of};
 ghost use Rattle.scc_table.specs.TwoArrays.{IsWaiting};
 ghost use Rattle.std.specs.Borrow.{sem};
-ghost use Rattle.std.specs.Prelude.{◌≡◌, ◌<◌, true, false, Some, None, OnSome, MatchOption, IfOk, IfErr, OnOk, slice_get};
+ghost use Rattle.std.specs.Prelude.{◌≡◌, ◌<◌, true, Some, None, OnSome, MatchOption, IfOk, IfErr, OnOk, slice_get};
 
 use crate::{EvictedEntry, Owned};
 use scc_buckets::Place;
@@ -70,7 +70,7 @@ impl<K: Eq + Hash, V, H: BuildHasher> Owned<K, V, H> {
             self.old.contents self.new.contents) }
         ensures once { IsPreparedForPut (hash_in ⟦<H as Hashes<K>>⟧.hash_of self.old.contents) self.old k
             → bucket_count self.new.contents ≡ bucket_count self.old.contents }
-        ensures unmarked { OnOk result ((refused_of self.new.contents).1 ≡ false) }
+        ensures unmarked { OnOk result (IsUnmarked self.new.contents) }
         ensures finds { IfOk result (λ r. FindsAfterPut K.eq (entries self.old.contents) (k, v) r.0
             (entries self.new.contents)) }
     {
