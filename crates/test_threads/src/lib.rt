@@ -6,8 +6,6 @@ mod comparing;
 #[cfg(test)]
 mod expect;
 #[cfg(test)]
-mod flags;
-#[cfg(test)]
 mod kinds;
 #[cfg(test)]
 mod locks;
