@@ -1,11 +1,15 @@
 //! A recorded index, and the audit of its run.
-ghost use Rattle.std.specs.Prelude.{◌≡◌, IfOk, Some};
+ghost use Rattle.std.specs.List.{sum_by};
+ghost use Rattle.std.specs.Prelude.{◌≡◌, IfOk, Some, map};
+ghost use Rattle.scc_history.specs.Stamps.{calls_in};
 ghost use Rattle.scc.specs.Finished.{IsFinishedRun};
 ghost use Rattle.scc.specs.Setups.{request_of};
 
 use crate::input::Line;
 use scc::hash_index::Owned;
-use scc::recorded::{Calls, Finished, IndexCall, Pass, Recorded, Reply, Setup, Shared, Site, Step};
+use scc::recorded::{
+    Calls, Finished, IndexCall, Pass, Recorded, Reply, Setup, Shared, Site, count_all_calls,
+};
 use std::alloc::{AllocError, Global};
 use std::hash::{BuildHasherDefault, FoldHasher};
 use std::io;
@@ -97,17 +101,14 @@ fn publish_all<L: Ledger + Send + Sync, M: Site<Fold> + Send + Sync, R: Threads 
     Ok(passes)
 }
 
-// Returns the number of call records.
-fn calls_of(finished: &Finished<Routes>) -> u64 {
-    let mut calls = 0u64;
-    for history in finished.histories.as_slice() {
-        for step in history.as_slice() {
-            if let Step::Call { .. } = step {
-                calls = calls.saturating_add(1);
-            }
-        }
+// Returns the number of call records. Fails if it is above `usize::MAX`.
+fn calls_of(finished: &Finished<Routes>) -> io::Result<usize>
+    ensures { IfOk result (λ n. n ≡ sum_by calls_in (map (λ h. h.items) finished.now.histories.items)) }
+{
+    match count_all_calls(finished.histories.as_slice()) {
+        Some(calls) => Ok(calls),
+        None => Err(io::Error::from(io::ErrorKind::FileTooLarge)),
     }
-    calls
 }
 
 // Makes the calls on four stripes by two passes on two threads, audits the run, and returns the number of call records.
@@ -118,7 +119,7 @@ fn record_in<L: Ledger + Send + Sync, M: Site<Fold> + Send + Sync, R: Threads + 
     receipts: Blank,
     records: Blank,
     lines: &[Line],
-) -> io::Result<u64>
+) -> io::Result<usize>
     requires receipts { (receipts.name ≡ L.name) × (receipts.parts ≡ L.parts) × (receipts.parts ≡ 2) }
     requires records { (records.name ≡ M.name) × (records.parts ≡ M.parts) × (records.parts ≡ 4) }
     requires site { (M.chosen ≡ Some (request_of 0 0 hasher 4)) × (M.all ≡ 4) }
@@ -132,11 +133,15 @@ fn record_in<L: Ledger + Send + Sync, M: Site<Fold> + Send + Sync, R: Threads + 
         alloc, setup, STRIPES, PASSES, receipts, records,
     )?;
     let passes = publish_all(rt, alloc, &recorded, passes, lines)?;
-    Ok(calls_of(&audit(recorded, passes)?))
+    calls_of(&audit(recorded, passes)?)
 }
 
 /// Publishes the routes in a recorded index, and returns the number of recorded calls once the audit has succeeded.
-pub fn record<R: Threads + Sync + Wait>(rt: &R, alloc: Global, lines: &[Line]) -> io::Result<u64> {
+pub fn record<R: Threads + Sync + Wait>(
+    rt: &R,
+    alloc: Global,
+    lines: &[Line],
+) -> io::Result<usize> {
     let owner = Arc::new(alloc, BuildHasherDefault::new()).map_err(AllocError::from)?;
     record_in::<Brand, Brand, R>(
         rt,

@@ -34,6 +34,7 @@ pub use Rattle.scc_memo.specs.Memos
 pub use Rattle.scc_recorded.specs.Adds
 pub use Rattle.scc_recorded.specs.Closing
 pub use Rattle.scc_recorded.specs.Finished
+pub use Rattle.scc_recorded.specs.Getting
 pub use Rattle.scc_recorded.specs.Setups
 pub use Rattle.scc_set.specs.Collections
 pub use Rattle.scc_set.specs.Keys

@@ -6,7 +6,7 @@ pub use scc_calls::{
     WholeCalls, every_merge_is_a_run, route, run, runs_mean,
 };
 pub use scc_common::{CloneOwner, Shared};
-pub use scc_history::{CallError, Log, Receipt, Stripe};
+pub use scc_history::{CallError, Log, Receipt, Stripe, count_all_calls, count_calls};
 pub use scc_recorded::{
     Closed, CountedStripe, FinishError, Finished, Pass, Recorded, Setup, Site, Unfinished,
 };

@@ -7,12 +7,14 @@ ghost use Rattle.scc_calls.specs.Made.{IsMadeFor};
 ghost use Rattle.scc_history.specs.Stamps.{Rises, Rises-prop};
 ghost use Rattle.std.specs.Prelude.{◌≡◌, ◌*◌, ◌<◌, ◌≤◌, [], IfOk};
 
+mod counting;
 mod log;
 mod matching;
 mod order;
 mod recording;
 
 use crate::recording::{make_room, next_stamp, record_call, record_refused};
+pub use counting::{count_all_calls, count_calls};
 pub use log::{Log, Receipt};
 pub use matching::{first_difference, records_by_pass};
 pub use order::{Histories, stamp_order};

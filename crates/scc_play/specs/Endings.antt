@@ -1,5 +1,5 @@
 -- The answer to a script, and how its program ends.
-use Rattle.std.specs.Prelude.{◌≡◌, ◌⊎◌, ◌<◌, ℕ, List, [], ◌++◌, map, Option, codes}
+use Rattle.std.specs.Prelude.{◌≡◌, ◌⊎◌, ◌<◌, ℕ, List, ◌++◌, map, Option, codes}
 use Rattle.std.specs.List.{AllByRecursion}
 use Rattle.std.specs.Fmt.{decimal}
 use Rattle.std.specs.Io.KnownBytes.{Appends}
@@ -25,12 +25,11 @@ abbrev pub all_calls : {A : Type 0} → List (WorkerCall A) → List A
 all_calls calls = map (λ c. c.call) calls
 
 -- the answer is the output of what the workers did, which for one worker on one stripe is the output of a run of the
--- script's calls; or the text for the cause why the run was not finished; or no text, if what was recorded is not what
--- the script has
+-- script's calls; or the text for the cause why the run was not finished
 abbrev pub AnswersBy : (List ℕ → Type 0) → (List ℕ → Type 0) → ℕ → ℕ → ℕ → List ℕ → Type 0
 AnswersBy alone among workers stripes status text =
     ((status ≡ 0) × among text × (workers ≡ 1 → stripes ≡ 1 → ∥ alone text ∥₁))
-    ⊎ (((cause : Cause) × (status ≡ 5) × (text ≡ finish_text cause)) ⊎ ((status ≡ 6) × (text ≡ [])))
+    ⊎ ((cause : Cause) × (status ≡ 5) × (text ≡ finish_text cause))
 
 -- each call is made by one of the workers
 abbrev pub HasOwners : Meaning → Type 0

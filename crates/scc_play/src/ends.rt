@@ -9,7 +9,7 @@ pub enum Cause {
     Missing,
     /// A call record stands in another stripe than the stripe of its key.
     Misrouted,
-    /// A receipt differs from its record.
+    /// A receipt differs from its record, or the receipts are not those of the script.
     Disagrees,
 }
 
@@ -20,6 +20,6 @@ pub enum End {
     Played(String),
     /// The run was not finished.
     Unfinished(Cause),
-    /// What was recorded is not what the script has.
+    /// The run was finished, but what was recorded isn't what the script has.
     Differs,
 }

@@ -11,4 +11,5 @@ pub mod play;
 pub mod reasons;
 mod receipts;
 pub mod stripes;
+mod watched;
 mod whole;

@@ -1,5 +1,5 @@
 //! Plays a script from a stream to a stream.
-ghost use Rattle.std.specs.Prelude.{◌≡◌, ◌≢◌, ◌⊎◌, ◌<◌, [], IfOk, IfSome, map};
+ghost use Rattle.std.specs.Prelude.{◌≡◌, ◌≢◌, ◌⊎◌, ◌<◌, IfOk, IfSome, map};
 ghost use Rattle.std.specs.List.{AllByRecursion};
 ghost use Rattle.std.specs.String.{string_bytes};
 ghost use Rattle.std.specs.Io.KnownBytes.{Appends};
@@ -13,11 +13,12 @@ ghost use Rattle.scc_play.specs.Kinds.{MapPlayed, SetPlayed, IndexPlayed, CacheP
 use crate::ends::{Cause, End};
 use crate::kinds::{play_cache, play_index, play_map, play_set};
 use crate::reasons::bad_line_of;
+use crate::watched::Watched;
 use scc_calls::{CacheCall, IndexCall, MapCall, SetCall};
 use scc_script::line::WorkerCall;
 use scc_script::script::{Script, parse_script};
 use std::alloc::{AllocError, Global};
-use std::io::{ErrorKind, Read, Write, sink};
+use std::io::{Read, Write, sink};
 use std::sync::Wait;
 use std::thread::Threads;
 
@@ -33,11 +34,8 @@ pub const NO_MEMORY: u8 = 3;
 /// A read or a write of the streams failed.
 pub const STREAM_FAILED: u8 = 4;
 
-/// The run can't be finished: its histories and receipts don't agree.
+/// The run can't be finished: its histories, its receipts and the script don't agree.
 pub const UNFINISHED: u8 = 5;
-
-/// What was recorded is not what the script has.
-pub const DIFFERS: u8 = 6;
 
 // The text that is printed if memory is refused.
 const OUT_OF_MEMORY: &str = "out of memory\n";
@@ -71,7 +69,7 @@ fn unfinished_text(alloc: Global, cause: Cause) -> Result<String, AllocError>
 fn answer_end(alloc: Global, end: End) -> Result<Answer, AllocError>
     ensures { IfOk result (λ a. MatchEnd end (λ text. (a.status ≡ 0) × (string_bytes a.text ≡ text))
         (λ cause. (a.status ≡ 5) × (string_bytes a.text ≡ finish_text cause))
-        ((a.status ≡ 6) × (string_bytes a.text ≡ []))) }
+        ((a.status ≡ 5) × (string_bytes a.text ≡ finish_text Cause.Disagrees))) }
 {
     match end {
         End::Played(text) => Ok(Answer {
@@ -83,8 +81,8 @@ fn answer_end(alloc: Global, end: End) -> Result<Answer, AllocError>
             status: UNFINISHED,
         }),
         End::Differs => Ok(Answer {
-            text: String::new(alloc),
-            status: DIFFERS,
+            text: unfinished_text(alloc, Cause::Disagrees)?,
+            status: UNFINISHED,
         }),
     }
 }
@@ -227,11 +225,11 @@ fn explain<E: Write>(script: &[u8], status: u8, errors: &mut E) {
 ///   records; a clearing and a count make one record in each stripe.
 /// - [`BAD_CALL`]: writes only the line `line N: bad call`. N, counted from 1, is the first line that isn't in the
 ///   grammar. No call was made.
-/// - [`NO_MEMORY`]: writes only the line `out of memory`.
+/// - [`NO_MEMORY`]: writes only the line `out of memory`. Memory or a thread was refused to this function; a stream that
+///   itself fails for want of memory has failed.
 /// - [`STREAM_FAILED`]: if the read failed, nothing was written; if a write failed, nothing was written after it.
 /// - [`UNFINISHED`]: writes only the line `finish N`. N is 7 if a pass is missing, 8 if a record is misrouted, and 9
-///   if a receipt differs from its record.
-/// - [`DIFFERS`]: writes nothing. What was recorded is not what the script has.
+///   if a receipt differs from its record or from the script.
 pub fn play<T: Threads + Wait + Sync, R: Read, W: Write>(
     rt: &T,
     alloc: Global,
@@ -241,7 +239,7 @@ pub fn play<T: Threads + Wait + Sync, R: Read, W: Write>(
     ensures ends { IfSome (R.remaining reader.old)
         (λ script. Ends (W.contents writer.old) (W.contents writer.new) (script_of script) result) }
     ensures status { (result ≡ FINISHED) ⊎ ((result ≡ BAD_CALL)
-        ⊎ ((result ≡ NO_MEMORY) ⊎ ((result ≡ STREAM_FAILED) ⊎ ((result ≡ UNFINISHED) ⊎ (result ≡ DIFFERS))))) }
+        ⊎ ((result ≡ NO_MEMORY) ⊎ ((result ≡ STREAM_FAILED) ⊎ (result ≡ UNFINISHED)))) }
 {
     play_explaining(rt, alloc, reader, writer, &mut sink())
 }
@@ -259,14 +257,15 @@ pub fn play_explaining<T: Threads + Wait + Sync, R: Read, W: Write, E: Write>(
     ensures ends { IfSome (R.remaining reader.old)
         (λ script. Ends (W.contents writer.old) (W.contents writer.new) (script_of script) result) }
     ensures status { (result ≡ FINISHED) ⊎ ((result ≡ BAD_CALL)
-        ⊎ ((result ≡ NO_MEMORY) ⊎ ((result ≡ STREAM_FAILED) ⊎ ((result ≡ UNFINISHED) ⊎ (result ≡ DIFFERS))))) }
+        ⊎ ((result ≡ NO_MEMORY) ⊎ ((result ≡ STREAM_FAILED) ⊎ (result ≡ UNFINISHED)))) }
 {
     let mut script = Vec::new(alloc);
-    if let Err(error) = reader.read_to_end(&mut script) {
-        if error.kind() == ErrorKind::OutOfMemory {
-            return finish(writer, OUT_OF_MEMORY, NO_MEMORY);
+    let mut watched = Watched::new(reader);
+    if watched.read_to_end(&mut script).is_err() {
+        if watched.has_failed() {
+            return STREAM_FAILED;
         }
-        return STREAM_FAILED;
+        return finish(writer, OUT_OF_MEMORY, NO_MEMORY);
     }
     let text = script.as_slice();
     match answer_script(rt, alloc, text) {

@@ -8,6 +8,7 @@ ghost use Rattle.scc_print.specs.Output.{output_of};
 ghost use Rattle.scc_play.specs.Played.{IsMadeBy};
 
 use scc_calls::Step;
+use scc_history::count_all_calls;
 use scc_print::printed::Printed;
 use scc_print::texts::output_text;
 use scc_recorded::Finished;
@@ -51,30 +52,6 @@ fn are_none(numbers: &[usize]) -> bool
     true
 }
 
-// Returns the number of call records in `history`.
-fn count_of<A, R>(history: &[Step<A, R>]) -> usize
-    ensures { result ≡ calls_in history.now }
-{
-    let mut count: usize = 0;
-    for j in 0..history.len() {
-        if let Step::Call { .. } = &history[j] {
-            count += 1;
-        }
-    }
-    count
-}
-
-// Returns the number of call records in all `histories`, or `None` if it is above `usize::MAX`.
-fn records_in<A, R>(histories: &[Vec<Step<A, R>>]) -> Option<usize>
-    ensures { IfSome result (λ n. n ≡ sum_by calls_in (map (λ h. h.items) histories.now)) }
-{
-    let mut records: usize = 0;
-    for history in histories {
-        records = records.checked_add(count_of(history.as_slice()))?;
-    }
-    Some(records)
-}
-
 // Returns the contents of all parts, in rising order. Fails if memory is refused.
 fn sorted_items<P: Printed + Drop>(alloc: Global, parts: Vec<P>) -> Result<Vec<P::Item>, AllocError>
     ensures same { IfOk result (λ items. IsPermutation (flat_map P.shown parts.items) items.items) }
@@ -115,7 +92,7 @@ pub(crate) fn whole_text<P: Printed + Drop>(
     if !are_known(workers, histories.as_slice()) || !are_none(opened.as_slice()) {
         return Ok(None);
     }
-    let Some(records) = records_in(histories.as_slice()) else {
+    let Some(records) = count_all_calls(histories.as_slice()) else {
         return Ok(None);
     };
     let items = sorted_items(alloc, parts)?;

@@ -1,4 +1,5 @@
 pub mod Adds
 pub mod Closing
 pub mod Finished
+pub mod Getting
 pub mod Setups

@@ -7,7 +7,8 @@ use crate::closing::Closed;
 use crate::counted::{Count, CountedStripe};
 use crate::passes::Pass;
 use crate::setups::Site;
-use scc_calls::{Calls, Step};
+use scc_calls::Calls;
+use scc_history::count_calls;
 use std::sync::ledger::{Book, Ledger, Share};
 
 impl<C: Calls, L: Ledger, M: Site<C::Hasher>> Closed<C, L, M> {
@@ -98,23 +99,10 @@ impl<C: Calls, M: Site<C::Hasher>> CountedStripe<C, M> {
         }
         let (front, rest) = stripes.split_at_mut(1);
         let first = &mut front[0];
-        let amount = count_of(first.stripe.history.as_slice());
+        let amount = count_calls(first.stripe.history.as_slice()) as u64;
         let CountedStripe { stripe: _, ledger } = first;
         ledger.give(seen, 1, amount);
         CountedStripe::audit_from(rest, book, seen);
         seen.give(ledger, 1, amount);
     }
-}
-
-// Returns the number of call records in `history`.
-fn count_of<A, R>(history: &[Step<A, R>]) -> u64
-    ensures { result ≡ calls_in history.now }
-{
-    let mut count: u64 = 0;
-    for j in 0..history.len() {
-        if let Step::Call { .. } = &history[j] {
-            count += 1;
-        }
-    }
-    count
 }

@@ -4,8 +4,8 @@
 ghost use Rattle.scc_calls.specs.Copies.{ClonesEqual, MayNotClone};
 ghost use Rattle.scc_calls.specs.declared.fixed.Request.{Request};
 ghost use Rattle.scc_calls.specs.declared.fixed.Setting.{Setting};
-ghost use Rattle.scc_common.specs.Routing.{stripe_of};
 ghost use Rattle.scc_history.specs.Added.{AddsReceipt};
+ghost use Rattle.scc_recorded.specs.Getting.{GetsReceipt, SamePass};
 ghost use Rattle.scc_recorded.specs.Adds.{MayAnswer};
 ghost use Rattle.std.specs.List.{range_with_len};
 ghost use Rattle.std.specs.Prelude.{◌≡◌, ◌<◌, ◌⊎◌, Err, IfOk, OnErr, IsSome, Some, map, vec_len};
@@ -105,7 +105,8 @@ impl<C: Calls, L: Ledger, M: Site<C::Hasher>> Recorded<C, L, M> {
     }
 
     /// Makes a call with a key on the stripe of its key. The receipt has the number of this stripe. Any thread may
-    /// call it, and may wait for the lock of the stripe.
+    /// call it, and may wait for the lock of the stripe. Once the call is made it may wait for the lock of the count, which
+    /// all stripes share and which is held for two additions, while no key is hashed or compared.
     ///
     /// Fails with `Room` if memory for the record, the receipt or a clone of the call is refused, or if no stamp is
     /// left; then nothing changed. Fails with `Container` only if the container may refuse the call for memory, or if
@@ -120,13 +121,8 @@ impl<C: Calls, L: Ledger, M: Site<C::Hasher>> Recorded<C, L, M> {
         requires calls { ClonesEqual C.Call.is_clone C.Call.eq }
         requires replies { ClonesEqual C.Reply.is_clone C.Reply.eq }
         ensures number { pass.new.log.number ≡ pass.old.log.number }
-        ensures ok { IfOk result (λ r. (pass.old.log.clock < pass.new.log.clock)
-            × ((k : C.Key) → C.key_of call ≡ Some k
-            → AddsReceipt C.Call.is_clone C.Reply.eq
-            (stripe_of C.Hasher.BuildHasher C.Hasher.Hasher.Hasher C.Key.Hash.hash_input self.now.hasher
-            self.now.stripes k) pass.new.log.clock call r pass.old.log.receipts.items pass.new.log.receipts.items)) }
-        ensures err { OnErr result ((pass.new.log.clock ≡ pass.old.log.clock)
-            × (pass.new.log.receipts.items ≡ pass.old.log.receipts.items)) }
+        ensures receipt { IfOk result (λ r. GetsReceipt self.now.hasher self.now.stripes pass.old call r pass.new) }
+        ensures unchanged { OnErr result (SamePass pass.old pass.new) }
         ensures answers { IfOk result (λ r. MayAnswer C.moves call r) }
         ensures refused { result ≡ Err CallError.Container
             → ∥ ((g : Setting C.Hasher) × (s : C.State)

@@ -72,7 +72,8 @@ fn cache_refused_array_evicts(rt: HostRuntime) {
     }
 }
 
-// Puts the keys from 32 on until the new array is there. Each put must evict the least recent key.
+// Puts the keys from 32 on until the new array is there, which is at key 33 if one request is refused. Each put must
+// evict the least recent key.
 fn expect_evictions<R: Abort + Print>(rt: &R, refusal: &mut Refusal, cache: &mut Cache) {
     for least in 0..TRIES {
         let key = least.saturating_add(32);

@@ -45,26 +45,38 @@ where
     [stripes, steps, passes, clocks as usize, receipts]
 }
 
+// Reports a refused finish, by whether a call before it was refused room for its record.
+fn meet_finish<R: Print>(rt: &R, refusal: &mut Refusal, lacked_room: bool) {
+    if lacked_room {
+        refusal.meet(rt, "a finish after room for a record");
+    } else {
+        refusal.meet(rt, "a finish");
+    }
+}
+
 // Returns what a refused finish handed back, and checks that it is seen as it was `before` the finish.
 fn handed_back<C: Calls + Drop, L: Ledger, M: Site<C::Hasher>, R: Abort + Print>(
     rt: &R,
     refusal: &mut Refusal,
+    lacked_room: bool,
     back: Unfinished<C, L, M>,
     before: [usize; 5],
 ) -> (Closed<C, L, M>, Vec<Pass<C, L>>)
 where
     C::Hasher: Drop,
 {
-    refusal.meet(rt, "a finish");
+    meet_finish(rt, refusal, lacked_room);
     let after = seen_of(&back.recorded, back.passes.as_slice());
     expect_eq(rt, (back.cause, after), (FinishError::Memory, before));
     (back.recorded, back.passes)
 }
 
-// Finishes the run. Returns `None` if the finish is refused each time.
+// Finishes the run, in which a call was refused room for its record if `lacked_room`. Returns `None` if the finish is
+// refused each time.
 pub(crate) fn finished<C: Calls + Drop, L: Ledger, M: Site<C::Hasher>, R: Abort + Print>(
     rt: &R,
     refusal: &mut Refusal,
+    lacked_room: bool,
     closed: Closed<C, L, M>,
     passes: Vec<Pass<C, L>>,
 ) -> Option<Finished<C>>
@@ -78,7 +90,7 @@ where
     for _ in 0..TRIES {
         match held.0.finish(held.1) {
             Ok(run) => return Some(run),
-            Err(back) => held = handed_back(rt, refusal, back, before),
+            Err(back) => held = handed_back(rt, refusal, lacked_room, back, before),
         }
     }
     None

@@ -74,8 +74,9 @@ fn insert_next<R: Abort + Print>(rt: &R, map: &mut Map, key: u64) -> bool {
     false
 }
 
-// A refused array leaves the old array, and the key goes to the overflow list. The next insertion asks for the array
-// again.
+// A refused array leaves the old array, raises the note, and the key goes to the overflow list. The next insertion asks
+// for the array again, which lowers the note: key 33 makes it if one request is refused. Each delay is told as a
+// refusal, and `tools/refuse_memory` allows as many as there were refused requests.
 #[test]
 fn map_refused_array_uses_overflow(rt: HostRuntime) {
     let mut refusal = Refusal::new();
@@ -84,10 +85,11 @@ fn map_refused_array_uses_overflow(rt: HostRuntime) {
     let mut key = 32u64;
     for _ in 0..TRIES {
         if insert_next(&rt, &mut map, key) {
+            let is_refused = map.is_resize_refused();
             if map.capacity() == 128 {
-                return;
+                return expect(&rt, !is_refused);
             }
-            expect_eq(&rt, map.capacity(), 64);
+            expect_eq(&rt, (map.capacity(), is_refused), (64, true));
             refusal.meet(&rt, "a new array alone");
             key = key.saturating_add(1);
         }
@@ -172,6 +174,7 @@ fn iter_mut_refused_room_stops(rt: HostRuntime) {
         if insert(&mut map, 0).is_ok() {
             break;
         }
+        refusal.meet(&rt, "the first array before a walk");
     }
     expect_eq(
         &rt,

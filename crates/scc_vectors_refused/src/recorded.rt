@@ -32,23 +32,23 @@ fn insert<L: Ledger, M: Site<Shared<Zero>>, R: Abort + Print + Wait>(
     recorded: &Recorded<Map, L, M>,
     pass: &mut Pass<Map, L>,
 ) -> bool {
-    let mut lacks_room = false;
+    let mut lacked_room = false;
     for _ in 0..TRIES {
         expect_eq(rt, said(pass), (0, 0));
         match recorded.call(rt, pass, MapCall::Insert(1, 10)) {
             Ok(reply) => {
                 expect_eq(rt, (reply, said(pass)), (Reply::Inserted, (1, 1)));
-                return lacks_room;
+                return lacked_room;
             }
             Err(CallError::Room) => {
                 refusal.meet(rt, "room for a record");
-                lacks_room = true;
+                lacked_room = true;
             }
             Err(CallError::Container) => refusal.meet(rt, "the first array of a recorded map"),
         }
     }
     expect(rt, false);
-    lacks_room
+    lacked_room
 }
 
 // Checks that the run is the first array and the insertion, both under stamp 1, and that the pair is present.
@@ -86,17 +86,13 @@ fn insert_and_finish<L: Ledger, M: Site<Shared<Zero>>, R: Abort + Print + Wait>(
     passes: Vec<Pass<Map, L>>,
 ) {
     let mut passes = passes;
-    let mut lacks_room = false;
+    let mut lacked_room = false;
     for pass in passes.as_mut_slice() {
-        lacks_room = insert(rt, refusal, &recorded, pass);
+        lacked_room = insert(rt, refusal, &recorded, pass);
     }
-    let mut finish = Refusal::new();
-    match finished(rt, &mut finish, recorded.close(), passes) {
+    match finished(rt, refusal, lacked_room, recorded.close(), passes) {
         Some(run) => expect_run(rt, &run),
         None => expect(rt, false),
-    }
-    if lacks_room && finish.is_met() {
-        refusal.meet(rt, "room for a record and then the finish");
     }
 }
 

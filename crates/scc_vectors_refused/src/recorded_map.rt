@@ -141,7 +141,7 @@ fn call_and_finish<L: Ledger, M: Site<Shared<Zero>>, R: AllocGlobal + Abort + Pr
             expect_answer(rt, refusal, &recorded, pass, number);
         }
     }
-    match finished(rt, refusal, recorded.close(), passes) {
+    match finished(rt, refusal, false, recorded.close(), passes) {
         Some(run) => expect_run(rt, &run),
         None => expect(rt, false),
     }

@@ -11,9 +11,14 @@ use test_kit::refusals::{Refusal, TRIES};
 use test_kit::zero::Zero;
 
 // Checks a clone of three keys in 64 slots, and adds a fourth key to the clone alone.
-fn expect_copy<F: Form<u64, u64>, R: Abort>(rt: &R, original: &F, copy: &mut F) {
+fn expect_copy<F: Form<u64, u64>, R: Abort + Print>(
+    rt: &R,
+    refusal: &mut Refusal,
+    original: &F,
+    copy: &mut F,
+) {
     expect_keys(rt, copy, Way::Insert, 0, 3);
-    put(copy, 3, !3);
+    put(rt, refusal, copy, 3, !3);
     expect_keys(rt, copy, Way::Insert, 0, 4);
     expect_keys(rt, original, Way::Insert, 0, 3);
     expect_eq(
@@ -30,7 +35,7 @@ fn expect_map<R: AllocGlobal + Abort + Print>(
 ) {
     for _ in 0..TRIES {
         match map.try_clone() {
-            Ok(mut copy) => return expect_copy(rt, map, &mut copy),
+            Ok(mut copy) => return expect_copy(rt, refusal, map, &mut copy),
             Err(_) => refusal.meet(rt, "a clone of a map"),
         }
         expect_eq(rt, map.len(), 3);
@@ -41,8 +46,9 @@ fn expect_map<R: AllocGlobal + Abort + Print>(
 #[test]
 fn a_clone_of_a_map_is_whole(rt: HostRuntime) {
     let mut map: hash_map::Owned<u64, u64, Zero> = hash_map::Owned::with_hasher(rt.alloc(), Zero);
-    fill(&rt, &mut map, Way::Insert, 3);
-    expect_map(&rt, &mut Refusal::new(), &map);
+    let mut refusal = Refusal::new();
+    fill(&rt, &mut refusal, &mut map, Way::Insert, 3);
+    expect_map(&rt, &mut refusal, &map);
 }
 
 fn expect_set<R: AllocGlobal + Abort + Print>(
@@ -52,7 +58,7 @@ fn expect_set<R: AllocGlobal + Abort + Print>(
 ) {
     for _ in 0..TRIES {
         match set.try_clone() {
-            Ok(mut copy) => return expect_copy(rt, set, &mut copy),
+            Ok(mut copy) => return expect_copy(rt, refusal, set, &mut copy),
             Err(_) => refusal.meet(rt, "a clone of a set"),
         }
         expect_eq(rt, set.len(), 3);
@@ -63,8 +69,9 @@ fn expect_set<R: AllocGlobal + Abort + Print>(
 #[test]
 fn a_clone_of_a_set_is_whole(rt: HostRuntime) {
     let mut set: hash_set::Owned<u64, Zero> = hash_set::Owned::with_hasher(rt.alloc(), Zero);
-    fill(&rt, &mut set, Way::Insert, 3);
-    expect_set(&rt, &mut Refusal::new(), &set);
+    let mut refusal = Refusal::new();
+    fill(&rt, &mut refusal, &mut set, Way::Insert, 3);
+    expect_set(&rt, &mut refusal, &set);
 }
 
 fn expect_index<R: AllocGlobal + Abort + Print>(
@@ -74,7 +81,7 @@ fn expect_index<R: AllocGlobal + Abort + Print>(
 ) {
     for _ in 0..TRIES {
         match index.try_clone() {
-            Ok(mut copy) => return expect_copy(rt, index, &mut copy),
+            Ok(mut copy) => return expect_copy(rt, refusal, index, &mut copy),
             Err(_) => refusal.meet(rt, "a clone of an index"),
         }
         expect_eq(rt, index.len(), 3);
@@ -88,8 +95,9 @@ fn a_clone_of_an_index_is_whole(rt: HostRuntime) {
         rt.alloc(),
         Zero,
     );
-    fill(&rt, &mut index, Way::Insert, 3);
-    expect_index(&rt, &mut Refusal::new(), &index);
+    let mut refusal = Refusal::new();
+    fill(&rt, &mut refusal, &mut index, Way::Insert, 3);
+    expect_index(&rt, &mut refusal, &index);
 }
 
 // Removes key 2 from the map, and checks that the clone keeps it.

@@ -24,7 +24,7 @@ impl Job for Copying {
     ) {
         let mut before = Look::new(rt, refusal);
         let mut after = Look::new(rt, refusal);
-        fill(rt, form, Way::Insert, 34);
+        fill(rt, refusal, form, Way::Insert, 34);
         before.see(rt, form);
         for _ in 0..TRIES {
             let answer = form.copy();
@@ -54,7 +54,7 @@ impl Job for Snapshot {
     ) {
         let mut look = Look::new(rt, refusal);
         for key in [2, 0, 1] {
-            put(form, key, !key);
+            put(rt, refusal, form, key, !key);
         }
         for _ in 0..TRIES {
             let answer = form.snapshot(&mut look.pairs);

@@ -24,7 +24,7 @@ impl Job for Crowd {
         form: &mut F,
     ) {
         let mut looks = Looks::new(rt, refusal);
-        let count = fill_to_growth(rt, form);
+        let count = fill_to_growth(rt, refusal, form);
         for _ in 0..TRIES {
             let answer = form.reserve(65);
             expect_keys(rt, form, Way::Insert, 0, count);

@@ -124,11 +124,11 @@ impl Job for Insertion {
                 expect_eq(rt, (before, form.sizes().capacity), (0, 64));
             }
             State::Full => {
-                fill(rt, form, self.way, 32);
+                fill(rt, refusal, form, self.way, 32);
                 expect_growth(rt, refusal, of, &mut looks, form, self.way);
             }
             State::Wide => {
-                fill(rt, form, self.way, 32);
+                fill(rt, refusal, form, self.way, 32);
                 for key in 32..34u64 {
                     expect_added(rt, refusal, of, &mut looks, form, self.way, key);
                 }

@@ -40,31 +40,51 @@ pub(crate) fn expect_keys<F: Form<u64, u64>, R: Abort>(
 }
 
 // Adds a key until the insertion isn't refused.
-pub(crate) fn put<F: Form<u64, u64>>(form: &mut F, key: u64, value: u64) {
+pub(crate) fn put<F: Form<u64, u64>, R: Print>(
+    rt: &R,
+    refusal: &mut Refusal,
+    form: &mut F,
+    key: u64,
+    value: u64,
+) {
     for _ in 0..TRIES {
         if !matches!(form.add(Way::Insert, key, value), Answer::Refused(_)) {
             return;
         }
+        refusal.meet(rt, "an insertion that fills a container");
     }
 }
 
 // Adds the keys below `count`, with the values of `way`.
-pub(crate) fn fill<F: Form<u64, u64>, R: Abort>(rt: &R, form: &mut F, way: Way, count: u64) {
+pub(crate) fn fill<F: Form<u64, u64>, R: Abort + Print>(
+    rt: &R,
+    refusal: &mut Refusal,
+    form: &mut F,
+    way: Way,
+    count: u64,
+) {
     for key in 0..count {
-        put(form, key, value_of(way, key));
+        put(rt, refusal, form, key, value_of(way, key));
     }
     expect_keys(rt, form, way, 0, count);
 }
 
 // Adds keys, each with its complement as value, to a container of 64 slots until it has 128. The 33rd key makes it
 // grow if the growth isn't refused. Returns the number of added keys; a cache has lost all but the last 32.
-pub(crate) fn fill_to_growth<F: Form<u64, u64>, R: Abort>(rt: &R, form: &mut F) -> u64 {
+pub(crate) fn fill_to_growth<F: Form<u64, u64>, R: Abort + Print>(
+    rt: &R,
+    refusal: &mut Refusal,
+    form: &mut F,
+) -> u64 {
     let mut count = 0u64;
     for _ in 0..80 {
         if form.sizes().capacity == 128 {
             break;
         }
-        put(form, count, !count);
+        if count >= 33 {
+            refusal.meet(rt, "a growth that fills a container");
+        }
+        put(rt, refusal, form, count, !count);
         count = count.saturating_add(1);
     }
     expect_eq(rt, (form.sizes().capacity, count >= 33), (128, true));

@@ -3,6 +3,7 @@
 use crate::expect::{expect, expect_eq};
 use crate::looks::expect_keys;
 use crate::makers::{Job, Of, of_items, with};
+use crate::meetings;
 use scc::{HashCache, HashIndex, HashMap, HashSet, hash_cache, hash_index, hash_map, hash_set};
 use std::io::Print;
 use std::process::Abort;
@@ -33,8 +34,8 @@ impl Job for Empty {
     }
 }
 
-// Checks that the container has the keys below 34, or only the last 32 of them if it is a cache, and has 64 slots if
-// its growth was refused, or 128.
+// Checks that the container has the keys below 34 and 128 slots, or 64 if the growth was refused both for the 33rd key
+// and for the 34th. A cache has at most as many slots as it was given items, 64, and only the last 32 keys.
 #[derive(Drop)]
 struct Collected;
 
@@ -42,14 +43,22 @@ impl Job for Collected {
     fn run<F: Form<u64, u64>, R: AllocGlobal + Abort + Print + Wait>(
         &self,
         rt: &R,
-        _refusal: &mut Refusal,
+        refusal: &mut Refusal,
         of: Of,
         form: &mut F,
     ) {
-        let first = if of.kind() == Kind::Cache { 2 } else { 0 };
+        let is_bounded = of.kind() == Kind::Cache;
+        let first = if is_bounded { 2 } else { 0 };
         expect_keys(rt, form, Way::Insert, first, 34);
         let capacity = form.sizes().capacity;
-        expect(rt, capacity == 64 || capacity == 128);
+        if is_bounded {
+            expect_eq(rt, capacity, 64);
+        } else if capacity == 64 {
+            meetings::growth(rt, refusal, of);
+            meetings::growth(rt, refusal, of);
+        } else {
+            expect_eq(rt, capacity, 128);
+        }
     }
 }
 

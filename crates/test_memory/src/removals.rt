@@ -127,8 +127,12 @@ fn remove<F: Form<u64, u64>, R: AllocGlobal + Abort + Print>(
 
 // Fills a bucket of an array of 64 slots until the array has doubled, and removes all keys but the last 17, one more
 // than an eighth of the slots. Returns the number of keys that were added, from 0 on.
-fn thin_out<F: Form<u64, u64>, R: Abort>(rt: &R, form: &mut F) -> u64 {
-    let count = fill_to_growth(rt, form);
+fn thin_out<F: Form<u64, u64>, R: Abort + Print>(
+    rt: &R,
+    refusal: &mut Refusal,
+    form: &mut F,
+) -> u64 {
+    let count = fill_to_growth(rt, refusal, form);
     for key in 0..count {
         if form.sizes().len > 17 {
             form.remove(&key);
@@ -136,6 +140,20 @@ fn thin_out<F: Form<u64, u64>, R: Abort>(rt: &R, form: &mut F) -> u64 {
     }
     expect_eq(rt, (form.sizes().len, form.sizes().capacity), (17, 128));
     count
+}
+
+// Removes the first key from `first` on that is present. Returns the key after it.
+fn remove_next<F: Form<u64, u64>>(form: &mut F, first: u64) -> u64 {
+    let mut key = first;
+    let before = form.sizes().len;
+    for _ in 0..TRIES {
+        form.remove(&key);
+        key = key.saturating_add(1);
+        if form.sizes().len != before {
+            break;
+        }
+    }
+    key
 }
 
 // Shrinks the array by one removal after another, and by clearing, until the shrink isn't refused.
@@ -155,9 +173,8 @@ pub(crate) fn expect_shrunk<F: Form<u64, u64>, R: Abort + Print>(
         if form.sizes().is_empty {
             form.clear();
         } else {
-            form.remove(&key);
+            key = remove_next(form, key);
         }
-        key = key.saturating_add(1);
     }
     expect_eq(rt, form.sizes().capacity, 64);
 }
@@ -177,7 +194,7 @@ impl Job for Shrink {
     ) {
         let kind = form.kind();
         let mut look = Look::new(rt, refusal);
-        let count = thin_out(rt, form);
+        let count = thin_out(rt, refusal, form);
         let last = count.saturating_sub(1);
         // The condition wants an even value or key.
         let is_odd = kind == Kind::Index;

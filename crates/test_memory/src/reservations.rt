@@ -28,7 +28,7 @@ impl Job for Reservation {
         of: Of,
         form: &mut F,
     ) {
-        fill(rt, form, Way::Insert, 3);
+        fill(rt, refusal, form, Way::Insert, 3);
         for _ in 0..TRIES {
             let before = form.sizes().capacity;
             let answer = form.reserve(64);

@@ -64,6 +64,7 @@ fn expect_modified<R: Abort + Print + Wait>(rt: &R, refusal: &mut Refusal, index
                         if entry.update(value).is_ok() {
                             break;
                         }
+                        refusal.meet(rt, "a shared update after a refused modification");
                         expect_eq(rt, *entry.get(), !1);
                     }
                 }

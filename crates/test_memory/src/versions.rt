@@ -38,7 +38,7 @@ impl Job for Changing {
     ) {
         let mut before = Look::new(rt, refusal);
         let mut after = Look::new(rt, refusal);
-        fill(rt, form, Way::Insert, 2);
+        fill(rt, refusal, form, Way::Insert, 2);
         before.see(rt, form);
         let pair = pair_of(Kind::Index, 1, 7);
         for _ in 0..TRIES {
@@ -120,6 +120,7 @@ fn expect_modified<R: Abort + Print>(rt: &R, refusal: &mut Refusal, index: &mut 
                         if entry.update(value).is_ok() {
                             break;
                         }
+                        refusal.meet(rt, "an update after a refused modification");
                         expect_eq(rt, *entry.get(), !1);
                     }
                 }
@@ -135,7 +136,7 @@ fn expect_modified<R: Abort + Print>(rt: &R, refusal: &mut Refusal, index: &mut 
 fn a_refused_entry_publishes_by_its_next_call(rt: HostRuntime) {
     let mut refusal = Refusal::new();
     let mut index = Owned::with_hasher(rt.alloc(), Zero);
-    fill(&rt, &mut index, Way::Insert, 2);
+    fill(&rt, &mut refusal, &mut index, Way::Insert, 2);
     expect_modified(&rt, &mut refusal, &mut index);
     expect_updated(&rt, &mut refusal, &mut index, !1 ^ 1, 7);
     let values = (
@@ -187,7 +188,7 @@ fn expect_cloned<R: Abort + Print>(
 fn a_refused_clone_of_a_snapshot_leaves_the_snapshot(rt: HostRuntime) {
     let mut refusal = Refusal::new();
     let mut index: Index = Owned::with_hasher(rt.alloc(), Zero);
-    fill(&rt, &mut index, Way::Insert, 2);
+    fill(&rt, &mut refusal, &mut index, Way::Insert, 2);
     for _ in 0..TRIES {
         match index.iter() {
             Ok(versions) => return expect_cloned(&rt, &mut refusal, &mut index, versions),

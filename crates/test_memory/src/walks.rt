@@ -48,7 +48,7 @@ impl Job for Taking {
         form: &mut F,
     ) {
         let mut look = Look::new(rt, refusal);
-        fill(rt, form, Way::Insert, KEYS);
+        fill(rt, refusal, form, Way::Insert, KEYS);
         for _ in 0..TRIES {
             let answer = form.take(rt.alloc(), Rule::Always(Verdict::Take), &mut look.pairs);
             expect_parted(rt, form, look.pairs.as_slice());

@@ -14,7 +14,7 @@ use test_kit::refusals::{Refusal, TRIES};
 use test_kit::zero::Zero;
 
 // Tries each way on an owned container.
-fn expect_no_array<C: Form<u64, u64> + Reserving, R: Abort>(rt: &R, owned: &mut C) {
+fn expect_no_array<C: Form<u64, u64> + Reserving, R: Abort + Print>(rt: &R, owned: &mut C) {
     let token = owned
         .reserve_slots(GREATEST)
         .expect(rt, "so many can be reserved");
@@ -28,7 +28,7 @@ fn expect_no_array<C: Form<u64, u64> + Reserving, R: Abort>(rt: &R, owned: &mut 
     }
     expect_eq(rt, owned.sizes().capacity, 0);
     expect(rt, owned.release_slots(token).is_ok());
-    put(owned, 0, !0);
+    put(rt, &mut Refusal::new(), owned, 0, !0);
     expect_keys(rt, owned, Way::Insert, 0, 1);
     expect_eq(rt, owned.sizes().capacity, 64);
 }
@@ -54,7 +54,11 @@ fn index_without_an_array_that_no_memory_has(rt: HostRuntime) {
     expect_no_array(&rt, &mut index);
 }
 
-fn expect_no_array_in_map<R: Abort + Wait>(rt: &R, map: &HashMap<u64, u64, Zero>) {
+fn expect_no_array_in_map<R: Abort + Print + Wait>(
+    rt: &R,
+    refusal: &mut Refusal,
+    map: &HashMap<u64, u64, Zero>,
+) {
     let token = map.reserve(rt, GREATEST);
     expect(rt, token.is_some());
     let inserted = map.insert_sync(rt, 0, 5);
@@ -67,6 +71,7 @@ fn expect_no_array_in_map<R: Abort + Wait>(rt: &R, map: &HashMap<u64, u64, Zero>
         if map.upsert_sync(rt, 0, 5).is_ok() {
             break;
         }
+        refusal.meet(rt, "an upsert into a shared map after its reservation");
     }
     expect_eq(rt, map.read_sync(rt, &0, |_, value| *value), Some(5));
     expect_eq(rt, map.capacity(rt), 64);
@@ -78,14 +83,18 @@ fn shared_map_without_an_array_that_no_memory_has(rt: HostRuntime) {
     for _ in 0..TRIES {
         let made: Result<HashMap<u64, u64, Zero>, _> = HashMap::with_hasher(rt.alloc(), Zero);
         match made {
-            Ok(map) => return expect_no_array_in_map(&rt, &map),
+            Ok(map) => return expect_no_array_in_map(&rt, &mut refusal, &map),
             Err(_) => refusal.meet(&rt, "a shared map without an array"),
         }
     }
     expect(&rt, false);
 }
 
-fn expect_no_array_in_set<R: Abort + Wait>(rt: &R, set: &HashSet<u64, Zero>) {
+fn expect_no_array_in_set<R: Abort + Print + Wait>(
+    rt: &R,
+    refusal: &mut Refusal,
+    set: &HashSet<u64, Zero>,
+) {
     let token = set.reserve(rt, GREATEST);
     expect(rt, token.is_some());
     let inserted = set.insert_sync(rt, 7);
@@ -98,6 +107,7 @@ fn expect_no_array_in_set<R: Abort + Wait>(rt: &R, set: &HashSet<u64, Zero>) {
         if set.replace_sync(rt, 7).is_ok() {
             break;
         }
+        refusal.meet(rt, "a replacement in a shared set after its reservation");
     }
     expect_eq(
         rt,
@@ -112,14 +122,18 @@ fn shared_set_without_an_array_that_no_memory_has(rt: HostRuntime) {
     for _ in 0..TRIES {
         let made: Result<HashSet<u64, Zero>, _> = HashSet::with_hasher(rt.alloc(), Zero);
         match made {
-            Ok(set) => return expect_no_array_in_set(&rt, &set),
+            Ok(set) => return expect_no_array_in_set(&rt, &mut refusal, &set),
             Err(_) => refusal.meet(&rt, "a shared set without an array"),
         }
     }
     expect(&rt, false);
 }
 
-fn expect_no_array_in_index<R: Abort + Wait>(rt: &R, index: &HashIndex<u64, u64, Zero>) {
+fn expect_no_array_in_index<R: Abort + Print + Wait>(
+    rt: &R,
+    refusal: &mut Refusal,
+    index: &HashIndex<u64, u64, Zero>,
+) {
     let token = index.reserve(rt, GREATEST);
     expect(rt, token.is_some());
     let inserted = index.insert_sync(rt, 0, 5);
@@ -130,6 +144,7 @@ fn expect_no_array_in_index<R: Abort + Wait>(rt: &R, index: &HashIndex<u64, u64,
         if index.insert_sync(rt, 0, 5).is_ok() {
             break;
         }
+        refusal.meet(rt, "an insertion into a shared index after its reservation");
     }
     expect_eq(rt, index.peek_with(rt, &0, |_, value| *value), Some(5));
     expect_eq(rt, index.capacity(rt), 64);
@@ -141,7 +156,7 @@ fn shared_index_without_an_array_that_no_memory_has(rt: HostRuntime) {
     for _ in 0..TRIES {
         let made: Result<HashIndex<u64, u64, Zero>, _> = HashIndex::with_hasher(rt.alloc(), Zero);
         match made {
-            Ok(index) => return expect_no_array_in_index(&rt, &index),
+            Ok(index) => return expect_no_array_in_index(&rt, &mut refusal, &index),
             Err(_) => refusal.meet(&rt, "a shared index without an array"),
         }
     }

@@ -8,8 +8,6 @@ mod dropped;
 #[cfg(test)]
 mod expect;
 #[cfg(test)]
-mod flags;
-#[cfg(test)]
 mod kinds;
 #[cfg(test)]
 mod locks;

@@ -2,13 +2,13 @@
 // the next. So one lock round the whole container fails these tests, and so does one lock for each stripe that readers
 // don't share.
 use crate::expect::{expect, expect_eq};
-use crate::flags::{Flags, raise, sees};
 use crate::kinds::{Cache, HALF, Index, Map, Set, Threaded, Visit, Way};
 use std::alloc::Global;
 use std::process::Abort;
 use std::sync::Wait;
 use std::sync::atomic::AtomicU64;
 use std::thread::{Threads, join, map_indices};
+use test_kit::flags::{Flags, raise, sees};
 
 /// Slots for two stripes.
 const SLOTS: usize = 128;

@@ -1,6 +1,5 @@
 // A thread that waits long for a stripe sleeps. It may look at the lock often before, which takes microseconds.
 use crate::expect::{expect, expect_eq};
-use crate::flags::{Flags, raise, sees};
 use crate::kinds::{Cache, Index, Map, Set, Threaded, Visit};
 use std::alloc::Global;
 use std::fs;
@@ -9,6 +8,7 @@ use std::sync::Wait;
 use std::sync::atomic::AtomicU64;
 use std::thread::{Threads, join, sleep};
 use std::time::{Duration, Instant};
+use test_kit::flags::{Flags, raise, sees};
 
 /// How many milliseconds a stripe is held once another thread is about to wait for it.
 const HELD: u64 = 200;

@@ -1,12 +1,12 @@
 // Walks of every way beside two threads that write: each of a hundred keys that nobody touches is met once, while
 // other keys come and go, and arrays grow and shrink.
 use crate::expect::expect_eq;
-use crate::flags::{Flags, height, raise};
 use crate::kinds::{Cache, Index, Map, Set, Threaded, Visit, Way};
 use std::alloc::Global;
 use std::process::Abort;
 use std::sync::Wait;
 use std::thread::{Threads, map_indices};
+use test_kit::flags::{Flags, height, raise};
 
 /// The number of keys that nobody touches.
 const KEPT: usize = 100;

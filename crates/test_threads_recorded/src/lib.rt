@@ -4,6 +4,8 @@
 #[cfg(test)]
 mod as_run;
 #[cfg(test)]
+mod beside;
+#[cfg(test)]
 mod expect;
 #[cfg(test)]
 mod gates;

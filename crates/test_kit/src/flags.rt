@@ -1,5 +1,5 @@
-// Flags by which threads tell each other what they do. A thread stops looking for another after a limit, so a wrong
-// lock fails a test and doesn't hang it.
+//! Flags by which threads tell each other what they do. A thread stops looking for another after a limit, so a wrong
+//! lock fails a test and doesn't hang it.
 use std::sync::atomic::{AtomicU64, Ordering};
 use std::thread::yield_now;
 
@@ -15,7 +15,7 @@ pub struct Flags {
 }
 
 impl Flags {
-    pub(crate) fn new() -> Flags {
+    pub fn new() -> Flags {
         Flags {
             first: AtomicU64::new(0),
             second: AtomicU64::new(0),
@@ -25,17 +25,17 @@ impl Flags {
 }
 
 /// Raises a flag by one.
-pub(crate) fn raise(flag: &AtomicU64) {
+pub fn raise(flag: &AtomicU64) {
     flag.fetch_add(1, Ordering::SeqCst);
 }
 
 /// Returns how often a flag was raised.
-pub(crate) fn height(flag: &AtomicU64) -> u64 {
+pub fn height(flag: &AtomicU64) -> u64 {
     flag.load(Ordering::SeqCst)
 }
 
 /// Returns whether a flag is raised before the last look.
-pub(crate) fn sees(flag: &AtomicU64) -> bool {
+pub fn sees(flag: &AtomicU64) -> bool {
     for _ in 0..LOOKS {
         if height(flag) > 0 {
             return true;
