@@ -157,7 +157,7 @@ impl<E> Array<E> {
 
     /// Puts `entry` into the next slot of the bucket, which must be free, and returns the slot.
     #[inline(always)]
-    pub fn insert_in_slot(&mut self, bucket: usize, entry: E, tag: u8) -> usize
+    pub fn insert_reserved(&mut self, bucket: usize, entry: E, tag: u8) -> usize
         requires bucket { bucket < length self.old }
         requires room { length (shelf_of self.old bucket).slots < 32 }
         requires tag { 0 < tag }

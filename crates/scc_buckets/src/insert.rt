@@ -43,7 +43,7 @@ where
         requires short { length (list_of self.old bucket) < 32 }
         ensures { InsertsWithRoom E.Key.eq E.key_of self.old bucket entry result self.new }
     {
-        let slot = self.buckets.insert_in_slot(bucket, entry, tag(hash));
+        let slot = self.buckets.insert_reserved(bucket, entry, tag(hash));
         self.length += 1;
         Place { bucket, slot }
     }

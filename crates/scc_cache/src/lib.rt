@@ -147,7 +147,7 @@ impl<K: Eq + Hash, V, H: BuildHasher> Owned<K, V, H> {
     /// nothing changes and the supplied pair comes back. The pair also comes back if there is no array and memory for
     /// one is refused; with an array no refused memory makes a put fail. If buckets wait, the bucket of `k` is
     /// relocated first and then the first ones that wait, two in all; after a doubling all other buckets wait. If
-    /// `prepare` was called for `k` just before, no array is made or doubled. A put that succeeds takes the mark of a
+    /// `make_room` was called for `k` just before, no array is made or doubled. A put that succeeds takes the mark of a
     /// refused doubling away.
     #[inline(always)]
     pub fn put_sync(&mut self, k: K, v: V) -> Result<EvictedEntry<K, V>, InsertError<K, V>>

@@ -76,7 +76,7 @@ impl<K: Eq + Hash, V, H: BuildHasher> Owned<K, V, H> {
     {
         match self.table.bucket_within(hash, self.maximum) {
             Ok(bucket) => {
-                self.table.drop_mark_within();
+                self.table.drop_room_within();
                 let (evicted, slot) = self.table.put_within(bucket, hash, (k, v));
                 Ok((evicted, Place { bucket, slot }))
             }

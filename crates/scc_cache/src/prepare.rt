@@ -16,7 +16,7 @@ impl<K: Eq + Hash, V, H: BuildHasher> Owned<K, V, H> {
     /// A doubling whose memory is refused is noted and marked: the put of `k` that follows doesn't try the doubling
     /// again, so it makes no resize in any case. A doubling that is made takes note and mark away; if no doubling is
     /// due, both stay. Fails only if memory for the first array is refused, and then nothing changes.
-    pub fn prepare(&mut self, k: &K) -> Result<(), MakeError>
+    pub fn make_room(&mut self, k: &K) -> Result<(), MakeError>
         ensures present { (p : K × V) → IsPresent (hash_in ⟦<H as Hashes<K>>⟧.hash_of self.old.contents) K.eq
             self.old.contents k.now p → IsOk result × (self.new ≡ self.old) }
         ensures ok { IsAbsent (hash_in ⟦<H as Hashes<K>>⟧.hash_of self.old.contents) K.eq self.old.contents k.now
@@ -39,8 +39,8 @@ impl<K: Eq + Hash, V, H: BuildHasher> Owned<K, V, H> {
     }
 
     /// Takes the mark of a refused doubling away, and changes nothing else. A put then tries a doubling that is due,
-    /// even if `prepare` was refused memory for it.
-    pub fn drop_mark(&mut self)
+    /// even if `make_room` was refused memory for it.
+    pub fn drop_room(&mut self)
         ensures lists { lists_of self.new.contents ≡ lists_of self.old.contents }
         ensures settings { settings_of self.new.contents ≡ settings_of self.old.contents }
         ensures noted { refused_of self.new.contents ≡ (note_of self.old.contents, false) }
@@ -48,7 +48,7 @@ impl<K: Eq + Hash, V, H: BuildHasher> Owned<K, V, H> {
         ensures maximum { self.new.maximum ≡ self.old.maximum }
         ensures state { IsCacheState K.eq (hash_in ⟦<H as Hashes<K>>⟧.hash_of self.new.contents) self.new }
     {
-        self.table.drop_mark_within();
+        self.table.drop_room_within();
     }
 
     /// Returns the pair that a put of `k` without a resize would evict: the least recent of its bucket. Returns `None`

@@ -9,7 +9,7 @@ abbrev pub MayNotReply : {S C R : Type 0} → (S → ℕ) → (S → ℕ → S �
 MayNotReply {S} size resizes answer is_infallible s call = (t : S) × Stays size resizes s t × MayNotClone is_infallible (answer t call)
 
 module _ {T G S K C R X : Type 0} (setting_of : T → G) (state_of : T → S) (size : S → ℕ) (key_of : C → Option K) (gives : G → S → C → R) (resizes : G → S → ℕ → S → Type 0) (may_refuse : G → S → C → Type 0) (may_add : C → Type 0) (is_prepared : T → C → R → Type 0) (is_infallible : R → Type 0) where
-  -- what `prepare_call` of the call, with this result, does to the container c, which becomes d
+  -- what `ready` of the call, with this result, does to the container c, which becomes d
   pub record PreparesCallByRule (is_marked : T → Bool) (c : T) (call : C) (result : Result (R × R) X) (d : T) : Type 0 where
     -- the setting stays
     pub setting : setting_of d ≡ setting_of c

@@ -103,15 +103,12 @@ impl<K: Eq + Hash + Clone, V: Clone + PartialEq, H: BuildHasher> Calls for Owned
         }
     }
 
-    fn prepare_call(
-        &mut self,
-        call: &CacheCall<K, V>,
-    ) -> Result<(Reply<K, V>, Reply<K, V>), Refused> {
+    fn ready(&mut self, call: &CacheCall<K, V>) -> Result<(Reply<K, V>, Reply<K, V>), Refused> {
         prepare(self, call)?;
         match copies(self, call) {
             Ok(both) => Ok(both),
             Err(Refused) => {
-                self.drop_mark();
+                self.drop_room();
                 Err(Refused)
             }
         }
@@ -227,7 +224,7 @@ fn prepare<K: Eq + Hash, V, H: BuildHasher>(
         cache.old call.now result cache.new }
 {
     match call {
-        CacheCall::Put(k, _) => match cache.prepare(k) {
+        CacheCall::Put(k, _) => match cache.make_room(k) {
             Ok(()) => Ok(()),
             Err(_) => Err(Refused),
         },

@@ -95,7 +95,7 @@ pub trait Calls: Sized {
     /// Makes the first array or the growth that `call` needs, at most one resize, and returns two copies of the reply
     /// that `call` gives next. If it fails, the entries are unchanged, but the resize may have been made, and no
     /// growth is marked that wasn't marked before.
-    fn prepare_call(&mut self, call: &Self::Call) -> Result<(Self::Reply, Self::Reply), Refused>
+    fn ready(&mut self, call: &Self::Call) -> Result<(Self::Reply, Self::Reply), Refused>
         requires clones { ClonesEqual Self.Reply.is_clone Self.Reply.eq }
         ensures { PreparesCallByRule setting state size key_of answer resizes may_refuse adds is_prepared
             Self.Reply.is_infallible is_marked self.old call.now result self.new };

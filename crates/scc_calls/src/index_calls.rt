@@ -91,15 +91,12 @@ impl<K: Eq + Hash + Clone, V: Clone + PartialEq, H: BuildHasher> Calls for Owned
         }
     }
 
-    fn prepare_call(
-        &mut self,
-        call: &IndexCall<K, V>,
-    ) -> Result<(Reply<K, V>, Reply<K, V>), Refused> {
+    fn ready(&mut self, call: &IndexCall<K, V>) -> Result<(Reply<K, V>, Reply<K, V>), Refused> {
         prepare(self, call)?;
         match copies(self, call) {
             Ok(both) => Ok(both),
             Err(Refused) => {
-                self.drop_mark();
+                self.drop_room();
                 Err(Refused)
             }
         }
@@ -213,7 +210,7 @@ fn prepare_key<K: Eq + Hash, V, H: BuildHasher>(
     ensures { IndexPreparesKey K.eq (λ h k. hash_of H.BuildHasher H.Hasher.Hasher h (K.hash_input k))
         index.old k.now result index.new }
 {
-    match index.prepare(k) {
+    match index.make_room(k) {
         Ok(()) => Ok(()),
         Err(_) => Err(Refused),
     }

@@ -90,15 +90,12 @@ impl<K: Eq + Hash + Clone, V: Clone + PartialEq, H: BuildHasher> Calls for Owned
         }
     }
 
-    fn prepare_call(
-        &mut self,
-        call: &MapCall<K, V>,
-    ) -> Result<(Reply<K, V>, Reply<K, V>), Refused> {
+    fn ready(&mut self, call: &MapCall<K, V>) -> Result<(Reply<K, V>, Reply<K, V>), Refused> {
         prepare(self, call)?;
         match copies(self, call) {
             Ok(both) => Ok(both),
             Err(Refused) => {
-                self.drop_mark();
+                self.drop_room();
                 Err(Refused)
             }
         }
@@ -216,7 +213,7 @@ fn prepare_key<K: Eq + Hash, V, H: BuildHasher>(
     ensures { MapPreparesKey K.eq (λ h k. hash_of H.BuildHasher H.Hasher.Hasher h (K.hash_input k))
         map.old k.now result map.new }
 {
-    match map.prepare(k) {
+    match map.make_room(k) {
         Ok(()) => Ok(()),
         Err(_) => Err(Refused),
     }

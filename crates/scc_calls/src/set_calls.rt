@@ -94,12 +94,12 @@ impl<K: Eq + Hash + Clone, H: BuildHasher> Calls for Owned<K, H> {
         }
     }
 
-    fn prepare_call(&mut self, call: &SetCall<K>) -> Result<(Reply<K, ()>, Reply<K, ()>), Refused> {
+    fn ready(&mut self, call: &SetCall<K>) -> Result<(Reply<K, ()>, Reply<K, ()>), Refused> {
         prepare(self, call)?;
         match copies(self, call) {
             Ok(both) => Ok(both),
             Err(Refused) => {
-                self.drop_mark();
+                self.drop_room();
                 Err(Refused)
             }
         }
@@ -207,7 +207,7 @@ fn prepare_key<K: Eq + Hash, H: BuildHasher>(set: &mut Owned<K, H>, k: &K) -> Re
     ensures { SetPreparesKey K.eq (λ h k. hash_of H.BuildHasher H.Hasher.Hasher h (K.hash_input k))
         set.old k.now result set.new }
 {
-    match set.prepare(k) {
+    match set.make_room(k) {
         Ok(()) => Ok(()),
         Err(_) => Err(Refused),
     }

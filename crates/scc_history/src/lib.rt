@@ -13,7 +13,7 @@ mod matching;
 mod order;
 mod recording;
 
-use crate::recording::{make_room, next_stamp, record_call, record_refused};
+use crate::recording::{next_stamp, record_call, record_refused, reserve_places};
 pub use counting::{count_all_calls, count_calls};
 pub use log::{Log, Receipt};
 pub use matching::{first_difference, records_by_pass};
@@ -80,7 +80,7 @@ impl<C: Calls> Stripe<C> {
     ///
     /// Fails with `Room` before anything changes, and with `Container` if the container refuses the call. Takes
     /// amortized constant time beside the call itself.
-    pub fn call(&mut self, log: &mut Log<C>, call: C::Call) -> Result<C::Reply, CallError>
+    pub fn step(&mut self, log: &mut Log<C>, call: C::Call) -> Result<C::Reply, CallError>
         requires calls { ClonesEqual C.Call.is_clone C.Call.eq }
         requires replies { ClonesEqual C.Reply.is_clone C.Reply.eq }
         ensures { RecordsByRule self.old log.old call result self.new log.new }
@@ -100,11 +100,11 @@ impl<C: Calls> Stripe<C> {
         let Some(stamp) = next_stamp(*clock, *last) else {
             return Err(CallError::Room);
         };
-        let Some((noted, kept)) = make_room(history, receipts, &call) else {
+        let Some((noted, kept)) = reserve_places(history, receipts, &call) else {
             return Err(CallError::Room);
         };
         let before = container.buckets();
-        let Ok((given, told)) = container.prepare_call(&call) else {
+        let Ok((given, told)) = container.ready(&call) else {
             record_refused(history, before, container.buckets(), stamp);
             return Err(CallError::Container);
         };

@@ -15,7 +15,7 @@ pub(crate) fn next_stamp(clock: u64, last: u64) -> Option<u64>
 
 // Reserves room for two steps in the history and for one receipt, and returns two clones of the call. Returns `None`
 // if memory for the room or for a clone is refused.
-pub(crate) fn make_room<A: Clone + Drop, R: Drop>(
+pub(crate) fn reserve_places<A: Clone + Drop, R: Drop>(
     history: &mut Vec<Step<A, R>>,
     receipts: &mut Vec<Receipt<A, R>>,
     call: &A,

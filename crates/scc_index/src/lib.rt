@@ -257,7 +257,7 @@ impl<K: Eq + Hash, V, H: BuildHasher> Owned<K, V, H> {
     /// doesn't try the growth again, so it makes no resize in any case. A growth that is made takes note and mark
     /// away; if no growth is due, both stay. Fails only if memory for the first array is refused, and then nothing
     /// changes.
-    pub fn prepare(&mut self, k: &K) -> Result<(), MakeError>
+    pub fn make_room(&mut self, k: &K) -> Result<(), MakeError>
         ensures present { IsSome (find K.eq (entries self.old) k.now) → IsOk result × (self.new ≡ self.old) }
         ensures ok { find K.eq (entries self.old) k.now ≡ None
             → OnOk result (Prepares (hash_in ⟦<H as Hashes<K>>⟧.hash_of self.old) (λ p. p.0) self.old
@@ -274,7 +274,7 @@ impl<K: Eq + Hash, V, H: BuildHasher> Owned<K, V, H> {
         let hash = self.table.hash(k);
         match self.table.search(hash, k) {
             Some(_) => Ok(()),
-            None => match self.table.prepare(hash) {
+            None => match self.table.make_room(hash) {
                 Ok(()) => Ok(()),
                 Err(_) => Err(MakeError),
             },
@@ -282,15 +282,15 @@ impl<K: Eq + Hash, V, H: BuildHasher> Owned<K, V, H> {
     }
 
     /// Takes the mark of a refused growth away, and changes nothing else. An insertion then tries a growth that is
-    /// due, even if `prepare` was refused memory for it.
-    pub fn drop_mark(&mut self)
+    /// due, even if `make_room` was refused memory for it.
+    pub fn drop_room(&mut self)
         ensures same { IsUnchanged self.old self.new }
         ensures lists { lists_of self.new ≡ lists_of self.old }
         ensures waiting { waiting_of self.new ≡ waiting_of self.old }
         ensures noted { refused_of self.new ≡ (note_of self.old, false) }
         ensures unique { IsUnique K.eq self.new }
     {
-        self.table.drop_mark();
+        self.table.drop_room();
     }
 
     /// Removes the version whose key equals `k`, and returns whether there was one. Holders of the version keep it.

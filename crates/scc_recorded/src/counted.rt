@@ -90,7 +90,7 @@ impl<C: Calls, M: Site<C::Hasher>> CountedStripe<C, M> {
             ledger: receipts,
         } = pass;
         stripe.number = number;
-        let reply = stripe.call(log, call)?;
+        let reply = stripe.step(log, call)?;
         count.lock(rt).add(receipts, records);
         Ok(reply)
     }

@@ -137,7 +137,7 @@ impl<K: Eq + Hash, H: BuildHasher> Owned<K, H> {
     /// whose memory is refused is noted and marked: the insertion of `k` that follows doesn't try the growth again, so
     /// it makes no resize in any case. A growth that is made takes note and mark away; if no growth is due, both stay.
     /// Fails only if memory for the first array is refused, and then nothing changes.
-    pub fn prepare(&mut self, k: &K) -> Result<(), MakeError>
+    pub fn make_room(&mut self, k: &K) -> Result<(), MakeError>
         ensures present { IsSome (find K.eq (entries self.old) k.now) → IsOk result × (self.new ≡ self.old) }
         ensures ok { find K.eq (entries self.old) k.now ≡ None
             → OnOk result (Prepares (hash_in ⟦<H as Hashes<K>>⟧.hash_of self.old) (λ q. q) self.old
@@ -151,19 +151,19 @@ impl<K: Eq + Hash, H: BuildHasher> Owned<K, H> {
         ensures settings { settings_of self.new ≡ settings_of self.old }
         ensures unique { IsUnique K.eq self.new }
     {
-        self.map.prepare(k)
+        self.map.make_room(k)
     }
 
     /// Takes the mark of a refused growth away, and changes nothing else. An insertion then tries a growth that is
-    /// due, even if `prepare` was refused memory for it.
-    pub fn drop_mark(&mut self)
+    /// due, even if `make_room` was refused memory for it.
+    pub fn drop_room(&mut self)
         ensures same { IsUnchanged self.old self.new }
         ensures lists { lists_of self.new ≡ lists_of self.old }
         ensures waiting { waiting_of self.new ≡ waiting_of self.old }
         ensures noted { refused_of self.new ≡ (note_of self.old, false) }
         ensures unique { IsUnique K.eq self.new }
     {
-        self.map.drop_mark();
+        self.map.drop_room();
     }
 
     /// Puts `k` in the place of the key that equals it, and returns the old key; this allocates nothing. If no key

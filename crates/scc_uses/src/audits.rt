@@ -28,9 +28,9 @@ pub fn one_after_another<C: Calls>(
     requires replies { ClonesEqual C.Reply.is_clone C.Reply.eq }
     ensures { OnOk result (first.new.clock < second.new.clock) }
 {
-    stripe.call(first, call)?;
+    stripe.step(first, call)?;
     second.told(first);
-    stripe.call(second, later)?;
+    stripe.step(second, later)?;
     Ok(())
 }
 

@@ -14,11 +14,11 @@ pub fn insert_prepared<K: Eq + Hash, V, H: BuildHasher>(
 ) -> Result<(), (K, V)>
     ensures back { IfErr result (λ p. p ≡ (k, v)) }
 {
-    if map.prepare(&k).is_err() {
+    if map.make_room(&k).is_err() {
         return Err((k, v));
     }
     if !map.has_room(&k) {
-        map.drop_mark();
+        map.drop_room();
         return Err((k, v));
     }
     match map.insert_sync(k, v) {

@@ -18,41 +18,41 @@ trait Making: Form<MaybeEqual, u64> {
 
 impl Making for hash_map::Owned<MaybeEqual, u64, Zero> {
     fn make(&mut self, key: u64) -> bool {
-        self.prepare(&MaybeEqual(key, 0)).is_ok()
+        self.make_room(&MaybeEqual(key, 0)).is_ok()
     }
 
     fn let_go(&mut self) {
-        self.drop_mark();
+        self.drop_room();
     }
 }
 
 impl Making for hash_set::Owned<MaybeEqual, Zero> {
     fn make(&mut self, key: u64) -> bool {
-        self.prepare(&MaybeEqual(key, 0)).is_ok()
+        self.make_room(&MaybeEqual(key, 0)).is_ok()
     }
 
     fn let_go(&mut self) {
-        self.drop_mark();
+        self.drop_room();
     }
 }
 
 impl Making for hash_index::Owned<MaybeEqual, u64, Zero> {
     fn make(&mut self, key: u64) -> bool {
-        self.prepare(&MaybeEqual(key, 0)).is_ok()
+        self.make_room(&MaybeEqual(key, 0)).is_ok()
     }
 
     fn let_go(&mut self) {
-        self.drop_mark();
+        self.drop_room();
     }
 }
 
 impl Making for hash_cache::Owned<MaybeEqual, u64, Zero> {
     fn make(&mut self, key: u64) -> bool {
-        self.prepare(&MaybeEqual(key, 0)).is_ok()
+        self.make_room(&MaybeEqual(key, 0)).is_ok()
     }
 
     fn let_go(&mut self) {
-        self.drop_mark();
+        self.drop_room();
     }
 }
 

@@ -191,7 +191,7 @@ impl Calls for Tally {
         None
     }
 
-    fn prepare_call(&mut self, call: &u8) -> Result<(u8, u8), Refused> {
+    fn ready(&mut self, call: &u8) -> Result<(u8, u8), Refused> {
         if self.total > 9 || *call > 9 - self.total {
             return Err(Refused);
         }

@@ -39,7 +39,7 @@ where
 
     /// Takes the mark away, so that the next put tries a doubling that is due.
     #[inline(always)]
-    pub fn drop_mark_within(&mut self)
+    pub fn drop_room_within(&mut self)
         requires { IsListed (λ e. key_hash H.BuildHasher H.Hasher.Hasher E.Key.hash_input self.old (E.key_of e))
             self.old }
         ensures { DropsMarkWithin E.Key.eq E.key_of (key_hash H.BuildHasher H.Hasher.Hasher E.Key.hash_input)

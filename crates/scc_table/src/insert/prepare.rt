@@ -17,7 +17,7 @@ where
     /// Prepares an insertion of a new key with the hash `hash`: makes the first array, or doubles the array; then every
     /// bucket of the new array waits. A growth whose memory is refused is noted and marked: the insertion doesn't try
     /// it again. Fails only if memory for the first array is refused; then nothing changes.
-    pub fn prepare(&mut self, hash: u64) -> Result<(), AllocError>
+    pub fn make_room(&mut self, hash: u64) -> Result<(), AllocError>
         ensures ok { OnOk result (Prepares (key_hash H.BuildHasher H.Hasher.Hasher E.Key.hash_input self.old)
             E.key_of self.old hash self.new) }
         ensures err { OnErr result (bucket_count self.old ≡ 0) }
@@ -47,7 +47,7 @@ where
     }
 
     /// Takes the mark away, so that the next insertion tries a growth that is due.
-    pub fn drop_mark(&mut self)
+    pub fn drop_room(&mut self)
         ensures same { IsUnchanged self.old self.new }
         ensures lists { lists_of self.new ≡ lists_of self.old }
         ensures waiting { waiting_of self.new ≡ waiting_of self.old }

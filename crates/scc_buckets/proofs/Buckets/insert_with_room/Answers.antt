@@ -11,13 +11,13 @@ use Rattle.scc_buckets.proofs.OneList.{put-in-list}
 use Rattle.scc_buckets.proofs.Views.{entries-view, count-view, list-view, settings-view}
 use Rattle.scc_buckets.proofs.Buckets.insert_with_room.Goals as goal
 
-pub insert_in_slot-slot-requires-clause-bucket : goal.insert_in_slot-slot-requires-clause-bucket
-insert_in_slot-slot-requires-clause-bucket g c =
+pub insert_reserved-slot-requires-clause-bucket : goal.insert_reserved-slot-requires-clause-bucket
+insert_reserved-slot-requires-clause-bucket g c =
     let l = rw (count-view c.self.inside.buckets _ c.args.self.now c.self.view_is) at c.requires.new.within in
     search rules
 
-pub insert_in_slot-slot-requires-clause-room : goal.insert_in_slot-slot-requires-clause-room
-insert_in_slot-slot-requires-clause-room g c =
+pub insert_reserved-slot-requires-clause-room : goal.insert_reserved-slot-requires-clause-room
+insert_reserved-slot-requires-clause-room g c =
     let bs = c.self.inside.buckets in
     let i = c.args.bucket in
     let l : i < length bs = rw (count-view bs _ c.args.self.now c.self.view_is) at c.requires.new.within in
@@ -43,12 +43,12 @@ invariant_of-self g c =
     let routed : i ≡ bucket_number t.skipped (length bs) (f c.args.entry) =
     let r = rw (settings-view bs _ c.args.self.now c.self.view_is, count) at c.requires.new.routed in r ∙ ap (bucket_number t.skipped (length bs)) hashed in
     let short : length b.slots < 32 = let here = ap length (list-view bs _ c.args.self.now c.self.view_is i b l at) in omega (arith, here, length-append b.slots b.overflow, c.requires.short) in
-    let put = c.insert_in_slot-slot.ensures.value in
-    let d = shelf_of c.insert_in_slot-slot.new.self i in
-    let is : d ≡ with_slot b c.args.entry (tag_of (f c.args.entry)) = put-is bs i l c.insert_in_slot-slot.new.self _ put ∙ ap (with_slot b c.args.entry) (c.tag.ensures ∙ ap tag_of hashed) in
+    let put = c.insert_reserved-slot.ensures.value in
+    let d = shelf_of c.insert_reserved-slot.new.self i in
+    let is : d ≡ with_slot b c.args.entry (tag_of (f c.args.entry)) = put-is bs i l c.insert_reserved-slot.new.self _ put ∙ ap (with_slot b c.args.entry) (c.tag.ensures ∙ ap tag_of hashed) in
     let new = stored-slot b d c.args.entry (tag_of (f c.args.entry)) short is in
     let place = sym (slot-entry b c.args.entry 0 short).1 in
-    rw (put-own bs i l c.insert_in_slot-slot.new.self _ put) record {
+    rw (put-own bs i l c.insert_reserved-slot.new.self _ put) record {
       table = inserted-table f t.skipped t.length t.overflowing i bs c.self.invariant.table _ c.args.self.now c.self.view_is b l at d c.args.entry (length b.slots) new place t.overflowing routed (ap (λ x. t.overflowing + length x.overflow) (sym is)) c.self.invariant.table.few;
       few_bits = c.self.invariant.few_bits;
       small_minimum = c.self.invariant.small_minimum;
@@ -66,13 +66,13 @@ returns g c =
     let at = shelf-at bs i l in
     let hashed = rw (settings-view bs _ c.args.self.now c.self.view_is) at c.requires.new.hashed in
     let short : length b.slots < 32 = let here = ap length (list-view bs _ c.args.self.now c.self.view_is i b l at) in omega (arith, here, length-append b.slots b.overflow, c.requires.short) in
-    let put = c.insert_in_slot-slot.ensures.value in
-    let d = shelf_of c.insert_in_slot-slot.new.self i in
-    let is : d ≡ with_slot b c.args.entry (tag_of (f c.args.entry)) = put-is bs i l c.insert_in_slot-slot.new.self _ put ∙ ap (with_slot b c.args.entry) (c.tag.ensures ∙ ap tag_of hashed) in
+    let put = c.insert_reserved-slot.ensures.value in
+    let d = shelf_of c.insert_reserved-slot.new.self i in
+    let is : d ≡ with_slot b c.args.entry (tag_of (f c.args.entry)) = put-is bs i l c.insert_reserved-slot.new.self _ put ∙ ap (with_slot b c.args.entry) (c.tag.ensures ∙ ap tag_of hashed) in
     let new = stored-slot b d c.args.entry (tag_of (f c.args.entry)) short is in
-    let place = c.insert_in_slot-slot.ensures.slot ∙ sym (slot-entry b c.args.entry 0 short).1 in
-    rw (put-own bs i l c.insert_in_slot-slot.new.self _ put) record {
-      exact = put-in-list bs _ c.args.self.now c.self.view_is i b l at d c.args.entry _ c.insert_in_slot-slot.result (c.self.invariant.table.own i b l at).within new place;
-      last = λ bounded. c.insert_in_slot-slot.ensures.slot ∙ ap length (sym (slots-are bs _ c.args.self.now c.self.view_is i b l at bounded)) ∙ ap length (sym (list-view bs _ c.args.self.now c.self.view_is i b l at));
-      unique = unique-inserted g.met.E.Key.Eq.laws g.E.Keyed.key_of c.args.entry (entries c.args.self.now) _ (rw (entries-view bs _ c.args.self.now c.self.view_is) c.self.invariant.unique) c.requires.new.absent (inserted-holds f t.skipped t.length t.overflowing i bs c.self.invariant.table _ c.args.self.now c.self.view_is b l at d c.args.entry c.insert_in_slot-slot.result new place).same;
+    let place = c.insert_reserved-slot.ensures.slot ∙ sym (slot-entry b c.args.entry 0 short).1 in
+    rw (put-own bs i l c.insert_reserved-slot.new.self _ put) record {
+      exact = put-in-list bs _ c.args.self.now c.self.view_is i b l at d c.args.entry _ c.insert_reserved-slot.result (c.self.invariant.table.own i b l at).within new place;
+      last = λ bounded. c.insert_reserved-slot.ensures.slot ∙ ap length (sym (slots-are bs _ c.args.self.now c.self.view_is i b l at bounded)) ∙ ap length (sym (list-view bs _ c.args.self.now c.self.view_is i b l at));
+      unique = unique-inserted g.met.E.Key.Eq.laws g.E.Keyed.key_of c.args.entry (entries c.args.self.now) _ (rw (entries-view bs _ c.args.self.now c.self.view_is) c.self.invariant.unique) c.requires.new.absent (inserted-holds f t.skipped t.length t.overflowing i bs c.self.invariant.table _ c.args.self.now c.self.view_is b l at d c.args.entry c.insert_reserved-slot.result new place).same;
     }

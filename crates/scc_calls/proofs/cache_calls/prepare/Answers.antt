@@ -11,7 +11,7 @@ use Rattle.scc_calls.proofs.cache_calls.prepare.Goals as goal
 pub returns-in-Ok : goal.returns-in-Ok
 returns-in-Ok g c =
     let a = c.args.cache.now in
-    let d = c.prepare.new.self in
+    let d = c.make_room.new.self in
     let k = c.in-Put.k in
     let hash : g.row.K.Denot → ℕ = key_hash g.H.BuildHasher g.H.Hasher.Hasher g.K.Hash.hash_input c.args.cache.now.contents in
     record {

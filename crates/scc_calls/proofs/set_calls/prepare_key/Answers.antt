@@ -11,9 +11,9 @@ returns-in-Ok g c =
     record {
       made = (
           let a = c.args.set.now in
-          let d = c.prepare.new.self in
+          let d = c.make_room.new.self in
           let k = c.args.k.now in
-          let like = hash-same g.H.BuildHasher g.H.Hasher.Hasher g.K.Hash.hash_input a d c.prepare.ensures.settings in
+          let like = hash-same g.H.BuildHasher g.H.Hasher.Hasher g.K.Hash.hash_input a d c.make_room.ensures.settings in
           by-find (find g.K.PartialEq.eq (entries a) k)
           (λ p is. let same : d ≡ a = (c.in-Ok.ensures.present (rw is refl)).1 in inl (rw same (rw is refl)))
           (λ none. inr (subst (λ (h : g.row.K.Denot → ℕ). IsPreparedAt h (λ q. q) d (h k)) (sym like) (c.in-Ok.ensures.ok none).made)));

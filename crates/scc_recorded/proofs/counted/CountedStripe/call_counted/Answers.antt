@@ -8,7 +8,7 @@ pub invariant_of-self : goal.invariant_of-self
 invariant_of-self g c =
     let m = g.C.Calls in
     let old = c.args.self.now in
-    let new = c.call.new.self in
+    let new = c.step.new.self in
     let same = c.in_err-reply.ensures.same.0 in
     let log = c.args.pass.now.log in
     let e : calls_in new.history.items ≡ calls_in old.stripe.history.items = calls_in-resized _ _ (m.size (m.state old.stripe.container)) (m.size (m.state new.container)) (max log.clock old.stripe.last + 1) _ _ c.in_err-reply.ensures.resize in
@@ -18,7 +18,7 @@ pub invariant_of-self-2 : goal.invariant_of-self-2
 invariant_of-self-2 g c =
     let m = g.C.Calls in
     let old = c.args.self.now in
-    let new = c.call.new.self in
+    let new = c.step.new.self in
     let same = c.in_ok-reply.ensures.same.0 in
     let e : calls_in new.history.items ≡ calls_in old.stripe.history.items + 1 = calls_in-recorded _ _ (m.size (m.state old.stripe.container)) (m.size (m.state new.container)) new.last c.args.pass.now.log.number c.in_ok-reply.ensures.history.0 c.in_ok-reply.ensures.history.1 _ _ c.in_ok-reply.ensures.history.3 in
     record {

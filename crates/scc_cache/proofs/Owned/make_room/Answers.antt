@@ -1,0 +1,93 @@
+use Rattle.std.proofs.Common.{◌∙◌, ℕ, ◌≤◌, ◌*◌, refl, sym, ap, subst}
+use Rattle.std.specs.List.{count_by}
+use Rattle.scc_buckets.specs.Bounded.{IsListed}
+use Rattle.scc_common.specs.Contents.{bucket_count, settings_of}
+use Rattle.scc_common.specs.Hashing.{hash_of}
+use Rattle.scc_common.specs.Routing.{bucket_number}
+use Rattle.scc_table.specs.Bounded.{GrowsBelow, IsPreparedBelow}
+use Rattle.scc_table.proofs.Finishing.{pending-is}
+use Rattle.scc_cache.proofs.Caching.{grown-within, state-after}
+use Rattle.scc_cache.specs.Caches.{Cached}
+use Rattle.scc_cache.proofs.Owned.make_room.Goals as goal
+use Rattle.scc_cache.proofs.Owned.make_room.Goals.{in-Ok, in-Err}
+
+pub invariant_of-self : goal.invariant_of-self
+invariant_of-self g c =
+    let h = c.self.invariant in
+    let t = c.self.inside.table in
+    let d = c.prepare_within.new.self in
+    let m = c.self.inside.maximum in
+    let r = c.prepare_within.ensures in
+    let within : 32 * bucket_count d ≤ m = elim c.match-prepare_within.branch as (λ _. 32 * bucket_count d ≤ m) [
+      | in-Ok w ↦ grown-within _ t d m _ w.in-Ok.ensures.grows h.power h.least h.within h.minimum
+      | in-Err w ↦ subst (λ z. 32 * bucket_count z ≤ m) (sym w.in-Err.ensures.none.1) h.within
+    ] in
+    state-after g.K.PartialEq.eq _ _ t d m h r.listed r.unique r.settings within
+
+pub returns-in-Some-clause-present : goal.returns-in-Some-clause-present
+returns-in-Some-clause-present g c = λ p there. (refl, refl)
+
+pub returns-in-Some-clause-ok : goal.returns-in-Some-clause-ok
+returns-in-Some-clause-ok g c = λ absent. absurd (let there = c.in-Some.ensures.there.first in let z = sym absent ∙ there in cc)
+
+pub returns-after-prepare_within-clause-present : goal.returns-after-prepare_within-clause-present
+returns-after-prepare_within-clause-present g c = λ p (i, at). absurd (let z = sym c.in-None.ensures.absent ∙ at.first in cc)
+
+pub returns-after-prepare_within-clause-ok : goal.returns-after-prepare_within-clause-ok
+returns-after-prepare_within-clause-ok g c =
+    let t = c.self.inside.table in
+    let d = c.prepare_within.new.self in
+    let m = c.self.inside.maximum in
+    let r = c.prepare_within.ensures in
+    let f : g.row.K.Denot → ℕ = (λ k. hash_of g.H.BuildHasher g.H.Hasher.Hasher (settings_of t).hasher (g.K.Hash.hash_input k)) in
+    let listed = subst (λ s. IsListed (λ e. hash_of g.H.BuildHasher g.H.Hasher.Hasher s.hasher (g.K.Hash.hash_input e.0)) d) r.settings r.listed in
+    elim c.match-prepare_within.branch [
+      | in-Ok w ↦ λ absent. rw (w.result-is, ← c.self.view_is) record {
+        grows = record {
+          grows = subst (λ h. GrowsBelow (λ e. f e.0) m (bucket_number (settings_of t).skipped (bucket_count t) h) t d) c.hash-hash.ensures w.in-Ok.ensures.grows;
+          listed = listed;
+          settings = r.settings;
+          maximum = refl;
+        };
+        ready = subst (λ h. IsPreparedBelow m (bucket_number (settings_of d).skipped (bucket_count d) h) d) c.hash-hash.ensures w.in-Ok.ensures.ready;
+        marked = r.marked;
+        first = λ none. pending-is d ∙ ap (count_by (λ x. x)) (r.first none);
+        waiting = r.waiting;
+        all = r.all;
+      }
+      | in-Err w ↦ λ absent. rw w.result-is tt
+    ]
+
+pub returns-after-prepare_within-clause-err : goal.returns-after-prepare_within-clause-err
+returns-after-prepare_within-clause-err g c =
+    elim c.match-prepare_within.branch [
+      | in-Ok w ↦ rw w.result-is tt
+      | in-Err w ↦ rw w.result-is (c.in-None.ensures.absent, rw (← c.self.view_is) w.in-Err.ensures.none.0)
+    ]
+
+pub returns-after-prepare_within-clause-same : goal.returns-after-prepare_within-clause-same
+returns-after-prepare_within-clause-same g c =
+    let m = c.self.inside.maximum in
+    elim c.match-prepare_within.branch [
+      | in-Ok w ↦ rw w.result-is tt
+      | in-Err w ↦ rw (w.result-is, ← c.self.view_is) (ap (λ x. let z : Cached _ _ = record { contents = x; maximum = m } in z) w.in-Err.ensures.none.1)
+    ]
+
+pub returns-after-prepare_within-clause-settings : goal.returns-after-prepare_within-clause-settings
+returns-after-prepare_within-clause-settings g c = rw (← c.self.view_is) c.prepare_within.ensures.settings
+
+pub returns-after-prepare_within-clause-maximum : goal.returns-after-prepare_within-clause-maximum
+returns-after-prepare_within-clause-maximum g c = rw (← c.self.view_is) refl
+
+pub returns-after-prepare_within-clause-state : goal.returns-after-prepare_within-clause-state
+returns-after-prepare_within-clause-state g c =
+    let h = c.self.invariant in
+    let t = c.self.inside.table in
+    let d = c.prepare_within.new.self in
+    let m = c.self.inside.maximum in
+    let r = c.prepare_within.ensures in
+    let within : 32 * bucket_count d ≤ m = elim c.match-prepare_within.branch as (λ _. 32 * bucket_count d ≤ m) [
+      | in-Ok w ↦ grown-within _ t d m _ w.in-Ok.ensures.grows h.power h.least h.within h.minimum
+      | in-Err w ↦ subst (λ z. 32 * bucket_count z ≤ m) (sym w.in-Err.ensures.none.1) h.within
+    ] in
+    state-after g.K.PartialEq.eq _ _ t d m h r.listed r.unique r.settings within

@@ -1,0 +1,15 @@
+use Rattle.std.proofs.Common.{◌∙◌, rules}
+use Rattle.scc_common.specs.Hashing.{hash_of}
+use Rattle.scc_table.proofs.Short.{listed-later}
+use Rattle.scc_table.proofs.Table.drop_room_within.Goals as goal
+
+pub returns-then-is_marked : goal.returns-then-is_marked
+returns-then-is_marked g c =
+    record {
+      lists = (search rules);
+      settings = (search rules);
+      noted = (search rules);
+      waiting = (search rules);
+      listed = (listed-later (λ s (e : g.row.E.Denot). hash_of g.H.BuildHasher g.H.Hasher.Hasher s.hasher (g.E.Key.Hash.hash_input (g.E.Keyed.key_of e))) c.args.self.now c.mark.new.self c.mark.ensures.lists c.mark.ensures.settings (c.mark.ensures.spilled ∙ c.requires.bounded) c.requires);
+      unique = (search rules);
+    }
