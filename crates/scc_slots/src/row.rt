@@ -11,11 +11,11 @@ ghost use denote.RawPtr.{Ptr, null_ptr};
 use std::alloc::{AllocError, Allocator};
 use std::marker::{Model, PhantomData, Send, Sync};
 use std::mem::{align_of, size_of};
-use std::ptr::null_mut;
+use std::ptr::null;
 
 /// The address of the first cell of a row. It owns nothing.
 pub struct Start<E> {
-    first: *mut E,
+    first: *const E,
 }
 
 impl<E> Clone for Start<E> {
@@ -83,7 +83,7 @@ pub(crate) fn obtain<E, A: Allocator>(
         Err(refused) => Err(refused),
         Ok(block) => {
             let start = Start {
-                first: block as *mut E,
+                first: block as *const E,
             };
             Ok((start, (Row { of: PhantomData }, Right { of: PhantomData })))
         }
@@ -94,7 +94,7 @@ pub(crate) fn obtain<E, A: Allocator>(
 pub(crate) fn nowhere<E>() -> Start<E>
     ensures { result.first ≡ null_ptr }
 {
-    Start { first: null_mut() }
+    Start { first: null() }
 }
 
 /// Returns a row without cells.
@@ -141,7 +141,7 @@ impl<E> Row<E> {
         requires { (start.first ≡ self.old.start) × IsEmptyCell self.old.cells cell }
         ensures { (self.new.start ≡ self.old.start) × (self.new.cells ≡ slice_set self.old.cells cell (Some entry)) }
     {
-        unsafe { start.first.add(cell).write(entry) }
+        unsafe { start.first.cast_mut().add(cell).write(entry) }
     }
 
     /// Takes the entry out of `cell`, and returns it. The cell is free then.
@@ -167,6 +167,6 @@ impl<E> Row<E> {
         ensures* writes_back { sem 𝓛 (lends_place E.row self.entry cell result) }
         ensures entry { slice_index_or self.old.cells cell None ≡ Some result.now }
     {
-        unsafe { &mut *start.first.add(cell) }
+        unsafe { &mut *start.first.cast_mut().add(cell) }
     }
 }
