@@ -4,7 +4,7 @@ use std::fmt::Debug;
 use thiserror::Error;
 
 /// Why a pair wasn't inserted. The pair is handed back, and the contents stay.
-#[derive(Debug, Drop, Error)]
+#[derive(Debug, Drop, Eq, Hash, PartialEq, Error)]
 #[error_bound(K: Debug + Drop, V: Debug + Drop)]
 pub enum InsertError<K, V> {
     /// A key equal to that of the pair is present.
@@ -16,7 +16,7 @@ pub enum InsertError<K, V> {
 }
 
 /// Why a key wasn't inserted. The key is handed back, and the contents stay.
-#[derive(Debug, Drop, Error)]
+#[derive(Debug, Drop, Eq, Hash, PartialEq, Error)]
 #[error_bound(K: Debug + Drop)]
 pub enum KeyError<K> {
     /// An equal key is present.
@@ -29,11 +29,11 @@ pub enum KeyError<K> {
 
 /// A container couldn't be made, because memory was refused or clones of two keys are equal. What it was to be made of
 /// is unchanged.
-#[derive(Clone, Copy, Debug, PartialEq, Error)]
+#[derive(Clone, Copy, Debug, Eq, Hash, PartialEq, Error)]
 #[error("out of memory")]
 pub struct MakeError;
 
 /// Memory for the list of taken pairs was refused. What the walk has done stays.
-#[derive(Clone, Copy, Debug, PartialEq, Error)]
+#[derive(Clone, Copy, Debug, Eq, Hash, PartialEq, Error)]
 #[error("out of memory")]
 pub struct WalkError;

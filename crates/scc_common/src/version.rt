@@ -1,6 +1,7 @@
 //! `Version`: a pair that several owners share, and that never changes.
-ghost use Rattle.std.specs.Prelude.{◌≡◌, IfOk, IfErr};
+ghost use Rattle.std.specs.Prelude.{◌≡◌, ◌&&◌, IfOk, IfErr};
 ghost use Rattle.std.specs.Arc.{arc_value};
+ghost use Rattle.std.specs.Cmp.{on_per, and_per, on_equiv, and_equiv};
 
 use crate::{Keyed, Made};
 use std::alloc::{AllocError, Global};
@@ -18,6 +19,20 @@ impl<K, V> Model for Version<K, V> {
     ghost Value = { K × V };
 
     ghost view = { λ v. (v.key, v.value) };
+}
+
+impl<K: PartialEq, V: PartialEq> PartialEq for Version<K, V> {
+    ghost eq = { λ a b. K.eq a.0 b.0 && V.eq a.1 b.1 };
+
+    ghost laws = { and_per (on_per (λ v. v.0) K.laws) (on_per (λ v. v.1) V.laws) };
+
+    fn eq(&self, other: &Version<K, V>) -> bool {
+        self.key == other.key && self.value == other.value
+    }
+}
+
+impl<K: Eq, V: Eq> Eq for Version<K, V> {
+    ghost laws = { and_equiv (on_equiv (λ v. v.0) K.Eq.laws) (on_equiv (λ v. v.1) V.Eq.laws) };
 }
 
 impl<K, V> Version<K, V> {
