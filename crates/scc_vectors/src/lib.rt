@@ -2,6 +2,8 @@
 #![tactic(auto)]
 
 #[cfg(test)]
+mod borrowed_keys;
+#[cfg(test)]
 mod cache;
 #[cfg(test)]
 mod expect;
