@@ -4,10 +4,7 @@ use std::time::Duration;
 
 /// Returns a duration in nanoseconds, or the greatest number if they don't fit.
 pub fn nanos(spent: Duration) -> u64 {
-    spent
-        .as_secs()
-        .saturating_mul(1_000_000_000)
-        .saturating_add(u64::from(spent.subsec_nanos()))
+    u64::try_from(spent.as_nanos()).unwrap_or(u64::MAX)
 }
 
 /// Returns a quotient in hundredths, rounded down.

@@ -1,8 +1,6 @@
 //! Workers that make a step on the sessions of the tokens that are theirs.
 use crate::sessions::{Sessions, expire, length, touch};
 use crate::steps::Step;
-use rand::rngs::SmallRng;
-use rand::{Rng, SeedableRng};
 use scc::InsertError;
 use std::alloc::{AllocError, Global};
 use std::io;
@@ -12,12 +10,15 @@ use std::thread::{Threads, map_indices};
 /// How many workers there are.
 const WORKERS: usize = 4;
 
-/// Returns `number` new tokens, the same in each run of the program.
+/// An odd number whose multiples are spread over all numbers: 2^64 divided by the golden ratio.
+const SPREAD: u64 = 0x9E37_79B9_7F4A_7C15;
+
+/// Returns `number` tokens, the same in each run of the program, and others for each `seed`.
 pub fn draw_tokens(alloc: Global, seed: usize, number: usize) -> Result<Vec<u64>, AllocError> {
-    let mut random = SmallRng::seed_from_u64(seed as u64);
     let mut tokens = Vec::new(alloc);
-    for _ in 0..number {
-        tokens.push(random.next_u64())?;
+    for place in 0..number {
+        let drawn = (seed as u64).rotate_left(32) ^ place as u64;
+        tokens.push(drawn.wrapping_mul(SPREAD))?;
     }
     Ok(tokens)
 }
