@@ -25,6 +25,7 @@ mod whole;
 pub use borrowed::{Entry, OccupiedEntry, ReplaceResult, VacantEntry};
 use scc_common::{Hashes, InsertError};
 use scc_table::Table;
+use std::alloc::Global;
 use std::hash::{BuildHasher, BuildHasherDefault, FoldHasher, Hash};
 use std::marker::Model;
 use std::ops::RangeInclusive;
@@ -62,6 +63,11 @@ impl<K: Eq + Hash, V, H: BuildHasher> Model for Owned<K, V, H> {
 }
 
 impl<K: Eq + Hash, V, H: BuildHasher> Owned<K, V, H> {
+    // Returns the allocator of the cache.
+    pub(crate) fn allocator(&self) -> Global {
+        self.table.allocator()
+    }
+
     /// Returns the number of pairs.
     #[inline(always)]
     pub fn len(&self) -> usize

@@ -34,6 +34,7 @@ pub use borrowed::{Entry, OccupiedEntry, VacantEntry};
 use scc_common::{Hashes, InsertError, MakeError, SharedVersion, Version};
 pub use scc_snapshot::Iter;
 use scc_table::Table;
+use std::alloc::Global;
 use std::hash::{BuildHasher, BuildHasherDefault, FoldHasher, Hash};
 use std::marker::Model;
 use std::sync::Arc;
@@ -75,6 +76,11 @@ fn share<K, V>(entry: Option<&SharedVersion<K, V>>) -> Result<Option<Arc<Version
 }
 
 impl<K: Eq + Hash, V, H: BuildHasher> Owned<K, V, H> {
+    // Returns the allocator of the index.
+    pub(crate) fn allocator(&self) -> Global {
+        self.table.allocator()
+    }
+
     /// Returns the number of pairs.
     #[inline(always)]
     pub fn len(&self) -> usize

@@ -29,6 +29,7 @@ mod whole;
 pub use borrowed::{Entry, OccupiedEntry, ReplaceResult, VacantEntry};
 use scc_common::{Hashes, InsertError, MakeError};
 use scc_table::Table;
+use std::alloc::Global;
 use std::hash::{BuildHasher, BuildHasherDefault, FoldHasher, Hash};
 use std::marker::Model;
 pub use walk::sink::Sink;
@@ -52,6 +53,11 @@ impl<K: Eq + Hash, V, H: BuildHasher> Model for Owned<K, V, H> {
 }
 
 impl<K: Eq + Hash, V, H: BuildHasher> Owned<K, V, H> {
+    // Returns the allocator of the map.
+    pub(crate) fn allocator(&self) -> Global {
+        self.table.allocator()
+    }
+
     /// Returns the number of pairs.
     #[inline(always)]
     pub fn len(&self) -> usize

@@ -8,6 +8,8 @@ use crate::EvictedEntry;
 use crate::borrowed::{Entry, OccupiedEntry};
 use crate::held::{HeldEntry, HeldOccupied};
 use scc_common::InsertError;
+use std::alloc::Global;
+use std::default::MadeWith;
 use std::hash::{BuildHasher, Hash};
 
 impl<'a, K: Eq + Hash, V, H: BuildHasher> Entry<'a, K, V, H> {
@@ -79,16 +81,16 @@ impl<'a, K: Eq + Hash, V, H: BuildHasher> Entry<'a, K, V, H> {
         self,
     ) -> Result<(EvictedEntry<K, V>, OccupiedEntry<'a, K, V, H>), InsertError<K, V>>
     where
-        V: Default,
-        ensures entry { IfOk result (λ r. OrPutsSome K.eq self.entry (λ k v. V.is_default v) r.0 r.1) }
-        ensures refused { IfErr result (RefusesSome self.entry (λ k v. V.is_default v)) }
+        V: MadeWith<Global>,
+        ensures entry { IfOk result (λ r. OrPutsSome K.eq self.entry (λ k v. V.is_made_with v) r.0 r.1) }
+        ensures refused { IfErr result (RefusesSome self.entry (λ k v. V.is_made_with v)) }
         ensures* kept { sem 𝓛 (rests_if_refused K.row V.row H.row H.Hasher.row K.Hash H.BuildHasher H.Hasher.Hasher
             (entry_guard self.entry) result) }
     {
         match self {
             HeldEntry::Occupied(entry) => entry.as_it_is(),
             HeldEntry::Vacant(entry) => {
-                let value = V::default();
+                let value = V::made_with(entry.allocator());
                 entry.put_entry(value)
             }
         }

@@ -9,6 +9,8 @@ ghost use Rattle.std.specs.Prelude.{◌≡◌, Ok};
 use crate::borrowed::{Entry, OccupiedEntry};
 use crate::held::{HeldEntry, HeldOccupied};
 use scc_common::{Hashes, InsertError};
+use std::alloc::Global;
+use std::default::MadeWith;
 use std::hash::{BuildHasher, Hash};
 
 impl<'a, K: Eq + Hash, V, H: BuildHasher> Entry<'a, K, V, H> {
@@ -77,16 +79,16 @@ impl<'a, K: Eq + Hash, V, H: BuildHasher> Entry<'a, K, V, H> {
     /// Inserts the default value if the entry is vacant, and returns the occupied entry.
     pub fn or_default(self) -> Result<OccupiedEntry<'a, K, V, H>, InsertError<K, V>>
     where
-        V: Default,
+        V: MadeWith<Global>,
         ensures inserts { InsertsThrough K.eq ⟦<H as Hashes<K>>⟧.hash_of self.entry
-            (OrInsertsSome self.entry (λ k v. V.is_default v)) (RefusesSome self.entry (λ k v. V.is_default v)) result }
+            (OrInsertsSome self.entry (λ k v. V.is_made_with v)) (RefusesSome self.entry (λ k v. V.is_made_with v)) result }
         ensures* kept { sem 𝓛 (rests_if_refused K.row V.row H.row H.Hasher.row K.Hash H.BuildHasher H.Hasher.Hasher
             (entry_guard self.entry) (entry_key self.entry) result) }
     {
         match self {
             HeldEntry::Occupied(entry) => entry.as_it_is(),
             HeldEntry::Vacant(entry) => {
-                let value = V::default();
+                let value = V::made_with(entry.allocator());
                 entry.insert_entry(value)
             }
         }

@@ -7,6 +7,7 @@ ghost use Rattle.std.specs.Prelude.{◌≡◌, IfOk, IfErr, OnOk};
 use crate::Owned;
 use crate::held::{HeldEntry, HeldOccupied, HeldVacant};
 use scc_common::Guard;
+use std::alloc::Global;
 use std::hash::{BuildHasher, Hash};
 
 impl<G: Guard<Inner = Owned<K, V, H>>, N, K: Eq + Hash, V, H: BuildHasher> HeldOccupied<
@@ -70,6 +71,11 @@ impl<G: Guard<Inner = Owned<K, V, H>>, N, K: Eq + Hash, V, H: BuildHasher> HeldV
     V,
     H,
 > {
+    // Returns the allocator of the container.
+    pub(crate) fn allocator(&self) -> Global {
+        self.guard.look().allocator()
+    }
+
     /// Returns the key that an insertion would store.
     pub fn key(&self) -> &K
         ensures { result.now ≡ vacant_key self.now }

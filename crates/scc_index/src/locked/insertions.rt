@@ -5,6 +5,8 @@ ghost use Rattle.std.specs.Fn.{FnOnceReturnsAt, FnOnceTakesAt};
 use crate::held::HeldEntry;
 use crate::locked::{Entry, OccupiedEntry};
 use scc_common::{Hashes, InsertError};
+use std::alloc::Global;
+use std::default::MadeWith;
 use std::hash::{BuildHasher, Hash};
 
 impl<'a, K: Eq + Hash, V, H: BuildHasher> Entry<'a, K, V, H> {
@@ -74,10 +76,10 @@ impl<'a, K: Eq + Hash, V, H: BuildHasher> Entry<'a, K, V, H> {
     /// Inserts the default value if the entry is vacant, and returns the occupied entry.
     pub fn or_default(self) -> Result<OccupiedEntry<'a, K, V, H>, InsertError<K, V>>
     where
-        V: Default,
+        V: MadeWith<Global>,
         ensures { InsertsThrough K.eq ⟦<H as Hashes<K>>⟧.hash_of self.entry
-            (OrInsertsSome self.entry (λ k v. V.is_default v))
-            (RefusesSome self.entry (λ k v. V.is_default v)) result }
+            (OrInsertsSome self.entry (λ k v. V.is_made_with v))
+            (RefusesSome self.entry (λ k v. V.is_made_with v)) result }
     {
         match self {
             HeldEntry::Occupied(entry) => {
@@ -85,7 +87,7 @@ impl<'a, K: Eq + Hash, V, H: BuildHasher> Entry<'a, K, V, H> {
                 Ok(entry)
             }
             HeldEntry::Vacant(entry) => {
-                let value = V::default();
+                let value = V::made_with(entry.allocator());
                 entry.insert_entry(value)
             }
         }

@@ -6,6 +6,8 @@ ghost use Rattle.std.specs.Prelude.{◌≡◌};
 use crate::held::HeldEntry;
 use crate::locked::{Entry, OccupiedEntry};
 use scc_common::{Hashes, InsertError};
+use std::alloc::Global;
+use std::default::MadeWith;
 use std::hash::{BuildHasher, Hash};
 
 impl<'a, K: Eq + Hash, V, H: BuildHasher> Entry<'a, K, V, H> {
@@ -68,15 +70,16 @@ impl<'a, K: Eq + Hash, V, H: BuildHasher> Entry<'a, K, V, H> {
     /// Inserts the default value if the entry is vacant, and returns the occupied entry.
     pub fn or_default(self) -> Result<OccupiedEntry<'a, K, V, H>, InsertError<K, V>>
     where
-        V: Default,
+        V: MadeWith<Global>,
         ensures { InsertsThrough K.eq ⟦<H as Hashes<K>>⟧.hash_of self.entry
-            (OrInsertsSome self.entry (λ k v. V.is_default v))
-            (RefusesSome self.entry (λ k v. V.is_default v)) result }
+            (OrInsertsSome self.entry (λ k v. V.is_made_with v))
+            (RefusesSome self.entry (λ k v. V.is_made_with v)) result }
     {
+        let alloc = self.allocator();
         self.or_insert_with_key(
             move |_key: &K| -> V
-                ensures { V.is_default result }
-            { V::default() },
+                ensures { V.is_made_with result }
+            { V::made_with(alloc) },
         )
     }
 

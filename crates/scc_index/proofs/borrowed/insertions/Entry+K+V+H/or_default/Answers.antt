@@ -13,7 +13,7 @@ returns-in-Occupied g c =
       (refl, c.as_it_is.follows.holds, none-refused self o r is same _),
       record {
         inserts = record {
-          entry = some-handed self o r is same (λ k v. g.V.Default.is_default v);
+          entry = some-handed self o r is same (λ k v. g.V.MadeWith.is_made_with v);
           refused = none-refused self o r is same _;
           vacant = ends.vacant;
           growth = ends.growth;
@@ -35,8 +35,8 @@ returns-in-Vacant g c =
       (refl, c.insert_entry.follows.holds, rw is c.insert_entry.follows.holds-at-none),
       record {
         inserts = record {
-          entry = some-put self x r is (λ k v. g.V.Default.is_default v) c.default-value.result c.default-value.ensures p.inserted;
-          refused = some-refused self x r is (λ k v. g.V.Default.is_default v) c.default-value.result c.default-value.ensures p.refused;
+          entry = some-put self x r is (λ k v. g.V.MadeWith.is_made_with v) c.made_with-value.result c.made_with-value.ensures p.inserted;
+          refused = some-refused self x r is (λ k v. g.V.MadeWith.is_made_with v) c.made_with-value.result c.made_with-value.ensures p.refused;
           vacant = ends.vacant;
           growth = ends.growth;
           relocates = ends.relocates;
