@@ -10,6 +10,8 @@ mod expect;
 #[cfg(test)]
 mod index;
 #[cfg(test)]
+mod made_values;
+#[cfg(test)]
 mod map;
 #[cfg(test)]
 mod memo;

@@ -1,0 +1,49 @@
+// The default value of an entry may be one that an allocator makes, as an empty list or an empty text.
+use crate::expect::expect;
+use scc::{HashCache, HashIndex, HashMap, hash_cache, hash_index, hash_map};
+
+#[test]
+fn owned_entries_insert_empty_lists_and_texts(rt: HostRuntime) {
+    let mut map: hash_map::Owned<u64, Vec<u64>> = hash_map::Owned::new(rt.alloc());
+    match map.entry_sync(1).or_default() {
+        Ok(entry) => expect(&rt, entry.get().is_empty()),
+        Err(_) => expect(&rt, false),
+    }
+    let mut index: hash_index::Owned<u64, String> = hash_index::Owned::new(rt.alloc());
+    match index.entry_sync(1).or_default() {
+        Ok(entry) => expect(&rt, entry.get().is_empty()),
+        Err(_) => expect(&rt, false),
+    }
+}
+
+#[test]
+fn owned_cache_entry_puts_an_empty_text(rt: HostRuntime) {
+    let mut cache: hash_cache::Owned<u64, String> = hash_cache::Owned::new(rt.alloc());
+    match cache.entry_sync(1).or_default() {
+        Ok((_, entry)) => expect(&rt, entry.get().is_empty()),
+        Err(_) => expect(&rt, false),
+    }
+}
+
+#[test]
+fn shared_entries_insert_empty_lists(rt: HostRuntime) {
+    let map: HashMap<u64, Vec<u64>> = HashMap::new(rt.alloc()).expect(&rt, "a map");
+    match map.entry_sync(&rt, 1).or_default() {
+        Ok(entry) => expect(&rt, entry.get().is_empty()),
+        Err(_) => expect(&rt, false),
+    }
+    let index: HashIndex<u64, Vec<u64>> = HashIndex::new(rt.alloc()).expect(&rt, "an index");
+    match index.entry_sync(&rt, 1).or_default() {
+        Ok(entry) => expect(&rt, entry.get().is_empty()),
+        Err(_) => expect(&rt, false),
+    }
+}
+
+#[test]
+fn shared_cache_entry_puts_an_empty_list(rt: HostRuntime) {
+    let cache: HashCache<u64, Vec<u64>> = HashCache::new(rt.alloc()).expect(&rt, "a cache");
+    match cache.entry_sync(&rt, 1).or_default() {
+        Ok((_, entry)) => expect(&rt, entry.get().is_empty()),
+        Err(_) => expect(&rt, false),
+    }
+}
