@@ -1,5 +1,5 @@
 -- Insertions that were not refused for memory, and what look-ups find after them.
-use Rattle.std.proofs.Common.{◌≡◌, ◌∙◌, Bool, true, false, cond, List, [], ◌∷◌, Option, None, Some, Result, Ok, Err, refl, sym, ap, subst}
+use Rattle.std.proofs.Common.{◌≡◌, ◌∙◌, ℕ, Bool, true, false, cond, List, [], ◌∷◌, Option, None, Some, Result, Ok, Err, refl, sym, ap, subst}
 use Rattle.std.specs.Cmp.{IsEquivalence}
 use Rattle.std.specs.List.{IsDistinct}
 use Rattle.std.specs.Map.{keys_of}
@@ -48,24 +48,25 @@ module _ {K V S : Type 0} {eq : K → K → Bool} (laws : IsEquivalence eq) wher
   insert-settings c p (Err (Exists q)) d a s = s.2.settings
   insert-settings c p (Err (Memory q)) d a s = absurd a
 
+module _ {K V S : Type 0} {eq : K → K → Bool} (laws : IsEquivalence eq) (hash : Contents (K × V) S → K → ℕ) where
   -- insertions keep the settings
-  pub collected-settings : (c : Contents (K × V) S) (ps : List (K × V)) (d : Contents (K × V) S) → InsertsAll eq c ps d → settings_of d ≡ settings_of c
+  pub collected-settings : (c : Contents (K × V) S) (ps : List (K × V)) (d : Contents (K × V) S) → InsertsAll eq hash c ps d → settings_of d ≡ settings_of c
   collected-settings c [] d s = sym (ap settings_of s)
-  collected-settings c (p ∷ ps) d s = collected-settings s.0 ps d s.2 ∙ insert-settings c p s.1.0 s.0 s.1.1 s.1.2
+  collected-settings c (p ∷ ps) d s = collected-settings s.0 ps d s.2 ∙ insert-settings laws c p s.1.0 s.0 s.1.1 s.1.2.step
 
   -- insertions keep the keys distinct
-  pub collected-distinct : (c : Contents (K × V) S) (ps : List (K × V)) (d : Contents (K × V) S) → InsertsAll eq c ps d → IsUnique eq c → IsUnique eq d
+  pub collected-distinct : (c : Contents (K × V) S) (ps : List (K × V)) (d : Contents (K × V) S) → InsertsAll eq hash c ps d → IsUnique eq c → IsUnique eq d
   collected-distinct c [] d s u = subst (λ z. IsUnique eq z) s u
-  collected-distinct c (p ∷ ps) d s u = collected-distinct s.0 ps d s.2 (insert-distinct c p s.1.0 s.0 s.1.1 s.1.2 u)
+  collected-distinct c (p ∷ ps) d s u = collected-distinct s.0 ps d s.2 (insert-distinct laws c p s.1.0 s.0 s.1.1 s.1.2.step u)
 
-  finds-along : (c : Contents (K × V) S) (ps : List (K × V)) (d : Contents (K × V) S) → InsertsAll eq c ps d → IsUnique eq c → (q : K) → find eq (entries d) q ≡ option_or (find eq (entries c) q) (find eq ps q)
+  finds-along : (c : Contents (K × V) S) (ps : List (K × V)) (d : Contents (K × V) S) → InsertsAll eq hash c ps d → IsUnique eq c → (q : K) → find eq (entries d) q ≡ option_or (find eq (entries c) q) (find eq ps q)
   finds-along c [] d s u q = ap (λ z. find eq (entries z) q) (sym s) ∙ sym (or-none (find eq (entries c) q))
   finds-along c (p ∷ ps) d s u q =
-      let v = insert-distinct c p s.1.0 s.0 s.1.1 s.1.2 u in
-      finds-along s.0 ps d s.2 v q ∙ ap (λ o. option_or o (find eq ps q)) (insert-finds c p s.1.0 s.0 s.1.1 s.1.2 v q) ∙ or-cond (eq q p.0) p (find eq (entries c) q) (find eq ps q)
+      let v = insert-distinct laws c p s.1.0 s.0 s.1.1 s.1.2.step u in
+      finds-along s.0 ps d s.2 v q ∙ ap (λ o. option_or o (find eq ps q)) (insert-finds laws c p s.1.0 s.0 s.1.1 s.1.2.step v q) ∙ or-cond (eq q p.0) p (find eq (entries c) q) (find eq ps q)
 
   -- after insertions into an empty index, a look-up finds the first inserted pair whose key equals the searched key
-  pub collected-finds : (c : Contents (K × V) S) (ps : List (K × V)) (d : Contents (K × V) S) → InsertsAll eq c ps d → IsUnique eq c → entries c ≡ [] → FindsFirst eq ps (entries d)
+  pub collected-finds : (c : Contents (K × V) S) (ps : List (K × V)) (d : Contents (K × V) S) → InsertsAll eq hash c ps d → IsUnique eq c → entries c ≡ [] → FindsFirst eq ps (entries d)
   collected-finds c ps d s u e = record { finds = λ k. finds-along c ps d s u k ∙ ap (λ es. option_or (find eq es k) (find eq ps k)) e }
 
 -- if there are no pairs, no two keys are equal

@@ -1,13 +1,13 @@
 -- An index that is made from items, or from another index's pairs.
-use Rattle.std.specs.Prelude.{◌≡◌, ◌*◌, ◌<◌, Bool, List, [], ◌∷◌, ◌++◌, length, None, Ok, Err, Result, MatchOption}
+use Rattle.std.specs.Prelude.{◌≡◌, ℕ, ◌*◌, ◌<◌, Bool, false, List, [], ◌∷◌, ◌++◌, length, None, Ok, Err, Result, MatchOption}
 use Rattle.std.specs.List.{FoldsTo}
 use Rattle.std.specs.Option.{IsSomeAnd}
-use Rattle.scc_common.specs.Contents.{Contents, entries, bucket_count, settings_of}
+use Rattle.scc_common.specs.Contents.{Contents, entries, bucket_count, settings_of, refused_of, waiting_of}
 use Rattle.scc_common.specs.Pairs.{find}
 use Rattle.scc_common.specs.Sizes.{IsArraySize}
-use Rattle.scc_common.specs.Steps.{IsUnchanged}
 use Rattle.scc_common.specs.declared.errors.InsertError.{InsertError}
 use Rattle.scc_common.specs.declared.errors.InsertError.TheVariants.{Exists, Memory}
+use Rattle.scc_table.specs.Arrays.{GrowsByRule}
 use Rattle.scc_index.specs.IndexSteps.{Inserts}
 
 -- the insertion was not refused memory
@@ -16,10 +16,17 @@ IsAnswerOf (Ok _) = Unit {0}
 IsAnswerOf (Err (Exists q)) = Unit {0}
 IsAnswerOf (Err (Memory q)) = ⊥
 
-module _ {K V S : Type 0} (eq : K → K → Bool) where
+module _ {K V S : Type 0} (eq : K → K → Bool) (hash : Contents (K × V) S → K → ℕ) where
+  -- an insertion with the result r, and what it does to the array
+  pub record InsertsBy (c : Contents (K × V) S) (p : K × V) (r : Result (Unit {0}) (InsertError K V)) (d : Contents (K × V) S) : Type 0 where
+    -- what becomes of the pairs
+    pub step : Inserts eq c p r d
+    -- what becomes of the array
+    pub array : GrowsByRule (λ q. q.0) (hash c) (find eq (entries c) p.0) c p.0 r d
+
   -- an insertion that isn't refused memory
   abbrev pub InsertsOne : Contents (K × V) S → K × V → Contents (K × V) S → Type 0
-  InsertsOne c p d = (r : Result (Unit {0}) (InsertError K V)) × IsAnswerOf r × Inserts eq c p r d
+  InsertsOne c p d = (r : Result (Unit {0}) (InsertError K V)) × IsAnswerOf r × InsertsBy c p r d
 
   -- the pairs were inserted in their order
   abbrev pub InsertsAll : Contents (K × V) S → List (K × V) → Contents (K × V) S → Type 0
@@ -28,9 +35,10 @@ module _ {K V S : Type 0} (eq : K → K → Bool) where
   -- the pairs before p were inserted in their order; then memory was refused for p, whose key equals no key, and
   -- nothing changed
   abbrev pub StopsAt : Contents (K × V) S → List (K × V) → K × V → Contents (K × V) S → Type 0
-  StopsAt c ps p d = (before : List (K × V)) × (after : List (K × V)) × (made : Contents (K × V) S) × (ps ≡ before ++ p ∷ after) × InsertsAll c before made × (find eq (entries made) p.0 ≡ None) × IsUnchanged made d
+  StopsAt c ps p d = (before : List (K × V)) × (after : List (K × V)) × (made : Contents (K × V) S) × (ps ≡ before ++ p ∷ after) × InsertsAll c before made × InsertsBy made p (Err (Memory p)) d
 
-  -- d is made from an empty index, with an array for `length ps` pairs, by insertions of the pairs in their order
+  -- d is made from an empty index, with an array for `length ps` pairs, where nothing is noted and nothing waits, by
+  -- insertions of the pairs in their order
   pub record IsCollected (ps : List (K × V)) (d : Contents (K × V) S) : Type 0 where
     pub made : Contents (K × V) S
     pub empty : entries made ≡ []
@@ -39,6 +47,8 @@ module _ {K V S : Type 0} (eq : K → K → Bool) where
     pub asked : (settings_of made).asked ≡ 32 * bucket_count made
     pub reserved : (settings_of made).reserved ≡ 0
     pub skipped : (settings_of made).skipped ≡ 0
+    pub noted : refused_of made ≡ (false, false)
+    pub waiting : waiting_of made ≡ []
     pub settings : settings_of d ≡ settings_of made
     pub run : InsertsAll made ps d
 

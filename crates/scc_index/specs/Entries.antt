@@ -11,11 +11,11 @@ use Rattle.std.specs.declared.cmp.PartialEq as eq
 use Rattle.std.specs.declared.hash.Hash as hash
 use Rattle.std.specs.declared.hash.Hasher as hasher
 use Rattle.std.specs.declared.hash.BuildHasher as builder
-use Rattle.scc_common.specs.Contents.{Contents, entries, hash_in, key_hash, waiting_of}
+use Rattle.scc_common.specs.Contents.{Contents, entries, bucket_count, hash_in, key_hash, waiting_of}
 use Rattle.scc_common.specs.Pairs.{find, without, FindsInstead, IsUnique}
 use Rattle.scc_table.specs.Placed.{entry_of, front_of, back_of, IsWrittenAt, IsPutAt}
 use Rattle.scc_table.specs.Relocations.{Relocates, RelocatesTwo}
-use Rattle.scc_common.specs.Steps.{FirstArrayWhenDue, GrowsForInsertion, GrowsWhenDue, IsUnchanged, RaisesWhenDue}
+use Rattle.scc_common.specs.Steps.{FirstArrayWhenDue, GrowsForInsertion, GrowsWhenDue, IsPreparedFor, IsUnchanged, RaisesWhenDue}
 use Rattle.scc_common.specs.declared.errors.InsertError.{InsertError}
 use Rattle.scc_common.specs.declared.guard.Guard as guard
 use Rattle.scc_index.specs.Lends.{index_row}
@@ -28,6 +28,8 @@ module _ {K V S : Type 0} where
   pub record IsGrownFor (hash : K → ℕ) (c : Contents (K × V) S) (k : K) (d : Contents (K × V) S) : Type 0 where
     pub grows : GrowsForInsertion hash (λ p. p.0) c k d
     pub first : FirstArrayWhenDue c d
+    -- if the insertion was prepared, the number of buckets stays
+    pub once : IsPreparedFor hash (λ p. p.0) c k → bucket_count d ≡ bucket_count c
 
   -- d is c after an insertion of the new key k was refused memory: no entry, bucket or setting changed, the note of
   -- refused memory rose only if a growth was due, and is up if one was due; only buckets wait that an insertion leaves

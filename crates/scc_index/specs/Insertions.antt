@@ -2,9 +2,9 @@
 use Rattle.std.specs.Prelude.{◌≡◌, ℕ, Bool, Result, IfOk, IfErr}
 use Rattle.std.specs.Result.{OnOk, OnErr}
 use Rattle.scc_buckets.specs.declared.place.Place.{Place}
-use Rattle.scc_common.specs.Contents.{Contents, settings_of}
+use Rattle.scc_common.specs.Contents.{Contents, bucket_count, settings_of}
 use Rattle.scc_common.specs.Pairs.{IsUnique}
-use Rattle.scc_common.specs.Steps.{FirstArrayWhenDue, GrowsForInsertion, GrowsWhenDue, IsUnchanged, RaisesWhenDue}
+use Rattle.scc_common.specs.Steps.{FirstArrayWhenDue, GrowsForInsertion, GrowsWhenDue, IsPreparedFor, IsUnchanged, RaisesWhenDue}
 use Rattle.scc_table.specs.Places.{IsInsertedAt}
 use Rattle.scc_table.specs.Relocations.{Relocates, RelocatesTwo}
 
@@ -23,6 +23,8 @@ module _ {K V S : Type 0} (eq : K → K → Bool) (hash_of : S → K → ℕ) wh
     pub undone : OnErr result (GrowsWhenDue (hash_of (settings_of c).hasher) (λ x. x.0) c p.0 d)
     -- if it succeeds, the array grows as an insertion of the key may and must grow it
     pub grows : OnOk result (GrowsForInsertion (hash_of (settings_of c).hasher) (λ x. x.0) c p.0 d)
+    -- if the insertion was prepared, the number of buckets stays
+    pub once : IsPreparedFor (hash_of (settings_of c).hasher) (λ x. x.0) c p.0 → bucket_count d ≡ bucket_count c
     -- the first array has the size of the minimum
     pub first : OnOk result (FirstArrayWhenDue c d)
     -- it relocates at most two buckets

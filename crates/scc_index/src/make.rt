@@ -1,5 +1,5 @@
 //! How an index is made: empty, or from items.
-ghost use Rattle.scc_common.specs.Contents.{entries, settings_of};
+ghost use Rattle.scc_common.specs.Contents.{entries, settings_of, hash_in};
 ghost use Rattle.scc_common.specs.Pairs.{IsUnique};
 ghost use Rattle.scc_index.specs.Collections.{FindsFirst, InsertsAll, IsCollected, StopsAt};
 ghost use Rattle.scc_table.specs.Making.{IsNew, MakesEmpty};
@@ -8,7 +8,7 @@ ghost use Rattle.std.specs.Iterator.{Drains, IsFinite};
 ghost use Rattle.std.specs.Prelude.{◌<◌, ◌≤◌, List, IfOk, IfErr, OnOk};
 
 use crate::Owned;
-use scc_common::{InsertError, MakeError, Shared};
+use scc_common::{Hashes, InsertError, MakeError, Shared};
 use scc_table::Table;
 use std::alloc::Global;
 use std::hash::{BuildHasher, BuildHasherDefault, Hash};
@@ -109,7 +109,8 @@ impl<K: Eq + Hash, V, H: BuildHasher> Owned<K, V, H> {
         requires { (it : I.IntoIter) → I.into_iter_gives items it
             → I.IntoIter.can_next it × IsFinite (I.IntoIter.remaining it) }
         ensures items { IfOk result (λ m. (it : I.IntoIter) × (xs : List (K × V)) × I.into_iter_gives items it
-            × Drains I.IntoIter.next_gives it xs × IsCollected K.eq xs m × FindsFirst K.eq xs (entries m)) }
+            × Drains I.IntoIter.next_gives it xs × IsCollected K.eq (hash_in ⟦<H as Hashes<K>>⟧.hash_of) xs m
+            × FindsFirst K.eq xs (entries m)) }
         ensures unique { IfOk result (λ m. IsUnique K.eq m) }
     {
         let Ok(pairs) = Vec::from_iter(alloc, items) else {
@@ -127,8 +128,10 @@ impl<K: Eq + Hash, V, H: BuildHasher> Owned<K, V, H> {
     where
         K: Drop,
         V: Drop,
-        ensures refused { IfErr result (λ p. StopsAt K.eq self.old pairs.items p self.new) }
-        ensures run { OnOk result (InsertsAll K.eq self.old pairs.items self.new) }
+        ensures refused { IfErr result (λ p. StopsAt K.eq (hash_in ⟦<H as Hashes<K>>⟧.hash_of) self.old pairs.items p
+            self.new) }
+        ensures run { OnOk result (InsertsAll K.eq (hash_in ⟦<H as Hashes<K>>⟧.hash_of) self.old pairs.items
+            self.new) }
     {
         for (k, v) in pairs {
             match self.insert_sync(k, v) {

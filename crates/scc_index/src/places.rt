@@ -1,13 +1,12 @@
 //! The calls at a place of an index.
 ghost use Rattle.scc_array.specs.ShelfWrites.{put_whole};
-ghost use Rattle.scc_common.specs.Contents.{entries, bucket_count, minimum_of, hash_in};
+ghost use Rattle.scc_common.specs.Contents.{entries, hash_in};
 ghost use Rattle.scc_common.specs.Pairs.{find, IsUnique};
-ghost use Rattle.scc_common.specs.Sizes.{IsSmaller};
-ghost use Rattle.scc_common.specs.Steps.{Holds, ShrinksWhenDue};
+ghost use Rattle.scc_common.specs.Steps.{Holds};
 ghost use Rattle.scc_index.specs.Insertions.{InsertsNewByRule};
+ghost use Rattle.scc_table.specs.Arrays.{ShrinksByRule};
 ghost use Rattle.scc_table.specs.Places.{IsPlace, IsFoundAt, index_of, with_write_at};
-ghost use Rattle.scc_table.specs.Relocations.{RelocatesNone};
-ghost use Rattle.std.specs.Prelude.{◌≡◌, ◌≢◌, ◌<◌, ◌*◌, length, Some, None, IfOk, true, IfErr, MatchOption, slice_get, remove};
+ghost use Rattle.std.specs.Prelude.{◌≡◌, ◌<◌, ◌*◌, Some, None, IfOk, true, IfErr, MatchOption, slice_get, remove, ⊤};
 
 use crate::Owned;
 use scc_buckets::Place;
@@ -49,12 +48,8 @@ impl<K: Eq + Hash, V, H: BuildHasher> Owned<K, V, H> {
         V: Drop,
         requires { IsPlace self.old place }
         ensures others { Holds self.old (remove (entries self.old) (index_of self.old place)) self.new }
-        ensures smaller { bucket_count self.new ≢ bucket_count self.old
-            → IsSmaller (minimum_of self.old) (length (entries self.new)) (bucket_count self.old)
-            (bucket_count self.new) }
-        ensures due { ShrinksWhenDue self.old self.new }
-        ensures relocates { RelocatesNone self.old self.new }
         ensures unique { IsUnique K.eq self.new }
+        ensures array { ShrinksByRule ⊤ self.old self.new }
     {
         let _version = self.table.remove_at(place);
     }

@@ -1,16 +1,14 @@
 //! Walks over the pairs of an index, from place to place.
-ghost use Rattle.scc_common.specs.Contents.{entries, bucket_count, minimum_of, refused_of, waiting_of};
+ghost use Rattle.scc_common.specs.Contents.{entries, refused_of, waiting_of};
 ghost use Rattle.scc_common.specs.PairWalks.{Declines, PassesFirst};
 ghost use Rattle.scc_common.specs.Pairs.{IsUnique};
-ghost use Rattle.scc_common.specs.Sizes.{IsSmaller};
-ghost use Rattle.scc_common.specs.Steps.{Holds, HoldsExactly, ShrinksWhenDue};
+ghost use Rattle.scc_common.specs.Steps.{Holds, HoldsExactly};
 ghost use Rattle.scc_common.specs.Walks.{CalledOn, CallableWhile, Walks};
 ghost use Rattle.scc_index.specs.IndexWalks.{CallableOnAll, Retains};
 ghost use Rattle.scc_table.specs.Arrays.{ShrinksByRule};
 ghost use Rattle.scc_table.specs.Places.{IsPlace, StandsAt, index_of};
-ghost use Rattle.scc_table.specs.Relocations.{RelocatesNone};
 ghost use Rattle.std.specs.List.Sorted.{IsPermutation};
-ghost use Rattle.std.specs.Prelude.{◌≡◌, ◌≢◌, suc, List, [], length, remove, MatchOption, ⊤, false, true};
+ghost use Rattle.std.specs.Prelude.{◌≡◌, suc, List, [], length, remove, MatchOption, ⊤, false, true};
 
 use crate::Owned;
 use scc_buckets::Place;
@@ -55,12 +53,8 @@ impl<K: Eq + Hash, V, H: BuildHasher> Owned<K, V, H> {
         requires { (es : List (K × V)) → IsPermutation (entries self.old) es → CallableOnAll F.FnMut f es }
         ensures step { (es : List (K × V)) × (stay : List (K × V)) × (last : F) × IsPermutation (entries self.old) es
             × Retains (CalledOn F.FnMut) f es stay last × Holds self.old stay self.new }
-        ensures smaller { bucket_count self.new ≢ bucket_count self.old
-            → IsSmaller (minimum_of self.old) (length (entries self.new)) (bucket_count self.old)
-            (bucket_count self.new) }
-        ensures due { ShrinksWhenDue self.old self.new }
-        ensures relocates { RelocatesNone self.old self.new }
         ensures unique { IsUnique K.eq self.new }
+        ensures array { ShrinksByRule ⊤ self.old self.new }
     {
         let mut f = f;
         self.retain_lent(&mut f);
@@ -74,12 +68,8 @@ impl<K: Eq + Hash, V, H: BuildHasher> Owned<K, V, H> {
         requires { (es : List (K × V)) → IsPermutation (entries self.old) es → CallableOnAll F.FnMut f.old es }
         ensures step { (es : List (K × V)) × (stay : List (K × V)) × IsPermutation (entries self.old) es
             × Retains (CalledOn F.FnMut) f.old es stay f.new × Holds self.old stay self.new }
-        ensures smaller { bucket_count self.new ≢ bucket_count self.old
-            → IsSmaller (minimum_of self.old) (length (entries self.new)) (bucket_count self.old)
-            (bucket_count self.new) }
-        ensures due { ShrinksWhenDue self.old self.new }
-        ensures relocates { RelocatesNone self.old self.new }
         ensures unique { IsUnique K.eq self.new }
+        ensures array { ShrinksByRule ⊤ self.old self.new }
     {
         self.retain_all(f);
         self.table.shrink();

@@ -1,16 +1,32 @@
 -- A set that is made from items, or from another set's keys.
-use Rattle.std.specs.Prelude.{◌≡◌, ◌*◌, ◌<◌, Bool, List, [], ◌∷◌, ◌++◌, length, None, IsSome, MatchOption, ◌⊎◌}
+use Rattle.std.specs.Prelude.{◌≡◌, ℕ, ◌*◌, ◌<◌, Bool, false, List, [], ◌∷◌, ◌++◌, length, None, Result, Ok, Err, MatchOption}
 use Rattle.std.specs.List.{FoldsTo}
 use Rattle.std.specs.Option.{IsSomeAnd}
-use Rattle.scc_common.specs.Contents.{Contents, entries, bucket_count, settings_of}
+use Rattle.scc_common.specs.Contents.{Contents, entries, bucket_count, settings_of, refused_of, waiting_of}
 use Rattle.scc_common.specs.Sizes.{IsArraySize}
-use Rattle.scc_common.specs.Steps.{Holds, IsUnchanged, Rests}
+use Rattle.scc_common.specs.declared.errors.KeyError.{KeyError}
+use Rattle.scc_common.specs.declared.errors.KeyError.TheVariants.{Exists, Memory}
+use Rattle.scc_table.specs.Arrays.{GrowsByRule}
 use Rattle.scc_set.specs.Keys.{find}
+use Rattle.scc_set.specs.SetSteps.{Inserts}
 
-module _ {K S : Type 0} (eq : K → K → Bool) where
+-- the insertion was not refused memory
+abbrev pub IsAnswerOf : {K : Type 0} → Result (Unit {0}) (KeyError K) → Type 0
+IsAnswerOf (Ok _) = Unit {0}
+IsAnswerOf (Err (Exists q)) = Unit {0}
+IsAnswerOf (Err (Memory q)) = ⊥
+
+module _ {K S : Type 0} (eq : K → K → Bool) (hash : Contents K S → K → ℕ) where
+  -- an insertion with the result r, and what it does to the array
+  pub record InsertsBy (c : Contents K S) (k : K) (r : Result (Unit {0}) (KeyError K)) (d : Contents K S) : Type 0 where
+    -- what becomes of the keys
+    pub step : Inserts eq (hash c) c k r d
+    -- what becomes of the array
+    pub array : GrowsByRule (λ q. q) (hash c) (find eq (entries c) k) c k r d
+
   -- an insertion that isn't refused memory: a new key is added; if an equal key is there, nothing changes
   abbrev pub InsertsOne : Contents K S → K → Contents K S → Type 0
-  InsertsOne c k d = ((find eq (entries c) k ≡ None) × Holds c (k ∷ entries c) d) ⊎ (IsSome (find eq (entries c) k) × IsUnchanged c d)
+  InsertsOne c k d = (r : Result (Unit {0}) (KeyError K)) × IsAnswerOf r × InsertsBy c k r d
 
   -- the keys were inserted in their order
   abbrev pub InsertsAll : Contents K S → List K → Contents K S → Type 0
@@ -18,9 +34,10 @@ module _ {K S : Type 0} (eq : K → K → Bool) where
 
   -- the keys before k were inserted in their order, and then memory was refused for k, which equals no key
   abbrev pub StopsAt : Contents K S → List K → K → Contents K S → Type 0
-  StopsAt c ks k d = (before : List K) × (after : List K) × (made : Contents K S) × (ks ≡ before ++ k ∷ after) × InsertsAll c before made × (find eq (entries made) k ≡ None) × Rests made d
+  StopsAt c ks k d = (before : List K) × (after : List K) × (made : Contents K S) × (ks ≡ before ++ k ∷ after) × InsertsAll c before made × InsertsBy made k (Err (Memory k)) d
 
-  -- d is made from an empty set, with an array for `length ks` keys, by insertions of the keys in their order
+  -- d is made from an empty set, with an array for `length ks` keys, where nothing is noted and nothing waits, by
+  -- insertions of the keys in their order
   pub record IsCollected (ks : List K) (d : Contents K S) : Type 0 where
     pub made : Contents K S
     pub empty : entries made ≡ []
@@ -29,6 +46,8 @@ module _ {K S : Type 0} (eq : K → K → Bool) where
     pub asked : (settings_of made).asked ≡ 32 * bucket_count made
     pub reserved : (settings_of made).reserved ≡ 0
     pub skipped : (settings_of made).skipped ≡ 0
+    pub noted : refused_of made ≡ (false, false)
+    pub waiting : waiting_of made ≡ []
     pub settings : settings_of d ≡ settings_of made
     pub run : InsertsAll made ks d
 

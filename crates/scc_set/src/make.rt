@@ -1,5 +1,5 @@
 //! How a set is made: empty, or from items.
-ghost use Rattle.scc_common.specs.Contents.{entries, settings_of};
+ghost use Rattle.scc_common.specs.Contents.{entries, settings_of, hash_in};
 ghost use Rattle.scc_set.specs.Collections.{FindsItems, InsertsAll, IsCollected, StopsAt};
 ghost use Rattle.scc_set.specs.Keys.{find, IsUnique};
 ghost use Rattle.scc_table.specs.Making.{IsNew, MakesEmpty};
@@ -9,7 +9,7 @@ ghost use Rattle.std.specs.Option.{option_or};
 ghost use Rattle.std.specs.Prelude.{◌≡◌, ◌<◌, ◌≤◌, IfErr, IfOk, List, OnOk};
 
 use crate::Owned;
-use scc_common::{KeyError, MakeError, Shared};
+use scc_common::{Hashes, KeyError, MakeError, Shared};
 use std::alloc::Global;
 use std::hash::{BuildHasher, BuildHasherDefault, Hash};
 use std::sync::Arc;
@@ -108,7 +108,8 @@ impl<K: Eq + Hash, H: BuildHasher> Owned<K, H> {
         requires { (it : I.IntoIter) → I.into_iter_gives items it
             → I.IntoIter.can_next it × IsFinite (I.IntoIter.remaining it) }
         ensures items { IfOk result (λ s. (it : I.IntoIter) × (xs : List K) × I.into_iter_gives items it
-            × Drains I.IntoIter.next_gives it xs × IsCollected K.eq xs s × FindsItems K.eq xs (entries s)) }
+            × Drains I.IntoIter.next_gives it xs × IsCollected K.eq (hash_in ⟦<H as Hashes<K>>⟧.hash_of) xs s
+            × FindsItems K.eq xs (entries s)) }
         ensures unique { IfOk result (λ s. IsUnique K.eq s) }
     {
         let Ok(keys) = Vec::from_iter(alloc, items) else {
@@ -126,8 +127,9 @@ impl<K: Eq + Hash, H: BuildHasher> Owned<K, H> {
     fn insert_all(&mut self, keys: Vec<K>) -> Result<(), K>
     where
         K: Drop,
-        ensures refused { IfErr result (λ k. StopsAt K.eq self.old keys.items k self.new) }
-        ensures run { OnOk result (InsertsAll K.eq self.old keys.items self.new) }
+        ensures refused { IfErr result (λ k. StopsAt K.eq (hash_in ⟦<H as Hashes<K>>⟧.hash_of) self.old keys.items k
+            self.new) }
+        ensures run { OnOk result (InsertsAll K.eq (hash_in ⟦<H as Hashes<K>>⟧.hash_of) self.old keys.items self.new) }
         ensures settings { OnOk result (settings_of self.new ≡ settings_of self.old) }
         ensures finds { OnOk result ((q : K) → find K.eq (entries self.new) q
             ≡ option_or (find K.eq (entries self.old) q) (find K.eq keys.items q)) }

@@ -1,13 +1,12 @@
 //! The calls that make an entry of a borrowed index, and those that end the borrow. An entry holds the place that one
 //! search found.
-ghost use Rattle.scc_common.specs.Contents.{entries, bucket_count, minimum_of};
+ghost use Rattle.scc_common.specs.Contents.{entries};
 ghost use Rattle.scc_common.specs.Pairs.{find, IsUnique};
-ghost use Rattle.scc_common.specs.Sizes.{IsSmaller};
-ghost use Rattle.scc_common.specs.Steps.{Holds, ShrinksWhenDue};
+ghost use Rattle.scc_common.specs.Steps.{Holds};
 ghost use Rattle.scc_index.specs.Entries.{occupied_index, occupied_front, occupied_back, entry_guard, InsertsAtVacant, IsOccupiedAt, IsEntryOf, rests_if_refused, rests_if_none, occupied_guard, vacant_guard, vacant_key};
-ghost use Rattle.scc_table.specs.Relocations.{RelocatesNone};
+ghost use Rattle.scc_table.specs.Arrays.{ShrinksByRule};
 ghost use Rattle.std.specs.Borrow.{sem};
-ghost use Rattle.std.specs.Prelude.{◌≡◌, ◌≢◌, ◌++◌, length, None, IfSome, IfNone};
+ghost use Rattle.std.specs.Prelude.{◌≡◌, ◌++◌, None, IfSome, IfNone, ⊤};
 
 use crate::Owned;
 use crate::borrowed::{Entry, OccupiedEntry, VacantEntry};
@@ -58,12 +57,8 @@ impl<'a, N, K: Eq + Hash, V, H: BuildHasher> HeldOccupied<&'a mut Owned<K, V, H>
         V: Drop,
         ensures removed { Holds (occupied_index self.entry) (occupied_front self.entry ++ occupied_back self.entry)
             self.exit.0.now }
-        ensures smaller { bucket_count self.exit.0.now ≢ bucket_count (occupied_index self.entry)
-            → IsSmaller (minimum_of (occupied_index self.entry)) (length (entries self.exit.0.now))
-            (bucket_count (occupied_index self.entry)) (bucket_count self.exit.0.now) }
-        ensures due { ShrinksWhenDue (occupied_index self.entry) self.exit.0.now }
-        ensures relocates { RelocatesNone (occupied_index self.entry) self.exit.0.now }
         ensures unique { IsUnique K.eq self.exit.0.now }
+        ensures array { ShrinksByRule ⊤ (occupied_index self.entry) self.exit.0.now }
     {
         let place = self.place;
         self.guard.remove_at(place);

@@ -33,6 +33,7 @@ returns g c =
       grows = (
           rw (← c.self.view_is)
           (on_ok c.insert_made.result (λ due. record { growth = c.insert_made.ensures.growth; due = due; kept = c.insert_made.ensures.kept }) c.insert_made.ensures.due));
+      once = (rw (← c.self.view_is) c.insert_made.ensures.once);
       first = (rw (← c.self.view_is) c.insert_made.ensures.first);
       relocates = (rw (← c.self.view_is) record { fewer = c.insert_made.ensures.fewer; less = c.insert_made.ensures.less; most = c.insert_made.ensures.most; grown = c.insert_made.ensures.grown; array = c.insert_made.ensures.array });
       two = (

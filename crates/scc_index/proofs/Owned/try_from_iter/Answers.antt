@@ -1,4 +1,5 @@
 use Rattle.std.proofs.Common.{◌≡◌, length, ap, ◌∙◌}
+use Rattle.scc_common.specs.Contents.{key_hash}
 use Rattle.scc_index.proofs.Collecting.{collected-settings, collected-distinct, collected-finds, none-unique}
 use Rattle.scc_index.proofs.Owned.try_from_iter.Goals as goal
 
@@ -9,7 +10,8 @@ returns-clause-items g c =
     let last = ran.3.2 tt in
     let made = c.in_ok-made.made in
     let none = c.in_ok-made.ensures.entries in
-    let finds = collected-finds g.met.K.Eq.laws made _ _ c.in-Ok-insert_all.ensures.run (none-unique g.K.PartialEq.eq made none) none in (
+    let hash = key_hash g.H.BuildHasher g.H.Hasher.Hasher g.K.Hash.hash_input in
+    let finds = collected-finds g.met.K.Eq.laws hash made _ _ c.in-Ok-insert_all.ensures.run (none-unique g.K.PartialEq.eq made none) none in (
       ran.0,
       ran.1,
       ran.2,
@@ -22,7 +24,9 @@ returns-clause-items g c =
         asked = ap (λ s. s.asked) c.in_ok-made.ensures.settings;
         reserved = ap (λ s. s.reserved) c.in_ok-made.ensures.settings;
         skipped = ap (λ s. s.skipped) c.in_ok-made.ensures.settings;
-        settings = collected-settings g.met.K.Eq.laws made _ _ c.in-Ok-insert_all.ensures.run;
+        noted = c.in_ok-made.ensures.noted;
+        waiting = c.in_ok-made.ensures.waiting;
+        settings = collected-settings g.met.K.Eq.laws hash made _ _ c.in-Ok-insert_all.ensures.run;
         run = rw (← ran.4.0) c.in-Ok-insert_all.ensures.run;
       },
       rw (← ran.4.0) finds,
@@ -31,4 +35,4 @@ returns-clause-items g c =
 pub returns-clause-unique : goal.returns-clause-unique
 returns-clause-unique g c =
     let made = c.in_ok-made.made in
-    collected-distinct g.met.K.Eq.laws made _ _ c.in-Ok-insert_all.ensures.run (none-unique g.K.PartialEq.eq made c.in_ok-made.ensures.entries)
+    collected-distinct g.met.K.Eq.laws (key_hash g.H.BuildHasher g.H.Hasher.Hasher g.K.Hash.hash_input) made _ _ c.in-Ok-insert_all.ensures.run (none-unique g.K.PartialEq.eq made c.in_ok-made.ensures.entries)

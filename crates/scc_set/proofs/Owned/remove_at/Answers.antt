@@ -1,8 +1,5 @@
-use Rattle.std.proofs.Common.{rules}
-use Rattle.scc_buckets.proofs.Mapped.{ShrinksWhenDue-mapped}
 use Rattle.scc_table.proofs.MappedPlaces.{IsPlace-from_mapped}
-use Rattle.scc_table.proofs.MappedRelocations.{RelocatesNone-mapped}
-use Rattle.scc_set.proofs.Sets.{smaller-keys, unique-keys}
+use Rattle.scc_set.proofs.Sets.{shrinks-keys, unique-keys}
 use Rattle.scc_set.proofs.Places.{get-key, holds-others}
 use Rattle.scc_set.proofs.Owned.remove_at.Goals as goal
 
@@ -19,11 +16,4 @@ pub returns-clause-unique : goal.returns-clause-unique
 returns-clause-unique g c = unique-keys _ _ c.remove_at.ensures.unique
 
 pub returns-clause-array : goal.returns-clause-array
-returns-clause-array g c =
-    record {
-      smaller = rw (← c.self.view_is) (smaller-keys _ _ c.remove_at.ensures.smaller);
-      due = λ _. rw (← c.self.view_is) (ShrinksWhenDue-mapped _ _ _ c.remove_at.ensures.due);
-      noted = (search rules);
-      relocates = λ _. rw (← c.self.view_is) (RelocatesNone-mapped _ _ _ c.remove_at.ensures.relocates);
-      waiting = (search rules);
-    }
+returns-clause-array g c = rw (← c.self.view_is) (shrinks-keys _ _ (λ t. t) (λ t. t) c.remove_at.ensures.array)

@@ -1,7 +1,6 @@
 use Rattle.std.specs.Prelude.{⊤}
-use Rattle.scc_buckets.proofs.Mapped.{Holds-mapped, ShrinksWhenDue-mapped}
-use Rattle.scc_table.proofs.MappedRelocations.{RelocatesNone-mapped}
-use Rattle.scc_set.proofs.Sets.{smaller-keys, unique-keys}
+use Rattle.scc_buckets.proofs.Mapped.{Holds-mapped}
+use Rattle.scc_set.proofs.Sets.{shrinks-keys, unique-keys}
 use Rattle.scc_set.proofs.Walks.{ordered-keys, callable-writes, to-key, Retains-keys}
 use Rattle.scc_set.proofs.Owned.retain_sync.Goals as goal
 
@@ -13,9 +12,7 @@ returns g c =
     let x = c.retain_sync.ensures.step in
     record {
       step = rw (← c.self.view_is) (_, _, x.2.0, ordered-keys c.self.inside.map x.0 x.3, Retains-keys (λ s. s.0) (to-key _ g.F.FnMut (λ s. s.0) (λ s key value left r t h. h.met) (λ s key value h. h)) _ x.0 x.1 x.2 x.4, Holds-mapped _ _ _ _ x.5);
-      smaller = rw (← c.self.view_is) (smaller-keys _ _ c.retain_sync.ensures.smaller);
-      due = rw (← c.self.view_is) (ShrinksWhenDue-mapped _ _ _ c.retain_sync.ensures.due);
-      relocates = rw (← c.self.view_is) (RelocatesNone-mapped _ _ _ c.retain_sync.ensures.relocates);
+      array = rw (← c.self.view_is) (shrinks-keys _ _ (λ t. t) (λ t. t) c.retain_sync.ensures.array);
       was_unique = rw (← c.self.view_is) (unique-keys _ _ c.retain_sync.ensures.was_unique);
       unique = unique-keys _ _ c.retain_sync.ensures.unique;
     }

@@ -21,6 +21,8 @@ returns-clause-items g c =
         asked = ap (λ s. s.asked) c.in_ok-made.ensures.settings;
         reserved = ap (λ s. s.reserved) c.in_ok-made.ensures.settings;
         skipped = ap (λ s. s.skipped) c.in_ok-made.ensures.settings;
+        noted = c.in_ok-made.ensures.noted;
+        waiting = c.in_ok-made.ensures.waiting;
         settings = c.in-Ok-insert_all.ensures.settings;
         run = rw (← ran.4.0) c.in-Ok-insert_all.ensures.run;
       },

@@ -6,7 +6,7 @@ pub returns-in-Ok : goal.returns-in-Ok
 returns-in-Ok g c = (
   (same-name c.at.ensures.guard, λ w. refl, tt),
   record {
-    inserts = inserts-at-vacant g.K.PartialEq.eq _ c.args.self c.args.self.guard.now c.insert_new.new.self c.args.value c.at.result _ c.at.ensures.guard c.at.ensures.place c.at.ensures.rest refl c.in-Ok.ensures.ok record { grows = c.in-Ok.ensures.grows; first = c.in-Ok.ensures.first } c.insert_new.ensures.relocates c.in-Ok.ensures.two c.in-Ok.ensures.unique;
+    inserts = inserts-at-vacant g.K.PartialEq.eq _ c.args.self c.args.self.guard.now c.insert_new.new.self c.args.value c.at.result _ c.at.ensures.guard c.at.ensures.place c.at.ensures.rest refl c.in-Ok.ensures.ok record { grows = c.in-Ok.ensures.grows; first = c.in-Ok.ensures.first; once = c.insert_new.ensures.once } c.insert_new.ensures.relocates c.in-Ok.ensures.two c.in-Ok.ensures.unique;
     kept = tt;
   },
 )
