@@ -1,8 +1,9 @@
-use Rattle.std.proofs.Common.{◌≡◌, ◌∷◌, [], Ok, Err, ◌∙◌, append_assoc, refl, sym}
+use Rattle.std.proofs.Common.{◌≡◌, ◌∷◌, ◌++◌, [], Ok, Err, ◌∙◌, ap, append-nil, append_assoc, refl, subst, sym}
 use Rattle.std.specs.Vec.Iter.{into_iter_items}
 use Rattle.std.proofs.lemmas.Fn.{FoldsTo-push}
+use Rattle.std.proofs.lemmas.List.{nil_from_length}
 use Rattle.scc_common.specs.Contents.{entries, key_hash}
-use Rattle.scc_set.specs.Collections.{InsertsOne}
+use Rattle.scc_set.specs.Collections.{InsertsAll, InsertsOne}
 use Rattle.scc_set.proofs.Collecting.{finds-new, finds-old}
 use Rattle.scc_set.proofs.Owned.insert_all.Goals as goal
 use Rattle.scc_set.proofs.Owned.insert_all.Goals.{in-Ok, in-Err-Exists}
@@ -62,3 +63,10 @@ returns-in-Err-Memory g c =
     let h = rw c.in-Err-Memory.field-0-is at c.in-Err-Memory.ensures.step in
     let array = rw (c.in-Err-Memory.is, c.in-Err-Memory.field-0-is, h.0) at c.insert_sync.ensures.array in
     rw h.0 (record { refused = (c.loop-k.yielded, into_iter_items c.next.new.self, c.loop-k.self, sym (rw (← steps) inv.place), inv.run, record { step = (refl, h.1, h.2, h.3); array = array }); run = tt; settings = tt; finds = tt; unique = tt })
+
+pub returns-clause-run : goal.returns-clause-run
+returns-clause-run g c =
+    let inv = c.loop-k.invariant in
+    let none : into_iter_items c.loop-k.k-iterator ≡ [] = nil_from_length (into_iter_items c.loop-k.k-iterator) (sym c.loop-k.k-iterator.rest.ok.0 ∙ c.in-None.ensures.steps.0) in
+    let all : c.loop-k.yielded ≡ c.args.keys.items = sym (append-nil c.loop-k.yielded) ∙ ap (λ ks. c.loop-k.yielded ++ ks) (sym none) ∙ inv.place in
+    subst (λ ks. InsertsAll g.K.PartialEq.eq (key_hash g.H.BuildHasher g.H.Hasher.Hasher g.K.Hash.hash_input) c.args.self.now ks c.loop-k.self) all inv.run
