@@ -168,7 +168,10 @@ fn is_clone(rt: &impl Wait, map: &Map, copy: &Map) -> bool {
 fn shared_map_clone_equals(rt: HostRuntime) -> Result<(), Fail> {
     let map: Map = filled(&rt, rt.alloc()).ok_or("there is memory")?;
     let copy = map.try_clone(&rt)?;
-    expect(&rt, is_clone(&rt, &map, &copy) && differs(&rt, &copy, &map, true));
+    expect(
+        &rt,
+        is_clone(&rt, &map, &copy) && differs(&rt, &copy, &map, true),
+    );
     Ok(())
 }
 
