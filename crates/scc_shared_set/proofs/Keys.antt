@@ -1,5 +1,8 @@
 -- Walks over pairs with unit values as walks over their keys, for a closure that may always be called.
-use Rattle.std.proofs.Common.{◌≡◌, Bool, true, false, List, [], ◌∷◌, refl, subst}
+use Rattle.std.proofs.Common.{◌≡◌, ℕ, Bool, true, false, List, [], ◌∷◌, ◌++◌, map, refl, ap, sym, subst, ◌∙◌}
+use Rattle.std.specs.List.{flat_map, IsDistinct}
+use Rattle.std.proofs.lemmas.List.{length-map, map-append, map-id}
+use Rattle.std.proofs.lemmas.List.Elements.{All-weaker, All-map}
 use Rattle.std.specs.Borrow.{Bor, MutBor}
 use Rattle.std.specs.Fn.{Mut, Once, Called, CalledAt, TakesAt, FnOnceReturnsAt, FnOnceReturnsAtMut}
 use Rattle.std.specs.Map.{keys_of}
@@ -7,6 +10,7 @@ use denote.Param.Always.{always_mut, mut_by, mut_next}
 use Rattle.scc_common.specs.Walks.{CalledOn}
 use Rattle.scc_common.specs.PairWalks as writes
 use Rattle.scc_common.specs.Replies as replies
+use Rattle.scc_stripes.specs.Walks.{AreOfStripes}
 use Rattle.scc_shared_set.specs.Answers.{ReadsEqual}
 use Rattle.scc_set.specs.SetWalks.{Declines, declined_none, declined, PassesAt}
 
@@ -35,3 +39,16 @@ pub reads-key : {C F K R : Type 0} (gm : Once C (Bor K × (Bor (Unit {0}) × Uni
     (one : (key : Bor K) (value : Bor (Unit {0})) (r : R) → gm.post m (key, (value, tt)) r → FnOnceReturnsAt gf f key.now r)
     (eq : K → K → Bool) (k : K) (r : R) → replies.ReadsEqual eq gm m k r → ReadsEqual eq gf f k r
 reads-key {K = K} gm m gf f one eq k r x = (x.0.0, x.1, subst (λ (q : K × Unit {0}). FnOnceReturnsAt gf f q.0 r) x.2.shows (one x.2.key x.2.value r x.2.met))
+
+joined-keys : {K V : Type 0} (ls : List (List (K × V))) → keys_of (flat_map (λ l. l) ls) ≡ flat_map (λ l. l) (map keys_of ls)
+joined-keys [] = refl
+joined-keys (l ∷ ls) = map-append (λ p. p.0) l (flat_map (λ l. l) ls) ∙ ap (λ z. keys_of l ++ z) (joined-keys ls)
+
+-- the keys of pairs that are of some stripes are of as many stripes
+pub AreOfStripes-keys : {K V : Type 0} (eq : K → K → Bool) (n : ℕ) (es : List (K × V)) → AreOfStripes eq (λ p. p.0) n es → AreOfStripes eq (λ k. k) n (keys_of es)
+AreOfStripes-keys {K} {V} eq n es w = record {
+  lists = map keys_of w.lists;
+  number = length-map w.lists keys_of ∙ w.number;
+  whole = ap keys_of w.whole ∙ joined-keys w.lists;
+  unique = All-map (λ l. IsDistinct eq (map (λ k. k) l)) keys_of w.lists (All-weaker (λ (l : List (K × V)). IsDistinct eq (keys_of l)) (λ l. IsDistinct eq (map (λ k. k) (keys_of l))) (λ l d. subst (λ z. IsDistinct eq z) (sym (map-id (keys_of l))) d) w.lists w.unique);
+}

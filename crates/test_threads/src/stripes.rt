@@ -5,6 +5,7 @@ use crate::kinds::{Cache, Index, Map, Set, Threaded, Visit, Way};
 use scc_cache::locked::Entry as CacheEntry;
 use scc_index::locked::Entry as IndexEntry;
 use scc_map::locked::Entry as MapEntry;
+use scc_script::same::Same;
 use std::alloc::Global;
 use std::process::Abort;
 use std::sync::Wait;
@@ -57,8 +58,12 @@ fn a_stripe_skips_the_bits_that_name_it(rt: HostRuntime) {
 // Puts 64 keys into the last of four stripes, half of them into each of its two buckets. Returns how many are there
 // then.
 fn fills_last<R: Wait>(rt: &R, alloc: Global) -> Option<usize> {
+<<<<<<< HEAD
     let Ok(cache) = Cache::with_capacity_and_hasher(alloc, SLOTS, SLOTS, scc_script::same::Same)
     else {
+=======
+    let Ok(cache) = Cache::with_capacity_and_hasher(alloc, SLOTS, SLOTS, Same) else {
+>>>>>>> laneC
         return None;
     };
     for number in 0..64u64 {

@@ -2,10 +2,11 @@ use Rattle.std.proofs.Common.{[]}
 use Rattle.scc_common.specs.PairWalks.{ended}
 use Rattle.scc_table.proofs.WalkReached.{CallableToWrite-always}
 use Rattle.scc_table.proofs.Joined.{retains-always, retains-join}
+use Rattle.scc_stripes.proofs.Walks.{walked-none, walked-permuted}
 use Rattle.scc_shared_cache.proofs.HashCache.retain_sync.Goals as goal
 
 pub loop-stripe-init : goal.loop-stripe-init
-loop-stripe-init g c = record { always = c.requires; seen = ([], [], ended) }
+loop-stripe-init g c = record { always = c.requires; seen = ([], [], ended, walked-none g.K.PartialEq.eq (λ p. p.0)) }
 
 pub retain_lent-requires : goal.retain_lent-requires
 retain_lent-requires g c = λ es same. CallableToWrite-always g.F.FnMut _ c.loop-stripe.f es c.loop-stripe.invariant.always
@@ -13,4 +14,4 @@ retain_lent-requires g c = λ es same. CallableToWrite-always g.F.FnMut _ c.loop
 pub loop-stripe-preserved : goal.loop-stripe-preserved
 loop-stripe-preserved g c =
     let x = c.retain_lent.ensures.step in
-    record { always = retains-always g.F.FnMut x.4 c.loop-stripe.invariant.always; seen = (_, _, retains-join c.loop-stripe.invariant.seen.2 x.4) }
+    record { always = retains-always g.F.FnMut x.4 c.loop-stripe.invariant.always; seen = (_, _, retains-join c.loop-stripe.invariant.seen.2 x.4, walked-permuted g.met.K.Eq.laws _ _ _ x.0 c.loop-stripe.invariant.seen.3 x.3.same (c.retain_lent.ensures.was_unique)) }
