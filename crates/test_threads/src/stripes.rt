@@ -58,12 +58,7 @@ fn a_stripe_skips_the_bits_that_name_it(rt: HostRuntime) {
 // Puts 64 keys into the last of four stripes, half of them into each of its two buckets. Returns how many are there
 // then.
 fn fills_last<R: Wait>(rt: &R, alloc: Global) -> Option<usize> {
-<<<<<<< HEAD
-    let Ok(cache) = Cache::with_capacity_and_hasher(alloc, SLOTS, SLOTS, scc_script::same::Same)
-    else {
-=======
     let Ok(cache) = Cache::with_capacity_and_hasher(alloc, SLOTS, SLOTS, Same) else {
->>>>>>> laneC
         return None;
     };
     for number in 0..64u64 {
