@@ -1,4 +1,4 @@
-use Rattle.std.proofs.Common.{◌∙◌}
+use Rattle.std.proofs.Common.{◌∙◌, ap, false, sym}
 use Rattle.scc_buckets.proofs.Mapped.{IsUnchanged-mapped}
 use Rattle.scc_set.proofs.Room.{lists-keys}
 use Rattle.scc_set.proofs.Sets.{shows, unique-keys, waiting-keys}
@@ -14,7 +14,7 @@ pub returns-clause-waiting : goal.returns-clause-waiting
 returns-clause-waiting g c = rw (← c.self.view_is) (waiting-keys _ _ c.drop_room.ensures.waiting)
 
 pub returns-clause-noted : goal.returns-clause-noted
-returns-clause-noted g c = rw (← c.self.view_is, (shows c.self.inside.map).refused) ((shows c.drop_room.new.self).refused ∙ c.drop_room.ensures.noted)
+returns-clause-noted g c = rw (← c.self.view_is) ((shows c.drop_room.new.self).refused ∙ (c.drop_room.ensures.noted ∙ ap (λ r. (r.0, false)) (sym (shows c.self.inside.map).refused)))
 
 pub returns-clause-unique : goal.returns-clause-unique
 returns-clause-unique g c = unique-keys _ _ c.drop_room.ensures.unique
