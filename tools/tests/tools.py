@@ -9,8 +9,8 @@ sys.path.insert(0, TOOLS)
 
 
 def tool(name):
-    """A tool of tools/ as a module, whose main doesn't run."""
-    loader = importlib.machinery.SourceFileLoader(f"the_{name}", f"{TOOLS}/{name}")
+    """A tool of tools/, or a command beside it as ../NAME, as a module whose main doesn't run."""
+    loader = importlib.machinery.SourceFileLoader(f"the_{os.path.basename(name)}", f"{TOOLS}/{name}")
     module = importlib.util.module_from_spec(importlib.util.spec_from_loader(loader.name, loader))
     loader.exec_module(module)
     return module
