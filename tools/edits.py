@@ -13,7 +13,7 @@ import sys
 from typing import List, NamedTuple, Tuple
 
 sys.dont_write_bytecode = True
-from repository import TOP, listed, uses
+from repository import PARTS, TOP
 
 ENDING = ".edit"
 GATED = "must-fail"
@@ -55,24 +55,6 @@ class Edit(NamedTuple):
         return found
 
 
-def crates_of_here():
-    """The crates of the repository in the order of crates.txt, each with the crates below it."""
-    lines = listed()
-    return {name: [one for one in uses(line) if one in lines] for name, line in lines.items()}
-
-
-def with_all_below(crates, names):
-    """These crates and all below them, in the order of crates.txt."""
-    wanted = set()
-    waiting = list(names)
-    while waiting:
-        name = waiting.pop()
-        if name not in wanted:
-            wanted.add(name)
-            waiting += crates[name]
-    return [name for name in crates if name in wanted]
-
-
 def folders_of(crate):
     """Where the edits of a crate lie."""
     return [os.path.join(TOP, "crates", crate, GATED), os.path.join(TOP, "slips", crate)]
@@ -97,7 +79,7 @@ def edited(edit, crate_folder):
     """The edited texts by their files, or what is wrong with the edit."""
     texts = {}
     for path, old, new in edit.changes():
-        if os.path.normpath(path) != path or not path.startswith(("src/", "specs/", "proofs/")):
+        if os.path.normpath(path) != path or path.split("/")[0] not in PARTS:
             return {}, f"it names no file below src/, specs/ or proofs/, but {path or 'none'}"
         if not old:
             return {}, "a line new: follows no line old:"

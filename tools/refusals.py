@@ -23,7 +23,9 @@ NAME_IS_GONE = re.compile(r"is not in scope|has no field|has no `|was not admitt
 NAME = re.compile(r"`([^`]+)`")
 UNPROVED = "`search` did not prove "
 OPEN = re.compile(r"^note: src/\S+: it is not proved that .*? \(`([^`]+)`\)", re.MULTILINE)
-REFUSED_FUNCTION = re.compile(r"^fn (\S+): (?!proved$)", re.MULTILINE)
+# What a check says of a proved function goes on where it may wait or abort, or where its callers have to give something.
+PROVED = r"proved(?:$|, | where )"
+REFUSED_FUNCTION = re.compile(rf"^fn (\S+): (?!{PROVED})", re.MULTILINE)
 LAST_LINE = re.compile(r"^only=\d+ proved=\d+$", re.MULTILINE)
 LINE_LENGTH = 240
 
@@ -126,7 +128,7 @@ def verdict_of(said, status, function, answers):
     line = re.search(rf"^fn {re.escape(function)}: (.*)$", said, re.MULTILINE)
     if status == 3:
         return Verdict(NOT_REFUSED, "by a goal, since the check could not tell")
-    if status == 0 or line and line[1] == "proved":
+    if status == 0 or line and re.match(PROVED, line[1]):
         others = REFUSED_FUNCTION.findall(said)
         return Verdict(NOT_REFUSED, f"by its function; refused by {', '.join(others)}" if others else "")
     if errors:
