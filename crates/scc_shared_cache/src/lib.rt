@@ -1,3 +1,6 @@
+//! A thread that holds an entry of a cache, or runs a closure that the cache calls, and then calls into the same
+//! cache may wait for itself forever. Let the entry go first.
+//!
 //! A hash cache that threads share: a fixed number of stripes, each an owned cache behind a lock.
 #![tactic(auto)]
 

@@ -1,3 +1,6 @@
+//! A thread that holds an entry of an index, or runs a closure that the index calls, and then calls into the same
+//! index may wait for itself forever. Let the entry go first.
+//!
 //! A hash index that threads share: a fixed number of stripes, each an owned index behind a lock.
 #![tactic(auto)]
 

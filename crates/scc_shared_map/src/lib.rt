@@ -1,3 +1,6 @@
+//! A thread that holds an entry of a map, or runs a closure that the map calls, and then calls into the same
+//! map may wait for itself forever. Let the entry go first.
+//!
 //! A hash map that threads share: a fixed number of stripes, each an owned map behind a lock.
 #![tactic(auto)]
 

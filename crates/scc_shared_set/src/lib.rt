@@ -1,3 +1,6 @@
+//! A thread that holds an entry of a set, or runs a closure that the set calls, and then calls into the same
+//! set may wait for itself forever. Let the entry go first.
+//!
 //! A hash set that threads share, over the hash map that threads share.
 #![tactic(auto)]
 
