@@ -31,7 +31,7 @@ enum Insertion {
 // A container of which slots can be reserved. A kind without a way to add or to remove a key does it by another way.
 trait Reserving: Threaded {
     // Reserves slots, and drops the reservation again. Returns the bucket of `key` before and between.
-    fn reserve_and_drop<R: Wait>(&self, rt: &R, slots: usize, key: u64) -> Option<[usize; 2]>;
+    fn reserve_and_drop<R: Wait>(&self, rt: &R, slots: usize, key: u64) -> Option<(usize, usize)>;
 
     // Returns the bucket of a key.
     fn bucket<R: Wait>(&self, rt: &R, key: u64) -> usize;
@@ -80,10 +80,10 @@ fn remove<R: Wait>(rt: &R, alloc: Global, map: &Map, way: Removal, key: u64) -> 
 }
 
 impl Reserving for Map {
-    fn reserve_and_drop<R: Wait>(&self, rt: &R, slots: usize, key: u64) -> Option<[usize; 2]> {
+    fn reserve_and_drop<R: Wait>(&self, rt: &R, slots: usize, key: u64) -> Option<(usize, usize)> {
         let before = self.bucket_index(rt, &key);
         match self.reserve(rt, slots) {
-            Some(_held) => Some([before, self.bucket_index(rt, &key)]),
+            Some(_held) => Some((before, self.bucket_index(rt, &key))),
             None => None,
         }
     }
@@ -102,10 +102,10 @@ impl Reserving for Map {
 }
 
 impl Reserving for Set {
-    fn reserve_and_drop<R: Wait>(&self, rt: &R, slots: usize, key: u64) -> Option<[usize; 2]> {
+    fn reserve_and_drop<R: Wait>(&self, rt: &R, slots: usize, key: u64) -> Option<(usize, usize)> {
         let before = self.bucket_index(rt, &key);
         match self.reserve(rt, slots) {
-            Some(_held) => Some([before, self.bucket_index(rt, &key)]),
+            Some(_held) => Some((before, self.bucket_index(rt, &key))),
             None => None,
         }
     }
@@ -156,10 +156,10 @@ fn remove_version<R: Wait>(rt: &R, index: &Index, way: Removal, key: u64) -> boo
 }
 
 impl Reserving for Index {
-    fn reserve_and_drop<R: Wait>(&self, rt: &R, slots: usize, key: u64) -> Option<[usize; 2]> {
+    fn reserve_and_drop<R: Wait>(&self, rt: &R, slots: usize, key: u64) -> Option<(usize, usize)> {
         let before = self.bucket_index(rt, &key);
         match self.reserve(rt, slots) {
-            Some(_held) => Some([before, self.bucket_index(rt, &key)]),
+            Some(_held) => Some((before, self.bucket_index(rt, &key))),
             None => None,
         }
     }
@@ -203,7 +203,7 @@ fn gives_back<C: Reserving, R: Wait>(
         return None;
     }
     match container.reserve_and_drop(rt, 1000, HALF) {
-        Some([before, grown]) => {
+        Some((before, grown)) => {
             let left = container.bucket(rt, HALF);
             if container.remove_by(rt, alloc, way, 1) {
                 Some([before, grown, left, container.bucket(rt, HALF)])
@@ -256,7 +256,7 @@ const INSERTIONS: [Insertion; 4] = [
 fn first_array<C: Reserving, R: Wait>(rt: &R, container: &C, way: Insertion) -> Option<usize> {
     let greatest = !(15 << 60);
     match container.reserve_and_drop(rt, 16 * 1024, greatest) {
-        Some([0, 0]) if container.insert_by(rt, way, 1) => Some(container.bucket(rt, greatest)),
+        Some((0, 0)) if container.insert_by(rt, way, 1) => Some(container.bucket(rt, greatest)),
         _ => None,
     }
 }
