@@ -2,9 +2,10 @@
 // all calls fails this test, and so does a lock that is held while a key is hashed.
 ghost use Rattle.std.specs.Prelude.{◌≡◌, Some};
 ghost use Rattle.scc_recorded.specs.Setups.{request_of};
+ghost use Rattle.scc_script.specs.Hashes.{same_write};
 
 use crate::expect::expect;
-use scc_calls::{MapCall, Reply};
+use scc_calls::MapCall;
 use scc_common::Shared;
 use scc_map::Owned;
 use scc_recorded::{Pass, Recorded, Setup, Site};
@@ -12,55 +13,48 @@ use scc_script::same::{Same, SameHasher};
 use std::alloc::Global;
 use std::hash::{BuildHasher, Hasher};
 use std::marker::Brand;
-use std::sync::atomic::AtomicU64;
 use std::sync::ledger::{Blank, Ledger};
 use std::sync::{Arc, Wait};
-use std::thread::{Threads, join};
+use std::thread::{Threads, join, yield_now};
 use test_kit::flags::{Flags, height, raise, sees};
 
-// The key whose hash waits, in the first of two stripes.
-const SLOW: u64 = 1;
+// The key that is long hashed, in the first of two stripes.
+const LONG: u64 = 1;
 
 // A key in the second stripe.
 const OTHER: u64 = 1 << 63;
 
-// Builds hashers under which a key is its own hash. Each hash of `SLOW` but the first one raises `begun` and waits until
-// `ended` is raised, and raises `met` if it was. The first hash names the stripe, before any lock is taken.
+// How often other threads are let go first while `LONG` is hashed.
+const YIELDS: u32 = 4_000;
+
+// How often the two calls are made side by side.
+const ROUNDS: u64 = 8;
+
+// Builds hashers under which a key is its own hash, and `LONG` takes long.
 #[derive(Clone, Copy)]
-struct Slow<'a> {
-    routed: &'a AtomicU64,
-    flags: &'a Flags,
-}
+struct Slow;
 
 #[derive(Clone, Copy)]
-struct SlowHasher<'a> {
+struct SlowHasher {
     inner: SameHasher,
-    slow: Slow<'a>,
 }
 
-impl Slow<'_> {
-    // Waits for the other call, but at the first hash.
-    fn wait(&self) {
-        if height(self.routed) == 0 {
-            raise(self.routed);
-            return;
-        }
-        raise(&self.flags.first);
-        if sees(&self.flags.second) {
-            raise(&self.flags.third);
-        }
+// Lets other threads go first, again and again.
+fn wait_long() {
+    for _ in 0..YIELDS {
+        yield_now();
     }
 }
 
-impl Hasher for SlowHasher<'_> {
-    ghost write = { λ h bytes. record h { inner = SameHasher.Hasher.write h.inner bytes } };
+impl Hasher for SlowHasher {
+    ghost write = { λ h bytes. record { inner = same_write h.inner bytes } };
 
-    ghost finish = { λ h. SameHasher.Hasher.finish h.inner };
+    ghost finish = { λ h. h.inner.last };
 
     fn finish(&self) -> u64 {
         let hash = self.inner.finish();
-        if hash == SLOW {
-            self.slow.wait();
+        if hash == LONG {
+            wait_long();
         }
         hash
     }
@@ -70,62 +64,106 @@ impl Hasher for SlowHasher<'_> {
     }
 }
 
-impl<'a> BuildHasher for Slow<'a> {
-    type Hasher = SlowHasher<'a>;
+impl BuildHasher for Slow {
+    type Hasher = SlowHasher;
 
-    ghost build_hasher = { λ s. record { inner = Same.BuildHasher.build_hasher (record {}); slow = s } };
+    ghost build_hasher = { λ _. record { inner = record { last = 0 } } };
 
-    fn build_hasher(&self) -> SlowHasher<'a> {
+    fn build_hasher(&self) -> SlowHasher {
         SlowHasher {
             inner: Same.build_hasher(),
-            slow: *self,
         }
     }
 }
 
-type Map<'a> = Owned<u64, u64, Shared<Slow<'a>>>;
+type Map = Owned<u64, u64, Shared<Slow>>;
 
-// Inserts a key by a recorded call, and returns whether it was new.
-fn inserts<'a, L: Ledger, M: Site<Shared<Slow<'a>>>, R: Wait>(
+// Stores a key by a recorded call, and returns whether the call was made.
+fn stores<L: Ledger, M: Site<Shared<Slow>>, R: Wait>(
     rt: &R,
-    recorded: &Recorded<Map<'a>, L, M>,
-    pass: &mut Pass<Map<'a>, L>,
+    recorded: &Recorded<Map, L, M>,
+    pass: &mut Pass<Map, L>,
     key: u64,
 ) -> bool {
-    matches!(
-        recorded.call(rt, pass, MapCall::Insert(key, 10)),
-        Ok(Reply::Inserted)
-    )
+    recorded.call(rt, pass, MapCall::Upsert(key, 10)).is_ok()
 }
 
-// Inserts `OTHER` while the call of `SLOW` hashes its key in its stripe, and then tells that it is done.
-fn inserts_beside<'a, L: Ledger, M: Site<Shared<Slow<'a>>>, R: Wait>(
+// Stores `LONG`, and tells before and after it.
+fn stores_long<L: Ledger, M: Site<Shared<Slow>>, R: Wait>(
     rt: &R,
-    recorded: &Recorded<Map<'a>, L, M>,
-    pass: &mut Pass<Map<'a>, L>,
+    recorded: &Recorded<Map, L, M>,
+    pass: &mut Pass<Map, L>,
     flags: &Flags,
 ) -> bool {
-    let begun = sees(&flags.first);
-    let inserted = inserts(rt, recorded, pass, OTHER);
+    raise(&flags.first);
+    let stored = stores(rt, recorded, pass, LONG);
     raise(&flags.second);
-    begun && inserted
+    stored
 }
 
-// Makes a call on each of two stripes by two threads. Returns whether the call of `OTHER` ended while that of `SLOW` was
+// Stores `OTHER` while `LONG` is hashed in its stripe: its first hash names the stripe, before any lock is taken.
+// Returns whether this call ended first.
+fn stores_beside<L: Ledger, M: Site<Shared<Slow>>, R: Wait>(
+    rt: &R,
+    recorded: &Recorded<Map, L, M>,
+    pass: &mut Pass<Map, L>,
+    flags: &Flags,
+) -> bool {
+    if !sees(&flags.first) {
+        return false;
+    }
+    wait_long();
+    stores(rt, recorded, pass, OTHER) && height(&flags.second) == 0
+}
+
+// Makes a call on each of two stripes by two threads. Returns whether the call of `OTHER` ended while that of `LONG` was
 // made.
 fn work_at_once<
-    'a,
     L: Ledger + Send + Sync,
-    M: Site<Shared<Slow<'a>>> + Send + Sync,
+    M: Site<Shared<Slow>> + Send + Sync,
     R: Threads + Wait + Sync,
->(
+>(rt: &R, recorded: &Recorded<Map, L, M>, one: &mut Pass<Map, L>, two: &mut Pass<Map, L>) -> bool {
+    let flags = Flags::new();
+    let (stored, beside) = join(
+        rt,
+        || stores_long(rt, recorded, one, &flags),
+        || stores_beside(rt, recorded, two, &flags),
+    );
+    stored && beside
+}
+
+// Makes the two calls once by the two passes. Returns whether the short call ended first.
+fn is_first<L: Ledger + Send + Sync, M: Site<Shared<Slow>> + Send + Sync, R: Threads + Wait + Sync>(
     rt: &R,
-    alloc: Global,
-    hasher: Shared<Slow<'a>>,
-    flags: &'a Flags,
-    receipts: Blank,
-    records: Blank,
-) -> bool
+    recorded: &Recorded<Map, L, M>,
+    passes: &mut [Pass<Map, L>],
+) -> bool {
+    match passes {
+        [one, two] => work_at_once(rt, recorded, one, two),
+        _ => false,
+    }
+}
+
+// Makes the two calls side by side until the short call ends first. Returns whether it did.
+fn is_once_first<
+    L: Ledger + Send + Sync,
+    M: Site<Shared<Slow>> + Send + Sync,
+    R: Threads + Wait + Sync,
+>(rt: &R, recorded: &Recorded<Map, L, M>, passes: &mut [Pass<Map, L>]) -> bool {
+    for _ in 0..ROUNDS {
+        if is_first(rt, recorded, passes) {
+            return true;
+        }
+    }
+    false
+}
+
+// Makes the calls on two stripes. Returns whether the short call once ended first.
+fn works_at_once<
+    L: Ledger + Send + Sync,
+    M: Site<Shared<Slow>> + Send + Sync,
+    R: Threads + Wait + Sync,
+>(rt: &R, alloc: Global, hasher: Shared<Slow>, receipts: Blank, records: Blank) -> bool
     requires receipts { (receipts.name ≡ L.name) × (receipts.parts ≡ L.parts) × (receipts.parts ≡ 2) }
     requires records { (records.name ≡ M.name) × (records.parts ≡ M.parts) × (records.parts ≡ 2) }
     requires site { (M.chosen ≡ Some (request_of 0 0 hasher 2)) × (M.all ≡ 2) }
@@ -135,45 +173,27 @@ fn work_at_once<
         maximum: 0,
         hasher,
     };
-    let Ok((recorded, passes)) = Recorded::<Map<'a>, L, M>::open(
-        alloc, setup, 2, 2, receipts, records,
-    ) else {
+    let Ok((recorded, handed)) = Recorded::<Map, L, M>::open(alloc, setup, 2, 2, receipts, records)
+    else {
         return false;
     };
-    let mut passes = passes;
-    let [one, two] = passes.as_mut_slice() else {
-        return false;
-    };
-    let (slow, other) = join(
-        rt,
-        || inserts(rt, &recorded, one, SLOW),
-        || inserts_beside(rt, &recorded, two, flags),
-    );
-    slow && other && height(&flags.third) > 0
+    let mut passes = handed;
+    is_once_first(rt, &recorded, passes.as_mut_slice())
 }
 
 #[test]
 fn recorded_calls_of_two_stripes_work_at_once(rt: HostRuntime) {
-    let flags = Flags::new();
-    let routed = AtomicU64::new(0);
-    match Arc::new(
-        rt.alloc(),
-        Slow {
-            routed: &routed,
-            flags: &flags,
-        },
-    ) {
-        Ok(owner) => expect(
-            &rt,
-            work_at_once::<Brand, Brand, HostRuntime>(
+    match Arc::new(rt.alloc(), Slow) {
+        Ok(owner) => {
+            let is_first = works_at_once::<Brand, Brand, HostRuntime>(
                 &rt,
                 rt.alloc(),
                 Shared::new(owner),
-                &flags,
                 Blank::new(2),
                 Blank::new(2),
-            ),
-        ),
+            );
+            expect(&rt, is_first);
+        }
         Err(_) => expect(&rt, false),
     }
 }
