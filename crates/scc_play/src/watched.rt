@@ -1,4 +1,5 @@
 //! A stream whose own errors can be told from memory that a reader lacks.
+ghost use Rattle.std.specs.Prelude.{◌≡◌};
 
 use std::io::{Read, Result};
 
