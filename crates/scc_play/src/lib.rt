@@ -11,5 +11,4 @@ pub mod play;
 pub mod reasons;
 mod receipts;
 pub mod stripes;
-mod watched;
 mod whole;

@@ -13,12 +13,11 @@ ghost use Rattle.scc_play.specs.Kinds.{MapPlayed, SetPlayed, IndexPlayed, CacheP
 use crate::ends::{Cause, End};
 use crate::kinds::{play_cache, play_index, play_map, play_set};
 use crate::reasons::bad_line_of;
-use crate::watched::Watched;
 use scc_calls::{CacheCall, IndexCall, MapCall, SetCall};
 use scc_script::line::WorkerCall;
 use scc_script::script::{Script, parse_script};
 use std::alloc::{AllocError, Global};
-use std::io::{Read, Write, sink};
+use std::io::{ErrorKind, Read, Write, sink};
 use std::sync::Wait;
 use std::thread::Threads;
 
@@ -225,8 +224,7 @@ fn explain<E: Write>(script: &[u8], status: u8, errors: &mut E) {
 ///   records; a clearing and a count make one record in each stripe.
 /// - [`BAD_CALL`]: writes only the line `line N: bad call`. N, counted from 1, is the first line that isn't in the
 ///   grammar. No call was made.
-/// - [`NO_MEMORY`]: writes only the line `out of memory`. Memory or a thread was refused to this function; a stream that
-///   itself fails for want of memory has failed.
+/// - [`NO_MEMORY`]: writes only the line `out of memory`.
 /// - [`STREAM_FAILED`]: if the read failed, nothing was written; if a write failed, nothing was written after it.
 /// - [`UNFINISHED`]: writes only the line `finish N`. N is 7 if a pass is missing, 8 if a record is misrouted, and 9
 ///   if a receipt differs from its record or from the script.
@@ -260,12 +258,11 @@ pub fn play_explaining<T: Threads + Wait + Sync, R: Read, W: Write, E: Write>(
         ⊎ ((result ≡ NO_MEMORY) ⊎ ((result ≡ STREAM_FAILED) ⊎ (result ≡ UNFINISHED)))) }
 {
     let mut script = Vec::new(alloc);
-    let mut watched = Watched::new(reader);
-    if watched.read_to_end(&mut script).is_err() {
-        if watched.has_failed() {
-            return STREAM_FAILED;
+    if let Err(error) = reader.read_to_end(&mut script) {
+        if error.kind() == ErrorKind::OutOfMemory {
+            return finish(writer, OUT_OF_MEMORY, NO_MEMORY);
         }
-        return finish(writer, OUT_OF_MEMORY, NO_MEMORY);
+        return STREAM_FAILED;
     }
     let text = script.as_slice();
     match answer_script(rt, alloc, text) {
