@@ -2,8 +2,6 @@
 #![tactic(auto)]
 
 #[cfg(test)]
-mod borrowed_keys;
-#[cfg(test)]
 mod cache;
 #[cfg(test)]
 mod expect;

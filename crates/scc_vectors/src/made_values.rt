@@ -1,29 +1,6 @@
 // The default value of an entry may be one that an allocator makes, as an empty list or an empty text.
 use crate::expect::expect;
-use scc::{HashCache, HashIndex, HashMap, hash_cache, hash_index, hash_map};
-
-#[test]
-fn owned_entries_insert_empty_lists_and_texts(rt: HostRuntime) {
-    let mut map: hash_map::Owned<u64, Vec<u64>> = hash_map::Owned::new(rt.alloc());
-    match map.entry_sync(1).or_default() {
-        Ok(entry) => expect(&rt, entry.get().is_empty()),
-        Err(_) => expect(&rt, false),
-    }
-    let mut index: hash_index::Owned<u64, String> = hash_index::Owned::new(rt.alloc());
-    match index.entry_sync(1).or_default() {
-        Ok(entry) => expect(&rt, entry.get().is_empty()),
-        Err(_) => expect(&rt, false),
-    }
-}
-
-#[test]
-fn owned_cache_entry_puts_an_empty_text(rt: HostRuntime) {
-    let mut cache: hash_cache::Owned<u64, String> = hash_cache::Owned::new(rt.alloc());
-    match cache.entry_sync(1).or_default() {
-        Ok((_, entry)) => expect(&rt, entry.get().is_empty()),
-        Err(_) => expect(&rt, false),
-    }
-}
+use scc::{HashCache, HashIndex, HashMap};
 
 #[test]
 fn shared_entries_insert_empty_lists(rt: HostRuntime) {
