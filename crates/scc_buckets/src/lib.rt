@@ -1,5 +1,5 @@
 //! `Buckets`: the buckets of one array, with 32 slots with a tag and an overflow list each, found by the bits of a
-//! hash. A table has one `Buckets`, or two while entries move from one to the other.
+//! hash. A table has one `Buckets`, for its current array; its old array is an `Array`, in its `Draining`.
 #![tactic(auto)]
 
 ghost use Rattle.scc_array.specs.Shelf.{shelf_entries};

@@ -2,9 +2,18 @@
 use Rattle.std.specs.Prelude.{ℕ, ◌+◌, ◌-◌, ◌/◌, ◌^◌, vec_len}
 use Rattle.std.specs.Arc.{arc_value}
 use Rattle.scc_stripes.specs.declared.shares.BookReservation.{BookReservation}
+use Rattle.scc_stripes.specs.declared.shares.ReserveBook.{ReserveBook}
 use Rattle.scc_stripes.specs.declared.Striped.{Striped}
 
+-- the slots that all stripes together were asked for at making
+abbrev pub book_slots : ReserveBook → ℕ
+book_slots b = b.asked
+
 module _ {O H : Type 0} where
+  -- the slots that all stripes together were asked for at making
+  abbrev pub stripe_slots : Striped O H → ℕ
+  stripe_slots s = book_slots s.book
+
   -- the number of stripes
   abbrev pub stripe_count : Striped O H → ℕ
   stripe_count s = vec_len s.locks

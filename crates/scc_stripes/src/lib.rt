@@ -73,8 +73,8 @@ pub struct Striped<O, H> {
 }
 
 impl<O, H> Striped<O, H> {
-    ghost use Rattle.scc_stripes.specs.Sizes.{IsBitsAsked};
-    ghost use Rattle.scc_stripes.specs.Stripes.{reservation_slots, stripe_bits, stripe_count, stripes_hasher};
+    ghost use Rattle.scc_stripes.specs.Sizes.{IsBitsAsked, IsSlotsAsked};
+    ghost use Rattle.scc_stripes.specs.Stripes.{reservation_slots, stripe_bits, stripe_count, stripe_slots, stripes_hasher};
 
     /// Makes empty containers for at least `capacity` slots together, divided evenly among them, and locks around
     /// them. There are as many as get 64 slots or more each, at most 16, and 16 without arrays if `capacity` is 0.
@@ -84,6 +84,7 @@ impl<O, H> Striped<O, H> {
         O: Part<H> + Drop,
         H: Drop,
         ensures bits { IfOk result (λ s. IsBitsAsked capacity 1024 (stripe_bits s)) }
+        ensures slots { IfOk result (λ s. IsSlotsAsked capacity (stripe_slots s)) }
         ensures hasher { IfOk result (λ s. stripes_hasher s ≡ hasher) }
     {
         let (bits, slots) = sizes_for(capacity, SLOTS_OF_MOST_STRIPES);
@@ -106,6 +107,7 @@ impl<O, H> Striped<O, H> {
         requires slots { slots ≤ 2 ^ 63 }
         requires maximum { maximum ≤ 2 ^ 63 }
         ensures bits { IfOk result (λ s. stripe_bits s ≡ bits) }
+        ensures slots { IfOk result (λ s. stripe_slots s ≡ slots) }
         ensures hasher { IfOk result (λ s. stripes_hasher s ≡ hasher) }
     {
         let Ok(owner) = Arc::new(alloc, hasher) else {

@@ -26,7 +26,7 @@ pub struct OpenStripes<O, H> {
 impl<O, H> OpenStripes<O, H> {
     ghost use Rattle.scc_stripes.specs.Parts.{AreMade, part_bits, part_count, part_slots, parts_hasher, parts_of, parts_owner};
     ghost use Rattle.scc_stripes.specs.Sizes.{IsBitsAsked, IsSlotsAsked};
-    ghost use Rattle.scc_stripes.specs.Stripes.{stripe_bits, stripes_hasher};
+    ghost use Rattle.scc_stripes.specs.Stripes.{stripe_bits, stripe_slots, stripes_hasher};
 
     /// Makes 2^`bits` empty containers, each with its share of `slots` and of `maximum`.
     pub fn make(
@@ -113,6 +113,7 @@ impl<O, H> OpenStripes<O, H> {
         O: Drop,
         H: Drop,
         ensures bits { IfOk result (λ s. stripe_bits s ≡ part_bits self) }
+        ensures slots { IfOk result (λ s. stripe_slots s ≡ part_slots self) }
         ensures hasher { IfOk result (λ s. stripes_hasher s ≡ parts_hasher self) }
     {
         let OpenStripes {

@@ -1,6 +1,6 @@
 //! The shares of the stripes, and the slots that callers of a shared container have reserved.
 ghost use Rattle.scc_stripes.specs.Sizes.{IsBitsAsked, IsBitsFor, IsSlotsAsked};
-ghost use Rattle.scc_stripes.specs.Stripes.{share_of, reservation_slots};
+ghost use Rattle.scc_stripes.specs.Stripes.{book_slots, reservation_slots, share_of};
 ghost use Rattle.std.specs.Prelude.{◌≡◌, ◌≤◌, ◌<◌, ◌^◌, IfSome};
 
 use scc_buckets::sizes::{GREATEST_CAPACITY, slots_for};
@@ -55,19 +55,23 @@ pub fn share(bits: u32, slots: usize) -> usize
     (slots + (stripes - 1)) / stripes
 }
 
-/// The minimum of all stripes together: the slots asked for at making, and the slots reserved. It is one word, which
-/// any thread may load.
+/// The minimum of all stripes together: the slots asked for at making, and the slots reserved, which any thread may
+/// load.
 #[derive(Drop)]
 pub struct ReserveBook {
-    minimum: AtomicU64,
+    asked: usize,
+    reserved: AtomicU64,
     adding: Mutex<()>,
 }
 
 impl ReserveBook {
     /// Makes a book in which nothing is reserved.
-    pub fn new(asked: usize) -> ReserveBook {
+    pub fn new(asked: usize) -> ReserveBook
+        ensures { book_slots result ≡ asked }
+    {
         ReserveBook {
-            minimum: AtomicU64::new(asked as u64),
+            asked,
+            reserved: AtomicU64::new(0),
             adding: Mutex::new(()),
         }
     }
@@ -76,7 +80,8 @@ impl ReserveBook {
     pub fn minimum(&self) -> usize
         ensures { result ≤ 2 ^ 63 }
     {
-        (self.minimum.load(Ordering::SeqCst) as usize).min(GREATEST_CAPACITY)
+        let reserved = self.reserved.load(Ordering::SeqCst) as usize;
+        self.asked.saturating_add(reserved).min(GREATEST_CAPACITY)
     }
 
     /// Adds `additional` slots to the minimum, and returns a reservation of them. Returns `None` if `additional` is 0,
@@ -88,7 +93,7 @@ impl ReserveBook {
         if additional == 0 || additional > GREATEST_CAPACITY - self.minimum() {
             return None;
         }
-        self.minimum.fetch_add(additional as u64, Ordering::SeqCst);
+        self.reserved.fetch_add(additional as u64, Ordering::SeqCst);
         Some(BookReservation {
             book: self,
             additional,
@@ -114,6 +119,6 @@ impl<'h> BookReservation<'h> {
 impl<'h> Drop for BookReservation<'h> {
     fn drop(self) {
         let BookReservation { book, additional } = self;
-        book.minimum.fetch_sub(additional as u64, Ordering::SeqCst);
+        book.reserved.fetch_sub(additional as u64, Ordering::SeqCst);
     }
 }
