@@ -17,7 +17,7 @@ use scc_calls::{CacheCall, IndexCall, MapCall, SetCall};
 use scc_script::line::WorkerCall;
 use scc_script::script::{Script, parse_script};
 use std::alloc::{AllocError, Global};
-use std::io::{ErrorKind, Read, Write, sink};
+use std::io::{self, ErrorKind, Read, Write, sink};
 use std::sync::Wait;
 use std::thread::Threads;
 
@@ -35,6 +35,27 @@ pub const STREAM_FAILED: u8 = 4;
 
 /// The run can't be finished: its histories, its receipts and the script don't agree.
 pub const UNFINISHED: u8 = 5;
+
+// A stream that notes whether its last read failed. So a stream that is refused memory itself differs from a script for
+// which there is none.
+#[derive(Drop)]
+struct Watched<'r, R> {
+    reader: &'r mut R,
+    has_failed: bool,
+}
+
+impl<R: Read> Read for Watched<'_, R> {
+    ghost remaining = { λ w. R.remaining w.reader.now };
+
+    fn read(&mut self, buf: &mut [u8]) -> io::Result<usize> {
+        let given = self.reader.read(buf);
+        self.has_failed = match &given {
+            Ok(_) => false,
+            Err(error) => error.kind() != ErrorKind::Interrupted,
+        };
+        given
+    }
+}
 
 // The text that is printed if memory is refused.
 const OUT_OF_MEMORY: &str = "out of memory\n";
@@ -258,8 +279,12 @@ pub fn play_explaining<T: Threads + Wait + Sync, R: Read, W: Write, E: Write>(
         ⊎ ((result ≡ NO_MEMORY) ⊎ ((result ≡ STREAM_FAILED) ⊎ (result ≡ UNFINISHED)))) }
 {
     let mut script = Vec::new(alloc);
-    if let Err(error) = reader.read_to_end(&mut script) {
-        if error.kind() == ErrorKind::OutOfMemory {
+    let mut watched = Watched {
+        reader,
+        has_failed: false,
+    };
+    if let Err(error) = watched.read_to_end(&mut script) {
+        if error.kind() == ErrorKind::OutOfMemory && !watched.has_failed {
             return finish(writer, OUT_OF_MEMORY, NO_MEMORY);
         }
         return STREAM_FAILED;

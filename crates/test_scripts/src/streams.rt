@@ -1,6 +1,6 @@
 // Streams that fail at each byte in turn, while a script is read or its output is written.
 use crate::expect::expect_eq;
-use scc_play::play::{BAD_CALL, FINISHED, NO_MEMORY, STREAM_FAILED, play};
+use scc_play::play::{BAD_CALL, FINISHED, STREAM_FAILED, play};
 use std::io::{Error, ErrorKind, Read, Result, Write};
 use std::process::Abort;
 use std::sync::Wait;
@@ -55,10 +55,9 @@ fn run_failing_reader(rt: HostRuntime) {
 }
 
 #[test]
-fn run_reader_without_memory(rt: HostRuntime) {
-    let text = b"out of memory\n".as_slice();
-    expect_reader(&rt, GOOD, ErrorKind::OutOfMemory, text, NO_MEMORY);
-    expect_reader(&rt, BAD, ErrorKind::OutOfMemory, text, NO_MEMORY);
+fn run_reader_that_is_refused_memory(rt: HostRuntime) {
+    expect_reader(&rt, GOOD, ErrorKind::OutOfMemory, b"", STREAM_FAILED);
+    expect_reader(&rt, BAD, ErrorKind::OutOfMemory, b"", STREAM_FAILED);
 }
 
 // Keeps the first `room` bytes that are written, and then fails. Fails at a flush if `fails_at_flush`.
