@@ -57,6 +57,30 @@ impl<R: Read> Read for Watched<'_, R> {
     }
 }
 
+// Why a script couldn't be read: there is no memory for it, or the stream failed.
+enum Unread {
+    Memory,
+    Stream,
+}
+
+// Reads the whole script.
+fn read_script<R: Read>(alloc: Global, reader: &mut R) -> Result<Vec<u8>, Unread>
+    ensures { IfOk result (λ script. IfSome (R.remaining reader.old) (λ bytes. script.items ≡ bytes)) }
+{
+    let mut script = Vec::new(alloc);
+    let mut watched = Watched {
+        reader,
+        has_failed: false,
+    };
+    if let Err(error) = watched.read_to_end(&mut script) {
+        if error.kind() == ErrorKind::OutOfMemory && !watched.has_failed {
+            return Err(Unread::Memory);
+        }
+        return Err(Unread::Stream);
+    }
+    Ok(script)
+}
+
 // The text that is printed if memory is refused.
 const OUT_OF_MEMORY: &str = "out of memory\n";
 
@@ -278,17 +302,11 @@ pub fn play_explaining<T: Threads + Wait + Sync, R: Read, W: Write, E: Write>(
     ensures status { (result ≡ FINISHED) ⊎ ((result ≡ BAD_CALL)
         ⊎ ((result ≡ NO_MEMORY) ⊎ ((result ≡ STREAM_FAILED) ⊎ (result ≡ UNFINISHED)))) }
 {
-    let mut script = Vec::new(alloc);
-    let mut watched = Watched {
-        reader,
-        has_failed: false,
+    let script = match read_script(alloc, reader) {
+        Ok(script) => script,
+        Err(Unread::Memory) => return finish(writer, OUT_OF_MEMORY, NO_MEMORY),
+        Err(Unread::Stream) => return STREAM_FAILED,
     };
-    if let Err(error) = watched.read_to_end(&mut script) {
-        if error.kind() == ErrorKind::OutOfMemory && !watched.has_failed {
-            return finish(writer, OUT_OF_MEMORY, NO_MEMORY);
-        }
-        return STREAM_FAILED;
-    }
     let text = script.as_slice();
     match answer_script(rt, alloc, text) {
         Ok(answer) => {
