@@ -1,6 +1,7 @@
 //! The Rust peers with one owner, and those that threads share. `peers NAME GROUP RUNS ENTRIES SEED` prints the lines
 //! that README.md describes. With no argument it lists its peers and their groups.
 
+mod layout;
 mod shared;
 mod streams;
 mod texts;
@@ -329,6 +330,7 @@ fn clock() {
 
 fn list() {
     println!("std own,tail,mem,curve\nstd-fold own,tail,mem,curve");
+    println!("layout-limit own,tail,mem,curve\nlayout-limit16 shared,tail4,index");
     #[cfg(with_hashbrown)]
     println!("hashbrown own,tail,mem,curve\nhashbrown-fold own,tail,mem,curve");
     #[cfg(with_lru)]
@@ -360,6 +362,8 @@ fn main() {
         "hashbrown-fold" => run_owned::<hashbrown::HashMap<u64, u64, Fold>>(p, g, runs, &streams),
         #[cfg(with_lru)]
         "lru-own" if g == "cache" => cache(p, runs, &streams),
+        "layout-limit" => run_owned::<layout::Layout>(p, g, runs, &streams),
+        "layout-limit16" => shared::run_shared::<layout::Striped>(p, g, runs, &streams),
         "std-shard16-fold" => shared::run_shared::<shared::Sharded>(p, g, runs, &streams),
         "std-frozen-fold" if g == "index" => shared::run_frozen(p, runs, &streams),
         #[cfg(with_dashmap)]
