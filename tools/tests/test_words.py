@@ -6,14 +6,12 @@ import unittest
 import tools
 
 TOP = os.path.dirname(tools.TOOLS)
-# Their words are not read by argparse yet.
-OTHERS = ("pages", "quick", "take_crates")
 
 
 def commands():
     """The commands of tools/ and the others that part 1 of ./test runs."""
     names = [name for name in sorted(os.listdir(tools.TOOLS)) if "." not in name and os.access(f"{tools.TOOLS}/{name}", os.X_OK)]
-    return [f"tools/{name}" for name in names if os.path.isfile(f"{tools.TOOLS}/{name}") and name not in OTHERS] + ["bench/chart"]
+    return [f"tools/{name}" for name in names if os.path.isfile(f"{tools.TOOLS}/{name}")] + ["bench/chart"]
 
 
 class Words(unittest.TestCase):
