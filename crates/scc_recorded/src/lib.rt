@@ -105,8 +105,8 @@ impl<C: Calls, L: Ledger, M: Site<C::Hasher>> Recorded<C, L, M> {
     }
 
     /// Makes a call with a key on the stripe of its key. The receipt has the number of this stripe. Any thread may
-    /// call it, and may wait for the lock of the stripe. Once the call is made it may wait for the lock of the count, which
-    /// all stripes share and which is held for two additions, while no key is hashed or compared.
+    /// call it, and may wait for the lock of the stripe. Once the call is made, and the stripe still locked, it may wait
+    /// for the lock of the count, which all stripes share and which is held for two additions.
     ///
     /// Fails with `Room` if memory for the record, the receipt or a clone of the call is refused, or if no stamp is
     /// left; then nothing changed. Fails with `Container` only if the container may refuse the call for memory, or if
