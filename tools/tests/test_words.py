@@ -11,7 +11,7 @@ TOP = os.path.dirname(tools.TOOLS)
 def commands():
     """The commands of tools/ and the others that part 1 of ./test runs."""
     names = [name for name in sorted(os.listdir(tools.TOOLS)) if "." not in name and os.access(f"{tools.TOOLS}/{name}", os.X_OK)]
-    return [f"tools/{name}" for name in names if os.path.isfile(f"{tools.TOOLS}/{name}")] + ["bench/chart"]
+    return [f"tools/{name}" for name in names if os.path.isfile(f"{tools.TOOLS}/{name}")] + ["bench/chart", "bench/tables"]
 
 
 class Words(unittest.TestCase):
