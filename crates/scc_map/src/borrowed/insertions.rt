@@ -1,6 +1,6 @@
-//! The insertions through an entry of a borrowed map. Each goes on from the search that made the entry, and all but
-//! `insert_entry` call `or_insert_with_key`. At an occupied entry `or_insert_with_key` calls `len` for its contract:
-//! no two keys are equal.
+//! The insertions through an entry of a borrowed map. Each goes on from the search that made the entry. `or_insert`,
+//! `or_insert_with` and `or_default` call `or_insert_with_key`, `or_try_insert_with` calls `or_try_insert_with_key`. At
+//! an occupied entry these call `len` for their contract: no two keys are equal.
 ghost use Rattle.scc_map.specs.Entries.{entry_guard, entry_key, InsertsThrough, IsVacant, OrInserts, OrInsertsSome, Refuses, RefusesSome, SetsEntry, TriesThrough, rests_if_refused, rests_if_tried};
 ghost use Rattle.std.specs.Borrow.{sem};
 ghost use Rattle.std.specs.Fn.{FnOnceTakesAt, FnOnceReturnsAt};

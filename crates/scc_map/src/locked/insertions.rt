@@ -1,4 +1,5 @@
-//! The insertions through an entry of a locked stripe. All but `insert_entry` call `or_insert_with_key`.
+//! The insertions through an entry of a locked stripe. `or_insert`, `or_insert_with` and `or_default` call
+//! `or_insert_with_key`, `or_try_insert_with` calls `or_try_insert_with_key`.
 ghost use Rattle.scc_map.specs.Entries.{entry_key, InsertsThrough, IsVacant, OrInserts, OrInsertsSome, Refuses, RefusesSome, SetsEntry, TriesThrough};
 ghost use Rattle.std.specs.Fn.{FnOnceTakesAt, FnOnceReturnsAt};
 ghost use Rattle.std.specs.Prelude.{◌≡◌, Ok, Err};
