@@ -16,4 +16,5 @@ pub use hash_index::HashIndex;
 pub use hash_map::HashMap;
 pub use hash_set::HashSet;
 pub use scc_common::{InsertError, KeyError, MakeError, Verdict, WalkError};
+pub use scc_fallible::TryInsertError;
 pub use scc_table::Reservation;

@@ -24,7 +24,9 @@ use Rattle.scc_table.proofs.AtPlaces.{place-prop}
 use Rattle.scc_cache.specs.CacheSteps.{ChangesLists, IsFound, IsLastAt, IsPreparedForPut, PutsNew, list_number}
 use Rattle.scc_cache.specs.Caches.{Cached}
 use Rattle.scc_common.specs.declared.errors.InsertError.{InsertError}
-use Rattle.scc_cache.specs.Entries.{Memory, Occupied, Vacant, entry_guard, occupied_pair, IsMoved, IsPut, IsRefreshed, IsReplacedBy, IsWritten, OrPuts, OrPutsSome, Refuses, RefusesSome, SetsEntry, written_cache, still_within, with_value}
+use Rattle.scc_fallible.specs.declared.TryInsertError.{TryInsertError}
+use Rattle.scc_fallible.specs.declared.TryInsertError.TheVariants.{Failed, Memory as NoMemory}
+use Rattle.scc_cache.specs.Entries.{Memory, Occupied, Vacant, entry_guard, entry_key, occupied_pair, FailsAtVacant, FailsOrRefuses, IsMoved, IsPut, IsRefreshed, IsReplacedBy, IsWritten, OrPuts, OrPutsSome, Refuses, RefusesSome, SetsEntry, written_cache, still_within, with_value}
 use Rattle.scc_cache.specs.Lends.{with_key_at, with_value_at}
 use Rattle.scc_cache.specs.ListSteps.{Refreshes, RefreshesAs, Rewrites}
 use Rattle.scc_cache.specs.Relocations.{RelocatesOne, RelocatesTwoWithin}
@@ -301,3 +303,34 @@ module _ {G N K V S T : Type 0} {d : guard.Ghosts G (Cached (K × V) S)} {g : eq
 
     pub sets-put : (same-key : K → K → Bool) (v : V) → IfOk r (λ y. IsPut same-key x v y.0 y.1) → IfOk r (λ y. SetsEntry same-key e v y.0 y.1)
     sets-put same-key v put = subst (λ z. IfOk r (λ y. SetsEntry same-key z v y.0 y.1)) (sym is) put
+
+  -- if P' implies P, a put of a value for which P' holds is a put of a value for which P holds
+  pub puts-as : {X : Type 0} {P' : K → V → Type 0} (same : K → K → Bool) (P : K → V → Type 0) (e : HeldEntry G N K V S T d g h b w) (r : Result (Option (K × V) × HeldOccupied G N K V S T d g h b w) X) → IfOk r (λ y. OrPutsSome same e P' y.0 y.1) → ((k : K) (v : V) → P' k v → P k v) → IfOk r (λ y. OrPutsSome same e P y.0 y.1)
+  puts-as same P (Occupied p) (Ok y) i f = i
+  puts-as same P (Vacant e) (Ok y) i f = (i.0, f e.key i.0 i.1, i.2)
+  puts-as same P e (Err x) i f = tt
+
+  -- a failed put of a value that a closure makes meets the contract for P and Q if it meets that for P' and Q', which
+  -- imply them
+  pub fails-as : {A X : Type 0} {P' : K → V → Type 0} {Q' : K → X → Type 0} (P : K → V → Type 0) (Q : K → X → Type 0) (e : HeldEntry G N K V S T d g h b w) (r : Result A (TryInsertError K V X)) → IfErr r (FailsOrRefuses e P' Q') → ((k : K) (v : V) → P' k v → P k v) → ((k : K) (x : X) → Q' k x → Q k x) → IfErr r (FailsOrRefuses e P Q)
+  fails-as P Q e (Ok a) t f g = tt
+  fails-as P Q e (Err (Failed x)) t f g = record { vacant = t.vacant; failed = g (entry_key e) x t.failed }
+  fails-as P Q (Occupied o) (Err (NoMemory p)) t f g = absurd t
+  fails-as P Q (Vacant e) (Err (NoMemory p)) t f g = (t.0, (t.1.0, f e.key t.1.0 t.1.1, t.1.2))
+
+  -- through a vacant entry, a put of the value that a closure makes has an outcome as the contract says
+  module _ (e : HeldEntry G N K V S T d g h b w) (x : HeldVacant G N K V S T d g h b w) (is : e ≡ Vacant x) {X : Type 0} (P : K → V → Type 0) (Q : K → X → Type 0) where
+    pub made-put : (same : K → K → Bool) (v : V) (out : Option (K × V)) (o : HeldOccupied G N K V S T d g h b w) → P x.key v → IsPut same x v out o → OrPutsSome same e P out o
+    made-put same v out o gave put = subst (λ z. OrPutsSome same z P out o) (sym is) (v, gave, put)
+
+    pub made-refused : (v : V) (p : K × V) → P x.key v → p ≡ (x.key, v) → bucket_count (d.inner x.guard).contents ≡ 0 → FailsOrRefuses e P Q (NoMemory p)
+    made-refused v p gave back none = subst (λ z. RefusesSome z P (Memory p)) (sym is) (none, (v, gave, ap (λ q. Memory q) back))
+
+  -- if a closure fails at a vacant entry, its error comes back
+  pub fails-at : {X : Type 0} (Q : K → X → Type 0) (e : HeldEntry G N K V S T d g h b w) (x : HeldVacant G N K V S T d g h b w) (y : X) → e ≡ Vacant x → Q x.key y → FailsAtVacant e Q y
+  fails-at Q e x y is gave = subst (λ z. FailsAtVacant z Q y) (sym is) (record { vacant = tt; failed = gave })
+
+module _ {N K V S T : Type 0} {d : guard.Ghosts (MutBor (Cached (K × V) S)) (Cached (K × V) S)} {g : eq.Ghosts K} {h : hash.Ghosts K} {b : builder.Ghosts S T} {w : hasher.Ghosts T} where
+  -- the cache that a vacant entry borrows
+  pub vacant-now : (e : HeldEntry (MutBor (Cached (K × V) S)) N K V S T d g h b w) (x : HeldVacant (MutBor (Cached (K × V) S)) N K V S T d g h b w) → e ≡ Vacant x → x.guard.now ≡ (entry_guard e).now
+  vacant-now e x is = ap (λ (z : HeldEntry (MutBor (Cached (K × V) S)) N K V S T d g h b w). (entry_guard z).now) (sym is)

@@ -1,15 +1,16 @@
 -- What look-ups find after a put and after a removal.
-use Rattle.std.proofs.Common.{◌≡◌, ℕ, zero, suc, ◌<◌, Bool, true, false, cond, List, [], ◌∷◌, ◌++◌, length, set, get_or, Option, None, Some, refl, sym, ap, subst, ◌∙◌, arith, append_assoc}
+use Rattle.std.proofs.Common.{◌≡◌, ℕ, zero, suc, ◌<◌, Bool, true, false, cond, List, [], ◌∷◌, ◌++◌, length, set, get_or, take, drop, Option, None, Some, refl, sym, ap, subst, ◌∙◌, arith, append_assoc}
 use Rattle.std.specs.Cmp.{IsEquivalence}
 use Rattle.std.specs.List.{IsDistinct, flat_map, remove, slice_get}
 use Rattle.std.specs.List.Sorted.{IsPermutation}
-use Rattle.std.specs.Map.{keys_of, lookup_entry, remove_entry}
+use Rattle.std.specs.Map.{keys_of, lookup_entry, remove_entry, set_value}
 use Rattle.std.proofs.lemmas.List.Sorted.{IsPermutation-middle, IsPermutation-sym}
 use Rattle.scc_common.specs.Contents.{Contents, entries, bucket_count, list_of, lists_of}
 use Rattle.scc_common.specs.Pairs.{find, FindsInstead, IsUnique}
 use Rattle.scc_buckets.specs.Bounded.{PutsLast}
 use Rattle.scc_buckets.proofs.Lookups.{distinct-IsPermutation, find-IsPermutation, find-without, finds-added, finds-removed}
-use Rattle.scc_buckets.proofs.PairSplits.{by_answer, cond-true, cond-false, found-place}
+use Rattle.scc_buckets.proofs.PairSplits.{apart-at, by_answer, cond-true, cond-false, found-place, parts-at, set_value-at, without-split}
+use Rattle.scc_buckets.proofs.PairWrites.{IsPlaceOf}
 use Rattle.scc_cache.specs.LookUps.{is_key_of, FindsAfterPut}
 
 -- the elements of all lists are those before list i, those of list i and those after it, whatever list i is
@@ -90,4 +91,31 @@ module _ {K V : Type 0} {eq : K → K → Bool} (laws : IsEquivalence eq) where
   pub finds-equal : (es new : List (K × V)) (k j : K) → eq k j ≡ true → FindsInstead eq es j None new → FindsInstead eq es k None new
   finds-equal es new k j e f = record {
     finds = λ q. f.finds q ∙ ap (λ b. cond b None (find eq es q)) (laws.symm q j ∙ sym (laws.congr k j q e) ∙ laws.symm k q);
+  }
+
+  -- after w became the value of k, a look-up of k finds its stored key with w
+  pub finds-written : (es new : List (K × V)) (k : K) (i : ℕ) (w : V) → IsDistinct eq (keys_of es) → (f : IsPlaceOf eq es k i) → new ≡ set_value (eq k) es w → IsDistinct eq (keys_of new) → FindsInstead eq es k (Some (f.0.0, w)) new
+  finds-written es new k i w u f is v =
+      let front = take i es in
+      let back = drop (suc i) es in
+      let p : K × V = (f.0.0, w) in
+      let made : new ≡ front ++ p ∷ back = is ∙ set_value-at laws k es i u f w in
+      let rest : remove_entry (eq k) es ≡ front ++ back = ap (remove_entry (eq k)) (parts-at laws k es i u f) ∙ without-split (eq k) front f.0 back (apart-at laws k es i u f) f.3 in
+      let perm : IsPermutation (p ∷ (front ++ back)) new = subst (λ z. IsPermutation (p ∷ (front ++ back)) z) (sym made) (IsPermutation-sym (front ++ p ∷ back) (p ∷ (front ++ back)) (IsPermutation-middle front p back)) in
+      record {
+        finds = λ q.
+            let same : eq q f.0.0 ≡ eq q k = laws.symm q f.0.0 ∙ sym (laws.congr k f.0.0 q f.3) ∙ laws.symm k q in
+            let old : find eq (front ++ back) q ≡ cond (eq q k) None (find eq es q) = ap (lookup_entry (eq q)) (sym rest) ∙ find-without laws es k q u in
+            (finds-added laws (front ++ back) new p perm v).finds q ∙ ap (λ b. cond b (Some p) (find eq (front ++ back) q)) same ∙ ap (cond (eq q k) (Some p)) old
+            ∙ by_answer (eq q k)
+            (λ y. cond-true (Some p) (cond (eq q k) None (find eq es q)) y ∙ sym (cond-true (Some p) (find eq es q) y))
+            (λ y. cond-false (Some p) (cond (eq q k) None (find eq es q)) y ∙ cond-false None (find eq es q) y ∙ sym (cond-false (Some p) (find eq es q) y));
+      }
+
+  -- if a pair of k is first written and then removed, a look-up of k finds nothing
+  pub finds-removed-after : (es mid new : List (K × V)) (k : K) (there : Option (K × V)) → FindsInstead eq es k there mid → FindsInstead eq mid k None new → FindsInstead eq es k None new
+  finds-removed-after es mid new k there f g = record {
+    finds = λ q. g.finds q ∙ by_answer (eq q k)
+        (λ y. cond-true None (find eq mid q) y ∙ sym (cond-true None (find eq es q) y))
+        (λ y. cond-false None (find eq mid q) y ∙ f.finds q ∙ cond-false there (find eq es q) y ∙ sym (cond-false None (find eq es q) y));
   }

@@ -1,17 +1,28 @@
 -- Removals of a pair that a closure wrote.
-use Rattle.std.proofs.Common.{◌≡◌, ℕ, zero, suc, Bool, List, [], ◌∷◌, Some, refl, sym, ap, subst, ◌∙◌}
+use Rattle.std.proofs.Common.{◌≡◌, ℕ, zero, suc, Bool, true, false, List, [], ◌∷◌, None, Some, refl, sym, ap, subst, ◌∙◌}
+use Rattle.std.specs.Borrow.{MutBor}
+use Rattle.std.specs.Cmp.{IsEquivalence}
+use Rattle.std.specs.Fn.{Once, FnOnceReturnsAtMut}
 use Rattle.std.specs.List.{remove, slice_get, slice_set, slice_index_or}
-use Rattle.scc_common.specs.Contents.{Settings, bucket_count, list_of, lists_of, settings_of, refused_of}
-use Rattle.scc_common.specs.Pairs.{with_pair_value}
+use Rattle.scc_common.specs.Contents.{Contents, Settings, entries, bucket_count, list_of, lists_of, settings_of, refused_of}
+use Rattle.scc_common.specs.Pairs.{find, with_pair_value, FindsInstead, IsUnique}
 use Rattle.scc_array.specs.ShelfWrites.{write_at}
 use Rattle.scc_buckets.specs.Writes.{with_write_at_spot}
 use Rattle.scc_table.specs.Placed.{spot-with_write_at}
-use Rattle.scc_table.specs.Places.{spot_of}
+use Rattle.scc_table.specs.Places.{index_of, spot_of, with_write_at}
+use Rattle.scc_table.proofs.AtPlaces.{value-unique, value-written}
 use Rattle.scc_buckets.specs.declared.place.Place.{Place}
 use Rattle.scc_buckets.proofs.KeyWrites.{get-write_at}
-use Rattle.scc_cache.specs.CacheSteps.{IsFound, TakesAt, TakesThen}
+use Rattle.scc_buckets.proofs.Lookups.{find-position_none}
+use Rattle.scc_buckets.proofs.PairSplits.{found-place}
+use Rattle.scc_buckets.proofs.PairWrites.{IsPlaceOf}
+use Rattle.scc_buckets.proofs.Spots.{place-get}
+use Rattle.scc_cache.specs.CacheSteps.{IsFound, IsLacking, TakesAt, TakesThen}
 use Rattle.scc_cache.specs.Caches.{Cached}
 use Rattle.scc_cache.specs.Lends.{with_value_at}
+use Rattle.scc_cache.specs.LookUps.{FindsAfterTest}
+use Rattle.scc_cache.proofs.Caching.{found-equal}
+use Rattle.scc_cache.proofs.LookUps.{finds-equal, finds-removed-after, finds-written}
 use Rattle.scc_cache.proofs.Writing.{written-list}
 
 pub set-twice : {X : Type 0} (xs : List X) (i : ℕ) (x y : X) → slice_set (slice_set xs i x) i y ≡ slice_set xs i y
@@ -65,3 +76,38 @@ takes-written hash eq c k p f w d (left, change, shrinks) =
       },
       shrinks,
     )
+
+module _ {K V S F : Type 0} {hash : K → ℕ} {eq : K → K → Bool} (c : Contents (K × V) S) (k : K) (g : Once F (MutBor V × Unit {0}) (Bool × (MutBor V × Unit {0}))) (x : F) where
+  -- what look-ups find after a removal of a key that is missing
+  pub tested-missing : IsLacking hash eq c k → FindsAfterTest eq g x (entries c) k (find eq (entries c) k) None (entries c)
+  tested-missing l = subst (λ o. FindsAfterTest eq g x (entries c) k o None (entries c)) (sym (find-position_none (eq k) (entries c) l.all)) (refl, λ q. refl)
+
+  module _ (laws : IsEquivalence eq) (p : Place) (f : IsFound hash eq c k p) (u : IsUnique eq c) (w : V) where
+    standing : IsPlaceOf eq (entries c) k (index_of c p)
+    standing = found-place laws k (entries c) (index_of c p) f.pair u (place-get c (spot_of c p) f.within f.pair f.here) (found-equal hash eq c k p f.pair f f.here)
+
+    standing-pair : standing.0 ≡ f.pair
+    standing-pair = let s : Some standing.0 ≡ Some f.pair = sym standing.1 ∙ place-get c (spot_of c p) f.within f.pair f.here in cc
+
+    abbrev Written : Contents (K × V) S
+    Written = with_write_at with_pair_value c p w
+
+    rewritten : FindsInstead eq (entries c) k (Some (f.pair.0, w)) (entries Written)
+    rewritten = subst (λ q. FindsInstead eq (entries c) k (Some (q.0, w)) (entries Written)) standing-pair
+        (finds-written laws (entries c) (entries Written) k (index_of c p) w u standing (value-written laws c p f.within k u standing w).exact (value-unique laws c p f.within k u standing w))
+
+    here : find eq (entries c) k ≡ Some f.pair
+    here = standing.2 ∙ ap (λ q. Some q) standing-pair
+
+    -- what look-ups find if the closure returned false and left w
+    pub tested-kept : FnOnceReturnsAtMut g x f.pair.1 false w → FindsAfterTest eq g x (entries c) k (find eq (entries c) k) None (entries Written)
+    tested-kept met = subst (λ o. FindsAfterTest eq g x (entries c) k o None (entries Written)) (sym here) (w, met, rewritten)
+
+    -- what look-ups find if the closure returned true and left w, and q was removed
+    pub tested-removed : FnOnceReturnsAtMut g x f.pair.1 true w → (q : K × V) → q ≡ (f.pair.0, w) → (d : Contents (K × V) S) → FindsInstead eq (entries Written) q.0 None (entries d) → FindsAfterTest eq g x (entries c) k (find eq (entries c) k) (Some q) (entries d)
+    tested-removed met q is d gone =
+        let same : eq k f.pair.0 ≡ true = found-equal hash eq c k p f.pair f f.here in
+        let taken : FindsInstead eq (entries Written) f.pair.0 None (entries d) = subst (λ z. FindsInstead eq (entries Written) z None (entries d)) (ap (λ z. z.0) is) gone in
+        let none = finds-removed-after laws (entries c) (entries Written) (entries d) k (Some (f.pair.0, w)) rewritten (finds-equal laws (entries Written) (entries d) k f.pair.0 same taken) in
+        subst (λ o. FindsAfterTest eq g x (entries c) k o (Some q) (entries d)) (sym here)
+        (subst (λ z. FindsAfterTest eq g x (entries c) k (Some f.pair) (Some z) (entries d)) (sym is) (refl, met, none))

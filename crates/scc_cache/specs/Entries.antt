@@ -17,6 +17,8 @@ use Rattle.scc_buckets.specs.declared.place.Place.{Place}
 use Rattle.scc_table.specs.Placed.{entry_of, IsPlace-with_write_at}
 use Rattle.scc_table.specs.Places.{IsPlace, spot_of}
 use Rattle.scc_common.specs.declared.errors.InsertError.{InsertError}
+use Rattle.scc_fallible.specs.declared.TryInsertError.{TryInsertError}
+use Rattle.scc_fallible.specs.declared.TryInsertError.TheVariants.{Failed, Memory as NoMemory}
 use Rattle.scc_common.specs.declared.guard.Guard as guard
 use Rattle.scc_cache.specs.CacheSteps.{ChangesLists, IsAbsent, IsPreparedForPut, PutsNew, list_number}
 use Rattle.scc_cache.specs.Caches.{Cached}
@@ -152,6 +154,19 @@ module _ {G N K V S T : Type 0} {d : guard.Ghosts G (Cached (K × V) S)} {g : eq
   abbrev pub RefusesSome : HeldEntry G N K V S T d g h b w → (K → V → Type 0) → InsertError K V → Type 0
   RefusesSome (Occupied o) P r = ⊥
   RefusesSome (Vacant e) P r = (bucket_count (d.inner e.guard).contents ≡ 0) × ((v : V) × P e.key v × (r ≡ Memory (e.key, v)))
+
+  -- the closure that was to make the value for the entry e failed with x
+  pub record FailsAtVacant {X : Type 0} (e : HeldEntry G N K V S T d g h b w) (Q : K → X → Type 0) (x : X) : Type 0 where
+    -- the closure is called only at a vacant entry
+    pub vacant : IsVacant e
+    -- Q holds of the key and the error
+    pub failed : Q (entry_key e) x
+
+  -- a value that a closure makes wasn't put in: at a vacant entry the closure failed, and Q holds of the key and the
+  -- error, or memory was refused as for the put of a value for which P holds
+  abbrev pub FailsOrRefuses : {X : Type 0} → HeldEntry G N K V S T d g h b w → (K → V → Type 0) → (K → X → Type 0) → TryInsertError K V X → Type 0
+  FailsOrRefuses e P Q (Failed x) = FailsAtVacant e Q x
+  FailsOrRefuses e P Q (NoMemory p) = RefusesSome e P (Memory p)
 
   -- memory is refused only at a vacant entry of a cache without an array: the key comes back with v
   abbrev pub Refuses : HeldEntry G N K V S T d g h b w → V → InsertError K V → Type 0

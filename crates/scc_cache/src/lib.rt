@@ -1,16 +1,13 @@
 //! A hash cache for one owner, over the table of `scc_table`.
 #![tactic(auto)]
 
-ghost use Rattle.scc_cache.specs.CacheSteps.{AnswersOn, IsAbsent, IsPreparedForPut, IsPresent, Puts, Removes};
-ghost use Rattle.scc_cache.specs.CacheWalks.{RemovesIf};
+ghost use Rattle.scc_cache.specs.CacheSteps.{AnswersOn, IsAbsent, IsPresent};
 ghost use Rattle.scc_cache.specs.Caches.{IsCacheState};
-ghost use Rattle.scc_cache.specs.LookUps.{FindsAfterPut};
-ghost use Rattle.scc_cache.specs.Relocations.{RelocatesNoneWithin, RelocatesTwoWithin};
-ghost use Rattle.scc_common.specs.Contents.{entries, bucket_count, minimum_of, pending_of, waiting_of, key_hash, hash_in, IsUnmarked};
-ghost use Rattle.scc_common.specs.Pairs.{FindsInstead};
+ghost use Rattle.scc_cache.specs.KeyCalls.{PutsByRule, RemovesByRule, RemovesIfByRule};
+ghost use Rattle.scc_common.specs.Contents.{entries, bucket_count, minimum_of, pending_of, key_hash, hash_in};
 ghost use Rattle.std.specs.Borrow.{Bor};
 ghost use Rattle.std.specs.Fn.{FnOnceTakesAtMut};
-ghost use Rattle.std.specs.Prelude.{◌≡◌, ◌≤◌, ◌<◌, ◌*◌, ◌↔◌, [], false, length, None, Some, IsTrue, IsOk, IfOk, OnOk, OnSome, MatchOption};
+ghost use Rattle.std.specs.Prelude.{◌≡◌, ◌≤◌, ◌*◌, ◌↔◌, [], length, IsTrue, MatchOption};
 
 pub mod borrowed;
 pub mod held;
@@ -157,17 +154,7 @@ impl<K: Eq + Hash, V, H: BuildHasher> Owned<K, V, H> {
     /// refused doubling away.
     #[inline(always)]
     pub fn put_sync(&mut self, k: K, v: V) -> Result<EvictedEntry<K, V>, InsertError<K, V>>
-        ensures step { Puts (hash_in ⟦<H as Hashes<K>>⟧.hash_of self.old.contents) K.eq self.old (k, v) result self.new }
-        ensures finds { IfOk result (λ out. FindsAfterPut K.eq (entries self.old.contents) (k, v) out
-            (entries self.new.contents)) }
-        ensures succeeds { IsAbsent (hash_in ⟦<H as Hashes<K>>⟧.hash_of self.old.contents) K.eq self.old.contents k
-            → 0 < bucket_count self.old.contents → IsOk result }
-        ensures state { IsCacheState K.eq (hash_in ⟦<H as Hashes<K>>⟧.hash_of self.new.contents) self.new }
-        ensures relocates { OnOk result (RelocatesTwoWithin (hash_in ⟦<H as Hashes<K>>⟧.hash_of self.old.contents k)
-            self.old.contents self.new.contents) }
-        ensures once { IsPreparedForPut (hash_in ⟦<H as Hashes<K>>⟧.hash_of self.old.contents) self.old k
-            → bucket_count self.new.contents ≡ bucket_count self.old.contents }
-        ensures unmarked { OnOk result (IsUnmarked self.new.contents) }
+        ensures { PutsByRule K.eq ⟦<H as Hashes<K>>⟧.hash_of self.old (k, v) result self.new }
     {
         let hash = self.table.hash(&k);
         match self.find(hash, &k) {
@@ -183,13 +170,7 @@ impl<K: Eq + Hash, V, H: BuildHasher> Owned<K, V, H> {
     /// left, the array may shrink, and then every bucket of the new array waits.
     #[inline(always)]
     pub fn remove_sync(&mut self, k: &K) -> Option<(K, V)>
-        ensures step { Removes (hash_in ⟦<H as Hashes<K>>⟧.hash_of self.old.contents) K.eq self.old k.now result
-            self.new }
-        ensures finds { OnSome result (FindsInstead K.eq (entries self.old.contents) k.now None
-            (entries self.new.contents)) }
-        ensures state { IsCacheState K.eq (hash_in ⟦<H as Hashes<K>>⟧.hash_of self.new.contents) self.new }
-        ensures relocates { RelocatesNoneWithin (λ p. hash_in ⟦<H as Hashes<K>>⟧.hash_of self.old.contents p.0)
-            self.old.contents self.new.contents }
+        ensures { RemovesByRule K.eq ⟦<H as Hashes<K>>⟧.hash_of self.old k.now result self.new }
     {
         let hash = self.table.hash(k);
         match self.find(hash, k) {
@@ -206,12 +187,7 @@ impl<K: Eq + Hash, V, H: BuildHasher> Owned<K, V, H> {
     pub fn remove_if_sync<F: FnOnce(&mut V) -> bool>(&mut self, k: &K, f: F) -> Option<(K, V)>
         requires { (p : K × V) → IsPresent (hash_in ⟦<H as Hashes<K>>⟧.hash_of self.old.contents) K.eq
             self.old.contents k.now p → FnOnceTakesAtMut F.FnOnce f p.1 }
-        ensures step { RemovesIf (hash_in ⟦<H as Hashes<K>>⟧.hash_of self.old.contents) K.eq F.FnOnce f self.old k.now
-            result self.new }
-        ensures state { IsCacheState K.eq (hash_in ⟦<H as Hashes<K>>⟧.hash_of self.new.contents) self.new }
-        ensures relocates { RelocatesNoneWithin (λ p. hash_in ⟦<H as Hashes<K>>⟧.hash_of self.old.contents p.0)
-            self.old.contents self.new.contents }
-        ensures rests { result ≡ None → waiting_of self.new.contents ≡ waiting_of self.old.contents }
+        ensures { RemovesIfByRule K.eq ⟦<H as Hashes<K>>⟧.hash_of F.FnOnce f self.old k.now result self.new }
     {
         let hash = self.table.hash(k);
         let place = self.find(hash, k)?;

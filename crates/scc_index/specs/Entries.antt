@@ -1,7 +1,7 @@
 -- The words of an entry's contracts. An entry holds its index by a guard, which is a `&mut` in the owned form.
 pub use Rattle.scc_index.specs.declared.held.HeldEntry.TheVariants.{Occupied, Vacant}
 pub use Rattle.scc_common.specs.declared.errors.InsertError.TheVariants.{Exists, Memory}
-use Rattle.std.specs.Prelude.{◌≡◌, ℕ, Bool, true, List, ◌∷◌, ◌++◌, Option, None, Some, Result, IfOk, IfErr, ⊤}
+use Rattle.std.specs.Prelude.{◌≡◌, ℕ, Bool, true, List, ◌∷◌, ◌++◌, Option, None, Some, Result, Ok, Err, IfOk, IfErr, ⊤}
 use Rattle.std.specs.Result.{OnErr}
 use Rattle.std.specs.Borrow.{Fml, RattleType, Bor, MutBor, RestsIfErr, RestsIfNone}
 use Rattle.std.specs.HashMap.Lent.{HashMembers}
@@ -17,6 +17,8 @@ use Rattle.scc_table.specs.Placed.{entry_of, front_of, back_of, IsWrittenAt, IsP
 use Rattle.scc_table.specs.Relocations.{Relocates, RelocatesTwo}
 use Rattle.scc_common.specs.Steps.{FirstArrayWhenDue, GrowsForInsertion, GrowsWhenDue, IsPreparedFor, IsUnchanged, RaisesWhenDue}
 use Rattle.scc_common.specs.declared.errors.InsertError.{InsertError}
+use Rattle.scc_fallible.specs.declared.TryInsertError.{TryInsertError}
+use Rattle.scc_fallible.specs.declared.TryInsertError.TheVariants.{Failed, Memory as NoMemory}
 use Rattle.scc_common.specs.declared.guard.Guard as guard
 use Rattle.scc_index.specs.Lends.{index_row}
 use Rattle.scc_index.specs.declared.held.HeldOccupied.{HeldOccupied}
@@ -39,6 +41,13 @@ module _ {K V S : Type 0} where
     pub raised : RaisesWhenDue hash (λ p. p.0) c k d
     pub undone : GrowsWhenDue hash (λ p. p.0) c k d
     pub relocates : Relocates c d
+
+  -- d is c after an insertion of the new key k, whose value a closure makes, returned r without an entry: unchanged if
+  -- the closure failed, else as after an insertion that was refused memory
+  abbrev pub RestsTried : {X O : Type 0} → (K → ℕ) → Contents (K × V) S → K → Result O (TryInsertError K V X) → Contents (K × V) S → Type 0
+  RestsTried hash c k (Ok o) d = ⊤
+  RestsTried hash c k (Err (NoMemory p)) d = RestsRefused hash c k d
+  RestsTried hash c k (Err (Failed x)) d = d ≡ c
 
 module _ {G N K V S T : Type 0} {d : guard.Ghosts G (Contents (K × V) S)} {g : eq.Ghosts K} {h : hash.Ghosts K} {b : builder.Ghosts S T} {w : hasher.Ghosts T} where
   -- the index that the entry holds
@@ -149,6 +158,13 @@ module _ {G N K V S T : Type 0} {d : guard.Ghosts G (Contents (K × V) S)} {g : 
   abbrev pub RefusesSome : HeldEntry G N K V S T d g h b w → (K → V → Type 0) → InsertError K V → Type 0
   RefusesSome e P r = (v : V) × P (entry_key e) v × (r ≡ Memory (entry_key e, v))
 
+  -- the closure that was to make the value for the entry e failed with x
+  pub record FailsAtVacant {X : Type 0} (e : HeldEntry G N K V S T d g h b w) (Q : K → X → Type 0) (x : X) : Type 0 where
+    -- the closure is called only at a vacant entry
+    pub vacant : IsVacant e
+    -- Q holds of the key and the error
+    pub failed : Q (entry_key e) x
+
   module _ (same : K → K → Bool) (hash_of : S → K → ℕ) where
     -- the contract of `insert_entry` of the vacant entry e: with the value v it returns `result`
     pub record InsertsAtVacant (e : HeldVacant G N K V S T d g h b w) (v : V) (result : Result (HeldOccupied G N K V S T d g h b w) (InsertError K V)) : Type 0 where
@@ -182,6 +198,14 @@ module _ {G N K V S T : Type 0} {d : guard.Ghosts G (Contents (K × V) S)} {g : 
       -- no two keys are equal
       pub unique : IfOk result (λ o. IsUnique same (occupied_index o))
 
+    -- the contract of an insertion through the entry e of a value that a closure makes, or fails to make: it returns
+    -- `result`. P holds of a key and a value that the closure makes of it, Q of a key and an error with which it fails.
+    -- If the closure doesn't fail, the call is the insertion of a value with P
+    abbrev pub TriesThrough : {X : Type 0} → HeldEntry G N K V S T d g h b w → (K → V → Type 0) → (K → X → Type 0) → Result (HeldOccupied G N K V S T d g h b w) (TryInsertError K V X) → Type 0
+    TriesThrough e P Q (Ok o) = InsertsThrough e (OrInsertsSome e P) (RefusesSome e P) (Ok o)
+    TriesThrough e P Q (Err (NoMemory p)) = InsertsThrough e (OrInsertsSome e P) (RefusesSome e P) (Err (Memory p))
+    TriesThrough e P Q (Err (Failed x)) = FailsAtVacant e Q x
+
   module _ {F : Type 0} (f : Once F (Bor V × Unit {0}) V) (x : F) where
     -- f may be called on the value
     abbrev pub TakesEntry : HeldEntry G N K V S T d g h b w → Type 0
@@ -209,6 +233,12 @@ module _ (K V S T : RattleType) (key : HashMembers K.Denot) (build : builder.Gho
   abbrev pub rests_if_refused : {E N : Type 0} {d : guard.Ghosts (MutBor (Contents (K.Denot × V.Denot) S.Denot)) (Contents (K.Denot × V.Denot) S.Denot)} {g : eq.Ghosts K.Denot} {h : hash.Ghosts K.Denot} {b : builder.Ghosts S.Denot T.Denot} {w : hasher.Ghosts T.Denot}
       → MutBor (Contents (K.Denot × V.Denot) S.Denot) → K.Denot → Result (Borrowed N d g h b w) E → Fml
   rests_if_refused m k r = RestsIfErr (index_row K V S T key build feed) m (λ o. o.guard.ghost_name) r (RestsRefused (key_hash build feed key.hash_input m.now) m.now k)
+
+  -- if r has no entry, because the closure that makes the value of the new key k failed, or memory was refused, the
+  -- index behind m is unchanged, but for the waiting buckets and the note if memory was refused
+  abbrev pub rests_if_tried : {X N : Type 0} {d : guard.Ghosts (MutBor (Contents (K.Denot × V.Denot) S.Denot)) (Contents (K.Denot × V.Denot) S.Denot)} {g : eq.Ghosts K.Denot} {h : hash.Ghosts K.Denot} {b : builder.Ghosts S.Denot T.Denot} {w : hasher.Ghosts T.Denot}
+      → MutBor (Contents (K.Denot × V.Denot) S.Denot) → K.Denot → Result (Borrowed N d g h b w) (TryInsertError K.Denot V.Denot X) → Fml
+  rests_if_tried m k r = RestsIfErr (index_row K V S T key build feed) m (λ o. o.guard.ghost_name) r (RestsTried (key_hash build feed key.hash_input m.now) m.now k r)
 
   -- if r has no entry, the index behind m is unchanged
   abbrev pub rests_if_none : {N : Type 0} {d : guard.Ghosts (MutBor (Contents (K.Denot × V.Denot) S.Denot)) (Contents (K.Denot × V.Denot) S.Denot)} {g : eq.Ghosts K.Denot} {h : hash.Ghosts K.Denot} {b : builder.Ghosts S.Denot T.Denot} {w : hasher.Ghosts T.Denot}

@@ -2,7 +2,8 @@
 use Rattle.std.proofs.Common.{◌≡◌, ℕ, Bool, Some, Result, Ok, Err, refl, sym, ap, subst, ◌∙◌}
 use mathlib.Core.Option.{some}
 use Rattle.std.specs.Borrow.{MutBor}
-use Rattle.std.specs.Prelude.{IfOk, IfErr}
+use Rattle.std.specs.Prelude.{IfOk, IfErr, ⊤}
+use Rattle.std.specs.Result.{OnErr}
 use Rattle.std.specs.Cmp.{IsEquivalence}
 use Rattle.std.specs.List.{IsDistinct, slice_get}
 use Rattle.std.specs.Map.{keys_of}
@@ -18,13 +19,15 @@ use Rattle.scc_table.specs.Places.{with_write_at}
 use Rattle.scc_table.specs.Relocations.{Relocates, RelocatesTwo}
 use Rattle.scc_buckets.specs.declared.place.Place.{Place}
 use Rattle.scc_common.specs.declared.errors.InsertError.{InsertError}
+use Rattle.scc_fallible.specs.declared.TryInsertError.{TryInsertError}
+use Rattle.scc_fallible.specs.declared.TryInsertError.TheVariants.{Failed, Memory as NoMemory}
 use Rattle.scc_common.specs.declared.guard.Guard as guard
 use Rattle.scc_table.proofs.AtPlaces.{place-found}
 use Rattle.scc_buckets.proofs.PairSplits.{set_value-at, without-at}
 use Rattle.scc_buckets.proofs.PairWrites.{IsPlaceOf}
 use Rattle.scc_table.proofs.AtPlaces.{place-prop, entry_of-is, written-there, put-there}
 use Rattle.scc_table.proofs.Relocations.{waiting-write}
-use Rattle.scc_map.specs.Entries.{Occupied, Vacant, Memory, entry_key, occupied_pair, IsOccupiedAt, IsGrownFor, InsertsAtVacant, IsWritten, IsInserted, OrInserts, OrInsertsSome, written_map, still_within, with_value}
+use Rattle.scc_map.specs.Entries.{Occupied, Vacant, Memory, entry_guard, entry_key, occupied_pair, FailsAtVacant, IsOccupiedAt, IsGrownFor, InsertsAtVacant, InsertsThrough, IsWritten, IsInserted, OrInserts, OrInsertsSome, RefusesSome, TriesThrough, written_map, still_within, with_value}
 use Rattle.scc_map.specs.declared.held.HeldOccupied.{HeldOccupied}
 use Rattle.scc_map.specs.declared.held.HeldEntry.{HeldEntry}
 use Rattle.scc_map.specs.declared.held.HeldVacant.{HeldVacant}
@@ -158,3 +161,58 @@ map-ok P Q (Err e) f p = tt
 pub map-err : {A B : Type 0} (P Q : B → Type 0) (r : Result A B) → ((e : B) → P e → Q e) → IfErr r P → IfErr r Q
 map-err P Q (Ok a) f p = tt
 map-err P Q (Err e) f p = f e p
+
+pub any-err : {A B : Type 0} (r : Result A B) → OnErr r ⊤
+any-err (Ok a) = tt
+any-err (Err e) = tt
+
+module _ {G N K V S T : Type 0} {d : guard.Ghosts G (Contents (K × V) S)} {g : eq.Ghosts K} {h : hash.Ghosts K} {b : builder.Ghosts S T} {w : hasher.Ghosts T} where
+  some-as : (P P' : K → V → Type 0) (e : HeldEntry G N K V S T d g h b w) (o : HeldOccupied G N K V S T d g h b w) → ((k : K) (v : V) → P' k v → P k v) → OrInsertsSome e P' o → OrInsertsSome e P o
+  some-as P P' (Occupied p) o f i = i
+  some-as P P' (Vacant x) o f i = (i.0, f x.key i.0 i.1, i.2)
+
+  -- the insertion of v through a vacant entry is the insertion of a value for which P holds, if P holds of v
+  pub through-vacant : (same : K → K → Bool) (hash_of : S → K → ℕ) (P : K → V → Type 0) (e : HeldEntry G N K V S T d g h b w) (x : HeldVacant G N K V S T d g h b w) (v : V) (r : Result (HeldOccupied G N K V S T d g h b w) (InsertError K V)) → e ≡ Vacant x → P x.key v → InsertsAtVacant same hash_of x v r → InsertsThrough same hash_of e (OrInsertsSome e P) (RefusesSome e P) r
+  through-vacant same hash_of P e x v r is gave put =
+      subst (λ z. InsertsThrough same hash_of z (OrInsertsSome z P) (RefusesSome z P) r) (sym is) record {
+        entry = map-ok (IsInserted x v) (OrInsertsSome (Vacant x) P) r (λ o i. (v, gave, i)) put.inserted;
+        refused = map-err (λ y. y ≡ Memory (x.key, v)) (RefusesSome (Vacant x) P) r (λ y i. (v, gave, i)) put.refused;
+        vacant = any-err r;
+        full = put.full;
+        growth = put.growth;
+        relocates = both-ok _ _ r put.relocates put.two;
+        unique = put.unique;
+      }
+
+  -- an insertion of a value that a closure makes meets the contract for P and Q if it meets that for P' and Q', which
+  -- imply them
+  pub tries-as : {X : Type 0} {P' : K → V → Type 0} {Q' : K → X → Type 0} (same : K → K → Bool) (hash_of : S → K → ℕ) (P : K → V → Type 0) (Q : K → X → Type 0) (e : HeldEntry G N K V S T d g h b w) (r : Result (HeldOccupied G N K V S T d g h b w) (TryInsertError K V X)) → TriesThrough same hash_of e P' Q' r
+      → ((k : K) (v : V) → P' k v → P k v) → ((k : K) (x : X) → Q' k x → Q k x) → TriesThrough same hash_of e P Q r
+  tries-as {P' = P'} same hash_of P Q e (Ok o) t f g = record {
+    entry = some-as P P' e o f t.entry;
+    refused = tt;
+    vacant = t.vacant;
+    full = t.full;
+    growth = t.growth;
+    relocates = t.relocates;
+    unique = t.unique;
+  }
+  tries-as same hash_of P Q e (Err (NoMemory p)) t f g = record {
+    entry = tt;
+    refused = (t.refused.0, f (entry_key e) t.refused.0 t.refused.1, t.refused.2);
+    vacant = t.vacant;
+    full = t.full;
+    growth = t.growth;
+    relocates = t.relocates;
+    unique = t.unique;
+  }
+  tries-as same hash_of P Q e (Err (Failed x)) t f g = record { vacant = t.vacant; failed = g (entry_key e) x t.failed }
+
+  -- if a closure fails at a vacant entry, its error comes back
+  pub fails-at : {X : Type 0} (Q : K → X → Type 0) (e : HeldEntry G N K V S T d g h b w) (x : HeldVacant G N K V S T d g h b w) (y : X) → e ≡ Vacant x → Q x.key y → FailsAtVacant e Q y
+  fails-at Q e x y is gave = subst (λ z. FailsAtVacant z Q y) (sym is) (record { vacant = tt; failed = gave })
+
+module _ {N K V S T : Type 0} {d : guard.Ghosts (MutBor (Contents (K × V) S)) (Contents (K × V) S)} {g : eq.Ghosts K} {h : hash.Ghosts K} {b : builder.Ghosts S T} {w : hasher.Ghosts T} where
+  -- the map that a vacant entry borrows
+  pub vacant-now : (e : HeldEntry (MutBor (Contents (K × V) S)) N K V S T d g h b w) (x : HeldVacant (MutBor (Contents (K × V) S)) N K V S T d g h b w) → e ≡ Vacant x → x.guard.now ≡ (entry_guard e).now
+  vacant-now e x is = ap (λ (z : HeldEntry (MutBor (Contents (K × V) S)) N K V S T d g h b w). (entry_guard z).now) (sym is)

@@ -1,7 +1,7 @@
 -- The words of an entry's contracts. An entry holds its map by a guard, which is a `&mut` in the owned form.
 pub use Rattle.scc_map.specs.declared.held.HeldEntry.TheVariants.{Occupied, Vacant}
 pub use Rattle.scc_common.specs.declared.errors.InsertError.TheVariants.{Exists, Memory}
-use Rattle.std.specs.Prelude.{◌≡◌, ℕ, Bool, true, List, ◌∷◌, ◌++◌, Option, None, Some, Result, IfOk, IfErr, ⊤}
+use Rattle.std.specs.Prelude.{◌≡◌, ℕ, Bool, true, List, ◌∷◌, ◌++◌, Option, None, Some, Result, Ok, Err, IfOk, IfErr, ⊤}
 use Rattle.std.specs.Result.{OnErr}
 use Rattle.std.specs.Borrow.{Fml, RattleType, MutBor, Lends, RestsIfErr, RestsIfNone}
 use Rattle.std.specs.HashMap.Lent.{HashMembers}
@@ -22,6 +22,8 @@ use Rattle.scc_table.specs.Placed.{IsPlace-with_write_at}
 use Rattle.scc_table.specs.Places.{with_write_at}
 use Rattle.scc_table.specs.Relocations.{Relocates, RelocatesTwo}
 use Rattle.scc_common.specs.declared.errors.InsertError.{InsertError}
+use Rattle.scc_fallible.specs.declared.TryInsertError.{TryInsertError}
+use Rattle.scc_fallible.specs.declared.TryInsertError.TheVariants.{Failed, Memory as NoMemory}
 use Rattle.scc_common.specs.declared.guard.Guard as guard
 use Rattle.scc_map.specs.Lends.{map_row}
 use Rattle.scc_map.specs.contracts.held.HeldOccupied.{the_row}
@@ -48,6 +50,13 @@ module _ {K V S : Type 0} where
     pub once : IsPreparedFor hash (λ p. p.0) c k → bucket_count d ≡ bucket_count c
     pub relocates : Relocates c d
     pub unique : IsUnique same d
+
+  -- d is c after an insertion of the new key k, whose value a closure makes, returned r without an entry: unchanged if
+  -- the closure failed, else as after an insertion that was refused memory
+  abbrev pub RestsTried : {X O : Type 0} → (K → K → Bool) → (K → ℕ) → Contents (K × V) S → K → Result O (TryInsertError K V X) → Contents (K × V) S → Type 0
+  RestsTried same hash c k (Ok o) d = ⊤
+  RestsTried same hash c k (Err (NoMemory p)) d = RestsRefused same hash c k d
+  RestsTried same hash c k (Err (Failed x)) d = d ≡ c
 
 module _ {G N K V S T : Type 0} {d : guard.Ghosts G (Contents (K × V) S)} {g : eq.Ghosts K} {h : hash.Ghosts K} {b : builder.Ghosts S T} {w : hasher.Ghosts T} where
   -- the map that the entry holds
@@ -178,6 +187,13 @@ module _ {G N K V S T : Type 0} {d : guard.Ghosts G (Contents (K × V) S)} {g : 
   abbrev pub RefusesSome : HeldEntry G N K V S T d g h b w → (K → V → Type 0) → InsertError K V → Type 0
   RefusesSome e P r = (v : V) × P (entry_key e) v × (r ≡ Memory (entry_key e, v))
 
+  -- the closure that was to make the value for the entry e failed with x
+  pub record FailsAtVacant {X : Type 0} (e : HeldEntry G N K V S T d g h b w) (Q : K → X → Type 0) (x : X) : Type 0 where
+    -- the closure is called only at a vacant entry
+    pub vacant : IsVacant e
+    -- Q holds of the key and the error
+    pub failed : Q (entry_key e) x
+
   module _ (same : K → K → Bool) (hash_of : S → K → ℕ) where
     -- the contract of `insert_entry` of the vacant entry e: with the value v it returns `result`
     pub record InsertsAtVacant (e : HeldVacant G N K V S T d g h b w) (v : V) (result : Result (HeldOccupied G N K V S T d g h b w) (InsertError K V)) : Type 0 where
@@ -214,6 +230,14 @@ module _ {G N K V S T : Type 0} {d : guard.Ghosts G (Contents (K × V) S)} {g : 
       pub relocates : IfOk result (RelocatesThrough (hash_in hash_of (d.inner (entry_guard e))) e)
       -- no two keys are equal
       pub unique : IfOk result (λ o. IsUnique same (occupied_map o))
+
+    -- the contract of an insertion through the entry e of a value that a closure makes, or fails to make: it returns
+    -- `result`. P holds of a key and a value that the closure makes of it, Q of a key and an error with which it fails.
+    -- If the closure doesn't fail, the call is the insertion of a value with P
+    abbrev pub TriesThrough : {X : Type 0} → HeldEntry G N K V S T d g h b w → (K → V → Type 0) → (K → X → Type 0) → Result (HeldOccupied G N K V S T d g h b w) (TryInsertError K V X) → Type 0
+    TriesThrough e P Q (Ok o) = InsertsThrough e (OrInsertsSome e P) (RefusesSome e P) (Ok o)
+    TriesThrough e P Q (Err (NoMemory p)) = InsertsThrough e (OrInsertsSome e P) (RefusesSome e P) (Err (Memory p))
+    TriesThrough e P Q (Err (Failed x)) = FailsAtVacant e Q x
 
   -- the guard of the entry's map
   abbrev pub replaced_guard : HeldReplace G N K V S T d g h b w → G
@@ -252,6 +276,12 @@ module _ (K V S T : RattleType) (key : HashMembers K.Denot) (build : builder.Gho
   abbrev pub rests_if_refused : {E N : Type 0} {d : guard.Ghosts (MutBor (Contents (K.Denot × V.Denot) S.Denot)) (Contents (K.Denot × V.Denot) S.Denot)} {g : eq.Ghosts K.Denot} {h : hash.Ghosts K.Denot} {b : builder.Ghosts S.Denot T.Denot} {w : hasher.Ghosts T.Denot}
       → MutBor (Contents (K.Denot × V.Denot) S.Denot) → K.Denot → Result (Borrowed N d g h b w) E → Fml
   rests_if_refused m k r = RestsIfErr (map_row K V S T key build feed) m (λ o. o.guard.ghost_name) r (λ n. RestsRefused key.eq (key_hash build feed key.hash_input m.now) m.now k n)
+
+  -- if r has no entry, because the closure that makes the value of the new key k failed, or memory was refused, the map
+  -- behind m is unchanged, or was resized once for the insertion
+  abbrev pub rests_if_tried : {X N : Type 0} {d : guard.Ghosts (MutBor (Contents (K.Denot × V.Denot) S.Denot)) (Contents (K.Denot × V.Denot) S.Denot)} {g : eq.Ghosts K.Denot} {h : hash.Ghosts K.Denot} {b : builder.Ghosts S.Denot T.Denot} {w : hasher.Ghosts T.Denot}
+      → MutBor (Contents (K.Denot × V.Denot) S.Denot) → K.Denot → Result (Borrowed N d g h b w) (TryInsertError K.Denot V.Denot X) → Fml
+  rests_if_tried m k r = RestsIfErr (map_row K V S T key build feed) m (λ o. o.guard.ghost_name) r (RestsTried key.eq (key_hash build feed key.hash_input m.now) m.now k r)
 
   -- if r has no entry, the map behind m is unchanged
   abbrev pub rests_if_none : {N : Type 0} {d : guard.Ghosts (MutBor (Contents (K.Denot × V.Denot) S.Denot)) (Contents (K.Denot × V.Denot) S.Denot)} {g : eq.Ghosts K.Denot} {h : hash.Ghosts K.Denot} {b : builder.Ghosts S.Denot T.Denot} {w : hasher.Ghosts T.Denot}

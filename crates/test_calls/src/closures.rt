@@ -1,7 +1,7 @@
 // How often each call of a map calls its closure.
 use crate::expect::expect_eq;
-use scc::Verdict;
 use scc::hash_map::Owned;
+use scc::{TryInsertError, Verdict};
 use std::process::Abort;
 use test_kit::zero::Zero;
 
@@ -144,6 +144,48 @@ fn map_entries_call_only_where_the_key_is_missing(rt: HostRuntime) {
         (insert(&mut map, 1), insert(&mut map, 1)),
         ((Some(7), 1), (Some(7), 0)),
     );
+}
+
+// Tries to insert a key with closures in two ways, which fail with 7 if `fails`, else make the value 9. Returns how
+// many of the calls returned an entry and how many the error, how often the closures were called, and the length.
+fn try_insert(map: &mut Map, key: u64, fails: bool) -> (u64, u64, u64, usize) {
+    let mut calls = 0u64;
+    let made = if fails { Err(7u64) } else { Ok(9u64) };
+    let with = map
+        .entry_sync(key)
+        .or_try_insert_with(|| {
+            calls = calls.wrapping_add(1);
+            made
+        })
+        .map(|entry| *entry.get());
+    let with_key = map
+        .entry_sync(key)
+        .or_try_insert_with_key(|_| {
+            calls = calls.wrapping_add(1);
+            made
+        })
+        .map(|entry| *entry.get());
+    let mut entries = 0u64;
+    let mut errors = 0u64;
+    for answer in [with, with_key] {
+        match answer {
+            Ok(9) => entries = entries.wrapping_add(1),
+            Err(TryInsertError::Failed(7)) => errors = errors.wrapping_add(1),
+            _ => {}
+        }
+    }
+    (entries, errors, calls, map.len())
+}
+
+#[test]
+fn map_entries_try_only_where_the_key_is_missing(rt: HostRuntime) {
+    let mut map = Owned::with_hasher(rt.alloc(), Zero);
+    let tries = [
+        try_insert(&mut map, 1, true),
+        try_insert(&mut map, 1, false),
+        try_insert(&mut map, 1, true),
+    ];
+    expect_eq(&rt, tries, [(0, 2, 2, 0), (2, 0, 1, 1), (2, 0, 0, 1)]);
 }
 
 // Removes the key if a condition returns `holds`. Returns the result, and how often the condition was called.

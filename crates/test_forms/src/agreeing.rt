@@ -72,6 +72,9 @@ fn after_adding(asked: &Asked, way: Way, kind: Kind, old: Seen) -> (Seen, Answer
 
 fn add(list: &mut List, asked: &Asked, way: Way, answer: Answer) -> Result<bool, AllocError> {
     let Some(old) = list.find(asked.number) else {
+        if way == Way::OrFail {
+            return Ok(answer == Answer::Failed(asked.number));
+        }
         return add_missing(list, asked, way, answer);
     };
     let (new, wanted) = after_adding(asked, way, list.kind(), old);

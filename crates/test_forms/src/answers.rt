@@ -2,6 +2,7 @@
 
 use crate::numbered::{Numbered, Seen, keeps, raise, seen, seen_key};
 use scc_common::{InsertError, KeyError, Verdict};
+use scc_fallible::TryInsertError;
 
 /// A kind of container.
 #[derive(Clone, Copy, Debug, PartialEq)]
@@ -37,6 +38,8 @@ pub enum Answer {
     Wrong,
     /// Memory was refused. The pair came back, or the value with the key of its entry.
     Refused(Option<Seen>),
+    /// The closure that makes the value failed with this number.
+    Failed(u64),
     /// An equal key is there. The supplied pair or key came back.
     Exists(Seen),
     /// The pair was added, and evicted the given pair, if any.
@@ -66,6 +69,14 @@ pub fn refused<K: Numbered + Drop, V: Numbered + Drop>(error: InsertError<K, V>)
     match error {
         InsertError::Exists(pair) => Answer::Exists(seen(&pair.0, &pair.1)),
         InsertError::Memory(pair) => Answer::Refused(Some(seen(&pair.0, &pair.1))),
+    }
+}
+
+/// Returns the answer for an insertion that failed, or whose value wasn't made.
+pub fn untried<K: Numbered + Drop, V: Numbered + Drop>(error: TryInsertError<K, V, u64>) -> Answer {
+    match error {
+        TryInsertError::Failed(number) => Answer::Failed(number),
+        TryInsertError::Memory(pair) => Answer::Refused(Some(seen(&pair.0, &pair.1))),
     }
 }
 

@@ -49,16 +49,19 @@ pub enum What {
 }
 
 /// The calls that remove at most one pair.
-pub const GENTLE: [What; 37] = [
+pub const GENTLE: [What; 40] = [
     What::Add(Way::Insert),
     What::Add(Way::Upsert),
     What::Add(Way::Replace),
     What::Add(Way::OrInsert),
     What::Add(Way::OrInsertWith),
     What::Add(Way::OrInsertWithKey),
+    What::Add(Way::OrTryInsertWith),
+    What::Add(Way::OrTryInsertWithKey),
     What::Add(Way::OrDefault),
     What::Add(Way::InsertEntry),
     What::Add(Way::Vacant),
+    What::Add(Way::OrFail),
     What::Replace,
     What::Update,
     What::Modify,
@@ -107,9 +110,9 @@ pub const LOOKS: [What; 8] = [
 /// The number of slots that a test reserves.
 pub const SLOTS: usize = 300;
 
-/// Returns the way to add with the number `number` modulo 9.
+/// Returns the way to add with the number `number` modulo 11.
 pub fn way_of(number: u64) -> Way {
-    match usize::try_from(number % 9) {
+    match usize::try_from(number % 11) {
         Ok(place) => match WAYS.get(place) {
             Some(way) => *way,
             None => Way::Insert,

@@ -19,22 +19,31 @@ pub enum Way {
     OrInsertWith,
     /// `or_insert_with_key`, or `or_put_with_key`. The value gets the key's number.
     OrInsertWithKey,
+    /// `or_try_insert_with`, or `or_try_put_with`, with a closure that makes a value.
+    OrTryInsertWith,
+    /// `or_try_insert_with_key`, or `or_try_put_with_key`, with such a closure. The value gets the key's number.
+    OrTryInsertWithKey,
     /// `or_default`. The value's number is 0.
     OrDefault,
     /// `insert_entry` of a map's entry, or `put_entry` of a cache's. If the key is there, it sets the value.
     InsertEntry,
     /// `insert_entry` or `put_entry` of a vacant entry. An occupied entry is dropped.
     Vacant,
+    /// `or_try_insert_with_key`, or `or_try_put_with_key`, with a closure that fails with the key's number. A missing
+    /// key stays missing.
+    OrFail,
 }
 
-/// All ways.
-pub const WAYS: [Way; 9] = [
+/// All ways that add a missing key.
+pub const WAYS: [Way; 11] = [
     Way::Insert,
     Way::Upsert,
     Way::Replace,
     Way::OrInsert,
     Way::OrInsertWith,
     Way::OrInsertWithKey,
+    Way::OrTryInsertWith,
+    Way::OrTryInsertWithKey,
     Way::OrDefault,
     Way::InsertEntry,
     Way::Vacant,
@@ -44,7 +53,7 @@ impl Way {
     /// Returns the number of the value that a missing key gets.
     pub fn value(self, key: u64, value: u64) -> u64 {
         match self {
-            Way::OrInsertWithKey => key,
+            Way::OrInsertWithKey | Way::OrTryInsertWithKey => key,
             Way::OrDefault => 0,
             _ => value,
         }

@@ -184,6 +184,45 @@ fn expect_insertions<R: AllocGlobal + Abort + Print + Wait>(
     expect(rt, tried >= 2);
 }
 
+// Two insertions whose closure fails, of a missing key and of a present one, around one that makes the value.
+#[derive(Drop)]
+struct Failing;
+
+impl Job for Failing {
+    fn run<F: Form<u64, u64>, R: AllocGlobal + Abort + Print + Wait>(
+        &self,
+        rt: &R,
+        refusal: &mut Refusal,
+        of: Of,
+        form: &mut F,
+    ) {
+        let mut looks = Looks::new(rt, refusal);
+        looks.before.see(rt, form);
+        expect_eq(rt, form.add(Way::OrFail, 7, 1), Answer::Failed(7));
+        looks.after.see(rt, form);
+        looks.before.expect_same(rt, &looks.after, false);
+        expect_added(rt, refusal, of, &mut looks, form, Way::OrTryInsertWith, 0);
+        let pair = pair_of(form.kind(), 0, value_of(Way::OrTryInsertWith, 0));
+        expect_eq(rt, form.add(Way::OrFail, 0, 1), Answer::Entry(None, pair));
+        expect_keys(rt, form, Way::OrTryInsertWith, 0, 1);
+    }
+}
+
+#[test]
+fn failed_closures_insert_nothing(rt: HostRuntime) {
+    let every = [
+        Of::Map,
+        Of::Index,
+        Of::Cache,
+        Of::SharedMap,
+        Of::SharedIndex,
+        Of::SharedCache,
+    ];
+    for of in every {
+        with(&rt, &mut Refusal::new(), of, 0, &Failing);
+    }
+}
+
 #[test]
 fn map_insertions_refused_their_first_array(rt: HostRuntime) {
     expect_insertions(&rt, Of::Map, State::Bare, 0, &WAYS);

@@ -1,13 +1,14 @@
 //! The puts through an entry of a borrowed cache. Each goes on from the search that made the entry.
-ghost use Rattle.scc_cache.specs.Entries.{entry_guard, entry_key, IsVacant, OrPuts, OrPutsSome, Refuses, RefusesSome, SetsEntry, rests_if_refused, occupied_guard};
+ghost use Rattle.scc_cache.specs.Entries.{entry_guard, entry_key, FailsOrRefuses, IsVacant, OrPuts, OrPutsSome, Refuses, RefusesSome, SetsEntry, rests_if_refused, occupied_guard};
 ghost use Rattle.std.specs.Borrow.{sem};
 ghost use Rattle.std.specs.Fn.{FnOnceTakesAt, FnOnceReturnsAt};
-ghost use Rattle.std.specs.Prelude.{◌≡◌, None, Ok, IfOk, IfErr};
+ghost use Rattle.std.specs.Prelude.{◌≡◌, None, Ok, Err, IfOk, IfErr};
 
 use crate::EvictedEntry;
 use crate::borrowed::{Entry, OccupiedEntry};
-use crate::held::{HeldEntry, HeldOccupied};
+use crate::held::{HeldEntry, HeldOccupied, HeldVacant};
 use scc_common::InsertError;
+use scc_fallible::TryInsertError;
 use std::alloc::Global;
 use std::default::MadeWith;
 use std::hash::{BuildHasher, Hash};
@@ -72,6 +73,83 @@ impl<'a, K: Eq + Hash, V, H: BuildHasher> Entry<'a, K, V, H> {
             HeldEntry::Vacant(entry) => {
                 let value = f(entry.key());
                 entry.put_entry(value)
+            }
+        }
+    }
+
+    /// Puts in the value that `f` makes if the entry is vacant, as `or_put` does. If `f` fails, its error comes back, the
+    /// key is dropped and the cache stays as it is. `f` isn't called on an occupied entry.
+    pub fn or_try_put_with<E, F: FnOnce() -> Result<V, E>>(
+        self,
+        f: F,
+    ) -> Result<(EvictedEntry<K, V>, OccupiedEntry<'a, K, V, H>), TryInsertError<K, V, E>>
+    where
+        K: Drop,
+        requires { IsVacant self → F.pre f }
+        ensures entry { IfOk result (λ r. OrPutsSome K.eq self.entry (λ k v. F.post f (Ok v)) r.0 r.1) }
+        ensures refused { IfErr result (FailsOrRefuses self.entry (λ k v. F.post f (Ok v)) (λ k e. F.post f (Err e))) }
+        ensures* kept { sem 𝓛 (rests_if_refused K.row V.row H.row H.Hasher.row K.Hash H.BuildHasher H.Hasher.Hasher
+            (entry_guard self.entry) result) }
+    {
+        self.or_try_put_with_key(
+            move |_key: &K| -> Result<V, E>
+                requires { F.pre f }
+                ensures { F.post f result }
+            { f() },
+        )
+    }
+
+    /// Puts in the value that `f` makes of the key if the entry is vacant, as `or_put` does. If `f` fails, its error
+    /// comes back, the key is dropped and the cache stays as it is. `f` isn't called on an occupied entry.
+    pub fn or_try_put_with_key<E, F: FnOnce(&K) -> Result<V, E>>(
+        self,
+        f: F,
+    ) -> Result<(EvictedEntry<K, V>, OccupiedEntry<'a, K, V, H>), TryInsertError<K, V, E>>
+    where
+        K: Drop,
+        requires { IsVacant self → FnOnceTakesAt F.FnOnce f (entry_key self) }
+        ensures entry { IfOk result (λ r. OrPutsSome K.eq self.entry (λ k v. FnOnceReturnsAt F.FnOnce f k (Ok v))
+            r.0 r.1) }
+        ensures refused { IfErr result (FailsOrRefuses self.entry (λ k v. FnOnceReturnsAt F.FnOnce f k (Ok v))
+            (λ k e. FnOnceReturnsAt F.FnOnce f k (Err e))) }
+        ensures* kept { sem 𝓛 (rests_if_refused K.row V.row H.row H.Hasher.row K.Hash H.BuildHasher H.Hasher.Hasher
+            (entry_guard self.entry) result) }
+    {
+        match self {
+            HeldEntry::Occupied(entry) => {
+                let HeldOccupied {
+                    guard,
+                    place,
+                    rest,
+                    of,
+                } = entry;
+                Ok((
+                    None,
+                    HeldOccupied {
+                        guard,
+                        place,
+                        rest,
+                        of,
+                    },
+                ))
+            }
+            HeldEntry::Vacant(entry) => {
+                let HeldVacant {
+                    guard,
+                    key,
+                    hash,
+                    rest,
+                    of: _,
+                } = entry;
+                match f(&key) {
+                    Ok(value) => match guard.put_at(hash, key, value) {
+                        Ok((evicted, place)) => {
+                            Ok((evicted, HeldOccupied::at(guard, place, rest)))
+                        }
+                        Err(pair) => Err(TryInsertError::Memory(pair)),
+                    },
+                    Err(error) => Err(TryInsertError::Failed(error)),
+                }
             }
         }
     }

@@ -1,13 +1,13 @@
 //! The calls that make an entry of a borrowed cache, and those that end the borrow. An entry holds the place that one
 //! search found.
-ghost use Rattle.scc_cache.specs.CacheSteps.{IsAbsent, IsPreparedForPut, Puts, TakesAt};
+ghost use Rattle.scc_cache.specs.CacheSteps.{IsAbsent, TakesAt};
 ghost use Rattle.scc_cache.specs.Caches.{IsCacheState};
 ghost use Rattle.scc_cache.specs.Entries.{Memory, occupied_cache, occupied_pair, occupied_place, entry_guard, IsEntryOf, IsRefreshed, IsPut, rests_if_refused, rests_if_none, replaced_guard, Replaces, occupied_guard, vacant_guard, vacant_key};
-ghost use Rattle.scc_cache.specs.LookUps.{FindsAfterPut};
-ghost use Rattle.scc_cache.specs.Relocations.{RelocatesNoneWithin, RelocatesTwoWithin};
-ghost use Rattle.scc_common.specs.Contents.{entries, bucket_count, hash_in};
+ghost use Rattle.scc_cache.specs.KeyCalls.{PutsByRule};
+ghost use Rattle.scc_cache.specs.Relocations.{RelocatesNoneWithin};
+ghost use Rattle.scc_common.specs.Contents.{bucket_count, hash_in};
 ghost use Rattle.std.specs.Borrow.{sem};
-ghost use Rattle.std.specs.Prelude.{◌≡◌, IfOk, IfErr, OnOk, IfSome, IfNone};
+ghost use Rattle.std.specs.Prelude.{◌≡◌, IfOk, IfErr, IfSome, IfNone};
 
 use crate::borrowed::{Entry, OccupiedEntry, ReplaceResult, VacantEntry};
 use crate::held::{HeldEntry, HeldOccupied, HeldReplace, HeldVacant};
@@ -115,18 +115,8 @@ impl<'a, K: Eq + Hash, V, H: BuildHasher> VacantEntry<'a, K, V, H> {
 
     /// Puts in the key with `value`, as `put_entry` does, ends the borrow, and returns the evicted pair, if any.
     pub fn put(self, value: V) -> Result<EvictedEntry<K, V>, InsertError<K, V>>
-        ensures step { Puts (hash_in ⟦<H as Hashes<K>>⟧.hash_of (vacant_guard self.entry).now.contents) K.eq
-            (vacant_guard self.entry).now (vacant_key self.entry, value) result self.exit.0.now }
-        ensures finds { IfOk result (λ out. FindsAfterPut K.eq (entries (vacant_guard self.entry).now.contents)
-            (vacant_key self.entry, value) out (entries self.exit.0.now.contents)) }
-        ensures relocates { OnOk result (RelocatesTwoWithin
-            (hash_in ⟦<H as Hashes<K>>⟧.hash_of (vacant_guard self.entry).now.contents (vacant_key self.entry))
-            (vacant_guard self.entry).now.contents self.exit.0.now.contents) }
-        ensures once { IsPreparedForPut (hash_in ⟦<H as Hashes<K>>⟧.hash_of (vacant_guard self.entry).now.contents)
-            (vacant_guard self.entry).now (vacant_key self.entry)
-            → bucket_count self.exit.0.now.contents ≡ bucket_count (vacant_guard self.entry).now.contents }
-        ensures state { IsCacheState K.eq (hash_in ⟦<H as Hashes<K>>⟧.hash_of self.exit.0.now.contents)
-            self.exit.0.now }
+        ensures { PutsByRule K.eq ⟦<H as Hashes<K>>⟧.hash_of (vacant_guard self.entry).now
+            (vacant_key self.entry, value) result self.exit.0.now }
     {
         let hash = self.hash;
         let key = self.key;

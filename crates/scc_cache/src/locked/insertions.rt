@@ -1,12 +1,13 @@
 //! The puts through an entry of a locked stripe.
-ghost use Rattle.scc_cache.specs.Entries.{entry_key, IsVacant, OrPuts, OrPutsSome, Refuses, RefusesSome, SetsEntry};
+ghost use Rattle.scc_cache.specs.Entries.{entry_key, FailsOrRefuses, IsVacant, OrPuts, OrPutsSome, Refuses, RefusesSome, SetsEntry};
 ghost use Rattle.std.specs.Fn.{FnOnceTakesAt, FnOnceReturnsAt};
-ghost use Rattle.std.specs.Prelude.{IfOk, IfErr};
+ghost use Rattle.std.specs.Prelude.{Ok, Err, IfOk, IfErr};
 
 use crate::EvictedEntry;
-use crate::held::HeldEntry;
+use crate::held::{HeldEntry, HeldOccupied, HeldVacant};
 use crate::locked::{Entry, OccupiedEntry};
 use scc_common::InsertError;
+use scc_fallible::TryInsertError;
 use std::alloc::Global;
 use std::default::MadeWith;
 use std::hash::{BuildHasher, Hash};
@@ -65,6 +66,63 @@ impl<'a, K: Eq + Hash, V, H: BuildHasher> Entry<'a, K, V, H> {
             HeldEntry::Vacant(entry) => {
                 let value = f(&entry.key);
                 entry.put_entry(value)
+            }
+        }
+    }
+
+    /// Puts in the value that `f` makes if the entry is vacant, as `or_put` does. If `f` fails, its error comes back, the
+    /// key is dropped and the lock is released. `f` isn't called on an occupied entry.
+    pub fn or_try_put_with<E, F: FnOnce() -> Result<V, E>>(
+        self,
+        f: F,
+    ) -> Result<(EvictedEntry<K, V>, OccupiedEntry<'a, K, V, H>), TryInsertError<K, V, E>>
+    where
+        K: Drop,
+        requires { IsVacant self → F.pre f }
+        ensures entry { IfOk result (λ r. OrPutsSome K.eq self.entry (λ k v. F.post f (Ok v)) r.0 r.1) }
+        ensures refused { IfErr result (FailsOrRefuses self.entry (λ k v. F.post f (Ok v)) (λ k e. F.post f (Err e))) }
+    {
+        self.or_try_put_with_key(
+            move |_key: &K| -> Result<V, E>
+                requires { F.pre f }
+                ensures { F.post f result }
+            { f() },
+        )
+    }
+
+    /// Puts in the value that `f` makes of the key if the entry is vacant, as `or_put` does. If `f` fails, its error
+    /// comes back, the key is dropped and the lock is released. `f` isn't called on an occupied entry.
+    pub fn or_try_put_with_key<E, F: FnOnce(&K) -> Result<V, E>>(
+        self,
+        f: F,
+    ) -> Result<(EvictedEntry<K, V>, OccupiedEntry<'a, K, V, H>), TryInsertError<K, V, E>>
+    where
+        K: Drop,
+        requires { IsVacant self → FnOnceTakesAt F.FnOnce f (entry_key self) }
+        ensures entry { IfOk result (λ r. OrPutsSome K.eq self.entry (λ k v. FnOnceReturnsAt F.FnOnce f k (Ok v))
+            r.0 r.1) }
+        ensures refused { IfErr result (FailsOrRefuses self.entry (λ k v. FnOnceReturnsAt F.FnOnce f k (Ok v))
+            (λ k e. FnOnceReturnsAt F.FnOnce f k (Err e))) }
+    {
+        match self {
+            HeldEntry::Occupied(entry) => Ok((None, entry)),
+            HeldEntry::Vacant(entry) => {
+                let HeldVacant {
+                    mut guard,
+                    key,
+                    hash,
+                    rest,
+                    of: _,
+                } = entry;
+                match f(&key) {
+                    Ok(value) => match guard.put_at(hash, key, value) {
+                        Ok((evicted, place)) => {
+                            Ok((evicted, HeldOccupied::at(guard, place, rest)))
+                        }
+                        Err(pair) => Err(TryInsertError::Memory(pair)),
+                    },
+                    Err(error) => Err(TryInsertError::Failed(error)),
+                }
             }
         }
     }

@@ -1,14 +1,15 @@
-//! The insertions through an entry of a borrowed map. Each goes on from the search that made the entry, and all but
-//! `insert_entry` call `or_insert_with_key`. At an occupied entry `or_insert_with_key` calls `len` for its contract:
-//! no two keys are equal.
-ghost use Rattle.scc_map.specs.Entries.{entry_guard, entry_key, InsertsThrough, IsVacant, OrInserts, OrInsertsSome, Refuses, RefusesSome, SetsEntry, rests_if_refused};
+//! The insertions through an entry of a borrowed map. Each goes on from the search that made the entry. `or_insert`,
+//! `or_insert_with` and `or_default` call `or_insert_with_key`, `or_try_insert_with` calls `or_try_insert_with_key`. At
+//! an occupied entry these call `len` for their contract: no two keys are equal.
+ghost use Rattle.scc_map.specs.Entries.{entry_guard, entry_key, InsertsThrough, IsVacant, OrInserts, OrInsertsSome, Refuses, RefusesSome, SetsEntry, TriesThrough, rests_if_refused, rests_if_tried};
 ghost use Rattle.std.specs.Borrow.{sem};
 ghost use Rattle.std.specs.Fn.{FnOnceTakesAt, FnOnceReturnsAt};
-ghost use Rattle.std.specs.Prelude.{◌≡◌};
+ghost use Rattle.std.specs.Prelude.{◌≡◌, Ok, Err};
 
 use crate::borrowed::{Entry, OccupiedEntry};
-use crate::held::{HeldEntry, HeldOccupied};
+use crate::held::{HeldEntry, HeldOccupied, HeldVacant};
 use scc_common::{Hashes, InsertError};
+use scc_fallible::TryInsertError;
 use std::alloc::Global;
 use std::default::MadeWith;
 use std::hash::{BuildHasher, Hash};
@@ -83,6 +84,77 @@ impl<'a, K: Eq + Hash, V, H: BuildHasher> Entry<'a, K, V, H> {
             HeldEntry::Vacant(entry) => {
                 let value = f(entry.key());
                 entry.insert_entry(value)
+            }
+        }
+    }
+
+    /// Inserts the value that `f` makes if the entry is vacant, and returns the occupied entry. If `f` fails, its error
+    /// comes back, the key is dropped and the map stays as it is. `f` isn't called on an occupied entry.
+    pub fn or_try_insert_with<E, F: FnOnce() -> Result<V, E>>(
+        self,
+        f: F,
+    ) -> Result<OccupiedEntry<'a, K, V, H>, TryInsertError<K, V, E>>
+    where
+        K: Drop,
+        requires { IsVacant self → F.pre f }
+        ensures inserts { TriesThrough K.eq ⟦<H as Hashes<K>>⟧.hash_of self.entry (λ k v. F.post f (Ok v))
+            (λ k e. F.post f (Err e)) result }
+        ensures* kept { sem 𝓛 (rests_if_tried K.row V.row H.row H.Hasher.row K.Hash H.BuildHasher H.Hasher.Hasher
+            (entry_guard self.entry) (entry_key self.entry) result) }
+    {
+        self.or_try_insert_with_key(
+            move |_key: &K| -> Result<V, E>
+                requires { F.pre f }
+                ensures { F.post f result }
+            { f() },
+        )
+    }
+
+    /// Inserts the value that `f` makes of the key if the entry is vacant, and returns the occupied entry. If `f` fails,
+    /// its error comes back, the key is dropped and the map stays as it is. `f` isn't called on an occupied entry.
+    pub fn or_try_insert_with_key<E, F: FnOnce(&K) -> Result<V, E>>(
+        self,
+        f: F,
+    ) -> Result<OccupiedEntry<'a, K, V, H>, TryInsertError<K, V, E>>
+    where
+        K: Drop,
+        requires { IsVacant self → FnOnceTakesAt F.FnOnce f (entry_key self) }
+        ensures inserts { TriesThrough K.eq ⟦<H as Hashes<K>>⟧.hash_of self.entry
+            (λ k v. FnOnceReturnsAt F.FnOnce f k (Ok v)) (λ k e. FnOnceReturnsAt F.FnOnce f k (Err e)) result }
+        ensures* kept { sem 𝓛 (rests_if_tried K.row V.row H.row H.Hasher.row K.Hash H.BuildHasher H.Hasher.Hasher
+            (entry_guard self.entry) (entry_key self.entry) result) }
+    {
+        match self {
+            HeldEntry::Occupied(entry) => {
+                let HeldOccupied {
+                    guard,
+                    place,
+                    rest,
+                    of,
+                } = entry;
+                let _ = guard.len();
+                Ok(HeldOccupied {
+                    guard,
+                    place,
+                    rest,
+                    of,
+                })
+            }
+            HeldEntry::Vacant(entry) => {
+                let HeldVacant {
+                    guard,
+                    key,
+                    hash,
+                    rest,
+                    of: _,
+                } = entry;
+                match f(&key) {
+                    Ok(value) => match guard.insert_new(hash, key, value) {
+                        Ok(place) => Ok(HeldOccupied::at(guard, place, rest)),
+                        Err(pair) => Err(TryInsertError::Memory(pair)),
+                    },
+                    Err(error) => Err(TryInsertError::Failed(error)),
+                }
             }
         }
     }

@@ -1,11 +1,13 @@
-//! The insertions through an entry of a locked stripe. All but `insert_entry` call `or_insert_with_key`.
-ghost use Rattle.scc_map.specs.Entries.{entry_key, InsertsThrough, IsVacant, OrInserts, OrInsertsSome, Refuses, RefusesSome, SetsEntry};
+//! The insertions through an entry of a locked stripe. `or_insert`, `or_insert_with` and `or_default` call
+//! `or_insert_with_key`, `or_try_insert_with` calls `or_try_insert_with_key`.
+ghost use Rattle.scc_map.specs.Entries.{entry_key, InsertsThrough, IsVacant, OrInserts, OrInsertsSome, Refuses, RefusesSome, SetsEntry, TriesThrough};
 ghost use Rattle.std.specs.Fn.{FnOnceTakesAt, FnOnceReturnsAt};
-ghost use Rattle.std.specs.Prelude.{◌≡◌};
+ghost use Rattle.std.specs.Prelude.{◌≡◌, Ok, Err};
 
-use crate::held::HeldEntry;
+use crate::held::{HeldEntry, HeldOccupied, HeldVacant};
 use crate::locked::{Entry, OccupiedEntry};
 use scc_common::{Hashes, InsertError};
+use scc_fallible::TryInsertError;
 use std::alloc::Global;
 use std::default::MadeWith;
 use std::hash::{BuildHasher, Hash};
@@ -63,6 +65,62 @@ impl<'a, K: Eq + Hash, V, H: BuildHasher> Entry<'a, K, V, H> {
             HeldEntry::Vacant(entry) => {
                 let value = f(entry.key());
                 entry.insert_entry(value)
+            }
+        }
+    }
+
+    /// Inserts the value that `f` makes if the entry is vacant, and returns the occupied entry. If `f` fails, its error
+    /// comes back, the key is dropped and the lock is released. `f` isn't called on an occupied entry.
+    pub fn or_try_insert_with<E, F: FnOnce() -> Result<V, E>>(
+        self,
+        f: F,
+    ) -> Result<OccupiedEntry<'a, K, V, H>, TryInsertError<K, V, E>>
+    where
+        K: Drop,
+        requires { IsVacant self → F.pre f }
+        ensures { TriesThrough K.eq ⟦<H as Hashes<K>>⟧.hash_of self.entry (λ k v. F.post f (Ok v))
+            (λ k e. F.post f (Err e)) result }
+    {
+        self.or_try_insert_with_key(
+            move |_key: &K| -> Result<V, E>
+                requires { F.pre f }
+                ensures { F.post f result }
+            { f() },
+        )
+    }
+
+    /// Inserts the value that `f` makes of the key if the entry is vacant, and returns the occupied entry. If `f` fails,
+    /// its error comes back, the key is dropped and the lock is released. `f` isn't called on an occupied entry.
+    pub fn or_try_insert_with_key<E, F: FnOnce(&K) -> Result<V, E>>(
+        self,
+        f: F,
+    ) -> Result<OccupiedEntry<'a, K, V, H>, TryInsertError<K, V, E>>
+    where
+        K: Drop,
+        requires { IsVacant self → FnOnceTakesAt F.FnOnce f (entry_key self) }
+        ensures { TriesThrough K.eq ⟦<H as Hashes<K>>⟧.hash_of self.entry
+            (λ k v. FnOnceReturnsAt F.FnOnce f k (Ok v)) (λ k e. FnOnceReturnsAt F.FnOnce f k (Err e)) result }
+    {
+        match self {
+            HeldEntry::Occupied(entry) => {
+                entry.look_at_map();
+                Ok(entry)
+            }
+            HeldEntry::Vacant(entry) => {
+                let HeldVacant {
+                    mut guard,
+                    key,
+                    hash,
+                    rest,
+                    of: _,
+                } = entry;
+                match f(&key) {
+                    Ok(value) => match guard.insert_new(hash, key, value) {
+                        Ok(place) => Ok(HeldOccupied::at(guard, place, rest)),
+                        Err(pair) => Err(TryInsertError::Memory(pair)),
+                    },
+                    Err(error) => Err(TryInsertError::Failed(error)),
+                }
             }
         }
     }

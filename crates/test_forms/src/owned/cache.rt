@@ -1,11 +1,12 @@
 //! `Form` for the owned cache.
 
-use crate::answers::{Answer, Kind, Rule, raise_and_keep, refused, verdict};
+use crate::answers::{Answer, Kind, Rule, raise_and_keep, refused, untried, verdict};
 use crate::form::{Act, At, Form, Sizes, Way};
 use crate::numbered::{Numbered, Seen, note_pairs, raise_to_even, seen, seen_pair, value_of};
 use scc_cache::borrowed::{Entry, OccupiedEntry, ReplaceResult};
 use scc_cache::{EvictedEntry, Owned};
 use scc_common::InsertError;
+use scc_fallible::TryInsertError;
 use std::alloc::Global;
 use std::hash::{BuildHasher, Hash};
 
@@ -46,6 +47,38 @@ fn entered<K: Eq + Hash + Drop + Numbered, V: Default + Drop + Numbered, H: Buil
             Answer::Entry(seen_pair(evicted), here)
         }
         Err(error) => refused(error),
+    }
+}
+
+// Puts the pair through its entry, with a closure that makes the value or fails.
+fn enter_or_fail<'a, K: Eq + Hash + Drop + Numbered, V: Drop + Numbered, H: BuildHasher + Drop>(
+    cache: &'a mut Owned<K, V, H>,
+    way: Way,
+    key: K,
+    value: V,
+) -> Result<(EvictedEntry<K, V>, OccupiedEntry<'a, K, V, H>), TryInsertError<K, V, u64>> {
+    let entry = cache.entry_sync(key);
+    match way {
+        Way::OrTryInsertWith => entry.or_try_put_with(|| Ok(value)),
+        Way::OrTryInsertWithKey => entry.or_try_put_with_key(|key| Ok(value_of(key, value))),
+        _ => entry.or_try_put_with_key(|key| Err(key.number())),
+    }
+}
+
+// Returns the answer for a way whose closure may fail.
+fn entered_or_failed<K: Eq + Hash + Drop + Numbered, V: Drop + Numbered, H: BuildHasher + Drop>(
+    cache: &mut Owned<K, V, H>,
+    way: Way,
+    key: K,
+    value: V,
+) -> Answer {
+    match enter_or_fail(cache, way, key, value) {
+        Ok(placed) => {
+            let (evicted, entry) = placed;
+            let here = seen(entry.key(), entry.get());
+            Answer::Entry(seen_pair(evicted), here)
+        }
+        Err(error) => untried(error),
     }
 }
 
@@ -140,6 +173,9 @@ impl<K: Eq + Hash + Drop + Numbered, V: Default + Drop + Numbered, H: BuildHashe
             Way::Upsert => Answer::Absent,
             Way::Replace => replace_or_fill(self, key, value),
             Way::Vacant => fill(self, key, value),
+            Way::OrTryInsertWith | Way::OrTryInsertWithKey | Way::OrFail => {
+                entered_or_failed(self, way, key, value)
+            }
             _ => entered(self, way, key, value),
         }
     }

@@ -1,9 +1,10 @@
 //! `Form` for the owned index.
 
-use crate::answers::{Answer, Kind, refused};
+use crate::answers::{Answer, Kind, refused, untried};
 use crate::form::{Act, At, Form, Sizes, Way};
 use crate::numbered::{Numbered, Seen, keeps, seen, value_of};
 use scc_common::InsertError;
+use scc_fallible::TryInsertError;
 use scc_index::Owned;
 use scc_index::borrowed::{Entry, OccupiedEntry};
 use std::hash::{BuildHasher, Hash};
@@ -34,6 +35,34 @@ fn entered<K: Eq + Hash + Drop + Numbered, V: Default + Drop + Numbered, H: Buil
     match enter(index, way, key, value) {
         Ok(entry) => Answer::Entry(None, seen(entry.key(), entry.get())),
         Err(error) => refused(error),
+    }
+}
+
+// Adds the pair through its entry, with a closure that makes the value or fails.
+fn enter_or_fail<'a, K: Eq + Hash + Drop + Numbered, V: Drop + Numbered, H: BuildHasher + Drop>(
+    index: &'a mut Owned<K, V, H>,
+    way: Way,
+    key: K,
+    value: V,
+) -> Result<OccupiedEntry<'a, K, V, H>, TryInsertError<K, V, u64>> {
+    let entry = index.entry_sync(key);
+    match way {
+        Way::OrTryInsertWith => entry.or_try_insert_with(|| Ok(value)),
+        Way::OrTryInsertWithKey => entry.or_try_insert_with_key(|key| Ok(value_of(key, value))),
+        _ => entry.or_try_insert_with_key(|key| Err(key.number())),
+    }
+}
+
+// Returns the answer for a way whose closure may fail.
+fn entered_or_failed<K: Eq + Hash + Drop + Numbered, V: Drop + Numbered, H: BuildHasher + Drop>(
+    index: &mut Owned<K, V, H>,
+    way: Way,
+    key: K,
+    value: V,
+) -> Answer {
+    match enter_or_fail(index, way, key, value) {
+        Ok(entry) => Answer::Entry(None, seen(entry.key(), entry.get())),
+        Err(error) => untried(error),
     }
 }
 
@@ -150,6 +179,9 @@ impl<
                 Err(error) => refused(error),
             },
             Way::Vacant => fill(self, key, value),
+            Way::OrTryInsertWith | Way::OrTryInsertWithKey | Way::OrFail => {
+                entered_or_failed(self, way, key, value)
+            }
             Way::Upsert | Way::Replace | Way::InsertEntry => Answer::Absent,
             _ => entered(self, way, key, value),
         }

@@ -1,11 +1,12 @@
 //! `Form` for the owned map.
 
-use crate::answers::{Answer, Kind, Rule, raise_and_keep, refused, verdict};
+use crate::answers::{Answer, Kind, Rule, raise_and_keep, refused, untried, verdict};
 use crate::form::{Act, At, Form, Sizes, Way};
 use crate::numbered::{
     Numbered, Seen, keeps, note_pairs, raise_to_even, seen, seen_pair, value_of,
 };
 use scc_common::InsertError;
+use scc_fallible::TryInsertError;
 use scc_map::Owned;
 use scc_map::borrowed::{Entry, OccupiedEntry, ReplaceResult};
 use std::alloc::Global;
@@ -38,6 +39,34 @@ fn entered<K: Eq + Hash + Drop + Numbered, V: Default + Drop + Numbered, H: Buil
     match enter(map, way, key, value) {
         Ok(entry) => Answer::Entry(None, seen(entry.key(), entry.get())),
         Err(error) => refused(error),
+    }
+}
+
+// Adds the pair through its entry, with a closure that makes the value or fails.
+fn enter_or_fail<'a, K: Eq + Hash + Drop + Numbered, V: Drop + Numbered, H: BuildHasher + Drop>(
+    map: &'a mut Owned<K, V, H>,
+    way: Way,
+    key: K,
+    value: V,
+) -> Result<OccupiedEntry<'a, K, V, H>, TryInsertError<K, V, u64>> {
+    let entry = map.entry_sync(key);
+    match way {
+        Way::OrTryInsertWith => entry.or_try_insert_with(|| Ok(value)),
+        Way::OrTryInsertWithKey => entry.or_try_insert_with_key(|key| Ok(value_of(key, value))),
+        _ => entry.or_try_insert_with_key(|key| Err(key.number())),
+    }
+}
+
+// Returns the answer for a way whose closure may fail.
+fn entered_or_failed<K: Eq + Hash + Drop + Numbered, V: Drop + Numbered, H: BuildHasher + Drop>(
+    map: &mut Owned<K, V, H>,
+    way: Way,
+    key: K,
+    value: V,
+) -> Answer {
+    match enter_or_fail(map, way, key, value) {
+        Ok(entry) => Answer::Entry(None, seen(entry.key(), entry.get())),
+        Err(error) => untried(error),
     }
 }
 
@@ -180,6 +209,9 @@ impl<
             },
             Way::Replace => replace_or_fill(self, key, value),
             Way::Vacant => fill(self, key, value),
+            Way::OrTryInsertWith | Way::OrTryInsertWithKey | Way::OrFail => {
+                entered_or_failed(self, way, key, value)
+            }
             _ => entered(self, way, key, value),
         }
     }

@@ -4,11 +4,12 @@ use crate::held::Held;
 use scc_cache::EvictedEntry;
 use scc_cache::locked::{Entry, OccupiedEntry, ReplaceResult};
 use scc_common::InsertError;
+use scc_fallible::TryInsertError;
 use scc_shared_cache::HashCache;
 use std::alloc::Global;
 use std::hash::{BuildHasher, Hash};
 use std::sync::Wait;
-use test_forms::answers::{Answer, Kind, Rule, raise_and_keep, refused, verdict};
+use test_forms::answers::{Answer, Kind, Rule, raise_and_keep, refused, untried, verdict};
 use test_forms::form::{Act, At, Form, Sizes, Way};
 use test_forms::numbered::{Numbered, Seen, note_pairs, raise_to_even, seen, seen_pair, value_of};
 
@@ -40,6 +41,35 @@ fn enter<K: Eq + Hash + Drop + Numbered, V: Default + Drop + Numbered, H: BuildH
         Way::OrDefault => entry.or_default(),
         Way::InsertEntry => entry.put_entry(value),
         _ => entry.or_put(value),
+    })
+}
+
+// Returns the answer for a way whose closure may fail.
+fn entered_or_failed<K: Eq + Hash + Drop + Numbered, V: Drop + Numbered, H: BuildHasher>(
+    answer: Result<(EvictedEntry<K, V>, OccupiedEntry<'_, K, V, H>), TryInsertError<K, V, u64>>,
+) -> Answer {
+    match answer {
+        Ok((evicted, entry)) => {
+            let here = seen(entry.key(), entry.get());
+            Answer::Entry(seen_pair(evicted), here)
+        }
+        Err(error) => untried(error),
+    }
+}
+
+// Puts the pair through its entry, with a closure that makes the value or fails.
+fn enter_or_fail<K: Eq + Hash + Drop + Numbered, V: Drop + Numbered, H: BuildHasher>(
+    rt: &impl Wait,
+    cache: &HashCache<K, V, H>,
+    way: Way,
+    key: K,
+    value: V,
+) -> Answer {
+    let entry = cache.entry_sync(rt, key);
+    entered_or_failed(match way {
+        Way::OrTryInsertWith => entry.or_try_put_with(|| Ok(value)),
+        Way::OrTryInsertWithKey => entry.or_try_put_with_key(|key| Ok(value_of(key, value))),
+        _ => entry.or_try_put_with_key(|key| Err(key.number())),
     })
 }
 
@@ -173,6 +203,9 @@ impl<
             Way::Upsert => Answer::Absent,
             Way::Replace => swap(self.rt, &self.shared, key, Some(value)),
             Way::Vacant => fill(self.rt, &self.shared, key, value),
+            Way::OrTryInsertWith | Way::OrTryInsertWithKey | Way::OrFail => {
+                enter_or_fail(self.rt, &self.shared, way, key, value)
+            }
             _ => enter(self.rt, &self.shared, way, key, value),
         }
     }

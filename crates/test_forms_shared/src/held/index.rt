@@ -2,11 +2,12 @@
 
 use crate::held::{Held, walked};
 use scc_common::InsertError;
+use scc_fallible::TryInsertError;
 use scc_index::locked::{Entry, OccupiedEntry};
 use scc_shared_index::HashIndex;
 use std::hash::{BuildHasher, Hash};
 use std::sync::Wait;
-use test_forms::answers::{Answer, Kind, refused};
+use test_forms::answers::{Answer, Kind, refused, untried};
 use test_forms::form::{Act, At, Form, Sizes, Way};
 use test_forms::numbered::{Numbered, Seen, keeps, seen, value_of};
 
@@ -37,6 +38,35 @@ fn enter<K: Eq + Hash + Drop + Numbered, V: Default + Drop + Numbered, H: BuildH
         Way::OrInsertWithKey => entry.or_insert_with_key(|key| value_of(key, value)),
         Way::OrDefault => entry.or_default(),
         _ => entry.or_insert(value),
+    })
+}
+
+// Returns the answer for a way whose closure may fail.
+fn entered_or_failed<K: Eq + Hash + Drop + Numbered, V: Drop + Numbered, H: BuildHasher>(
+    answer: Result<OccupiedEntry<'_, K, V, H>, TryInsertError<K, V, u64>>,
+) -> Answer {
+    match answer {
+        Ok(entry) => {
+            let here = seen(entry.key(), entry.get());
+            Answer::Entry(None, here)
+        }
+        Err(error) => untried(error),
+    }
+}
+
+// Adds the pair through its entry, with a closure that makes the value or fails.
+fn enter_or_fail<K: Eq + Hash + Drop + Numbered, V: Drop + Numbered, H: BuildHasher>(
+    rt: &impl Wait,
+    index: &HashIndex<K, V, H>,
+    way: Way,
+    key: K,
+    value: V,
+) -> Answer {
+    let entry = index.entry_sync(rt, key);
+    entered_or_failed(match way {
+        Way::OrTryInsertWith => entry.or_try_insert_with(|| Ok(value)),
+        Way::OrTryInsertWithKey => entry.or_try_insert_with_key(|key| Ok(value_of(key, value))),
+        _ => entry.or_try_insert_with_key(|key| Err(key.number())),
     })
 }
 
@@ -240,6 +270,9 @@ impl<
                 Err(error) => refused(error),
             },
             Way::Vacant => fill(self.rt, &self.shared, key, value),
+            Way::OrTryInsertWith | Way::OrTryInsertWithKey | Way::OrFail => {
+                enter_or_fail(self.rt, &self.shared, way, key, value)
+            }
             Way::Upsert | Way::Replace | Way::InsertEntry => Answer::Absent,
             _ => enter(self.rt, &self.shared, way, key, value),
         }

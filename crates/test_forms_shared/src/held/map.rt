@@ -2,12 +2,13 @@
 
 use crate::held::{Held, walked};
 use scc_common::InsertError;
+use scc_fallible::TryInsertError;
 use scc_map::locked::{Entry, OccupiedEntry, ReplaceResult};
 use scc_shared_map::HashMap;
 use std::alloc::Global;
 use std::hash::{BuildHasher, Hash};
 use std::sync::Wait;
-use test_forms::answers::{Answer, Kind, Rule, raise_and_keep, refused, verdict};
+use test_forms::answers::{Answer, Kind, Rule, raise_and_keep, refused, untried, verdict};
 use test_forms::form::{Act, At, Form, Sizes, Way};
 use test_forms::numbered::{Numbered, Seen, note_pairs, raise_to_even, seen, seen_pair, value_of};
 
@@ -39,6 +40,35 @@ fn enter<K: Eq + Hash + Drop + Numbered, V: Default + Drop + Numbered, H: BuildH
         Way::OrDefault => entry.or_default(),
         Way::InsertEntry => entry.insert_entry(value),
         _ => entry.or_insert(value),
+    })
+}
+
+// Returns the answer for a way whose closure may fail.
+fn entered_or_failed<K: Eq + Hash + Drop + Numbered, V: Drop + Numbered, H: BuildHasher>(
+    answer: Result<OccupiedEntry<'_, K, V, H>, TryInsertError<K, V, u64>>,
+) -> Answer {
+    match answer {
+        Ok(entry) => {
+            let here = seen(entry.key(), entry.get());
+            Answer::Entry(None, here)
+        }
+        Err(error) => untried(error),
+    }
+}
+
+// Adds the pair through its entry, with a closure that makes the value or fails.
+fn enter_or_fail<K: Eq + Hash + Drop + Numbered, V: Drop + Numbered, H: BuildHasher>(
+    rt: &impl Wait,
+    map: &HashMap<K, V, H>,
+    way: Way,
+    key: K,
+    value: V,
+) -> Answer {
+    let entry = map.entry_sync(rt, key);
+    entered_or_failed(match way {
+        Way::OrTryInsertWith => entry.or_try_insert_with(|| Ok(value)),
+        Way::OrTryInsertWithKey => entry.or_try_insert_with_key(|key| Ok(value_of(key, value))),
+        _ => entry.or_try_insert_with_key(|key| Err(key.number())),
     })
 }
 
@@ -262,6 +292,9 @@ impl<
             },
             Way::Replace => swap(self.rt, &self.shared, key, Some(value)),
             Way::Vacant => fill(self.rt, &self.shared, key, value),
+            Way::OrTryInsertWith | Way::OrTryInsertWithKey | Way::OrFail => {
+                enter_or_fail(self.rt, &self.shared, way, key, value)
+            }
             _ => enter(self.rt, &self.shared, way, key, value),
         }
     }

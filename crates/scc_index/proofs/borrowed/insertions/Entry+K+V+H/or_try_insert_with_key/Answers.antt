@@ -1,0 +1,40 @@
+use Rattle.std.proofs.Common.{Ok, Err, refl}
+use Rattle.std.specs.Fn.{FnOnceReturnsAt}
+use Rattle.scc_index.specs.Entries.{Memory}
+use Rattle.scc_index.proofs.Entries.{fails-at, inserts-at-vacant, same-entry, same-name, through-vacant, vacant-now}
+use Rattle.scc_index.proofs.borrowed.insertions.Entry+K+V+H.or_try_insert_with_key.Goals as goal
+
+pub returns-in-Occupied : goal.returns-in-Occupied
+returns-in-Occupied g c = (
+  (refl, λ w. refl, tt),
+  record {
+    inserts = record {
+      entry = rw c.in-Occupied.is (same-entry c.in-Occupied.entry _);
+      refused = tt;
+      vacant = tt;
+      growth = rw c.in-Occupied.is tt;
+      relocates = rw c.in-Occupied.is refl;
+      unique = c.len.ensures.unique;
+    };
+    kept = tt;
+  },
+)
+
+pub returns-in-Ok-insert_new : goal.returns-in-Ok-insert_new
+returns-in-Ok-insert_new g c =
+    let x = c.in-Vacant.entry in
+    let put = inserts-at-vacant g.K.PartialEq.eq _ x x.guard.now c.insert_new.new.self c.in-Ok.value c.at.result _ c.at.ensures.guard c.at.ensures.place c.at.ensures.rest refl c.in-Ok-insert_new.ensures.ok record { grows = c.in-Ok-insert_new.ensures.grows; first = c.in-Ok-insert_new.ensures.first; once = c.insert_new.ensures.once } c.insert_new.ensures.relocates c.in-Ok-insert_new.ensures.two c.in-Ok-insert_new.ensures.unique in
+    ((same-name c.at.ensures.guard, λ w. refl, tt), record { inserts = through-vacant g.K.PartialEq.eq _ (λ k v. FnOnceReturnsAt g.F.FnOnce c.args.f k (Ok v)) c.args.self x c.in-Ok.value (Ok c.at.result) c.in-Vacant.is (_, c.in-Ok.ensures, refl) put; kept = tt })
+
+pub returns-in-Ok : goal.returns-in-Ok
+returns-in-Ok g c =
+    let x = c.in-Vacant.entry in (
+      (refl, λ _. tt, rw c.in-Vacant.is record { unchanged = c.in-Err-insert_new.ensures.unchanged; raised = c.in-Err-insert_new.ensures.raised; undone = c.in-Err-insert_new.ensures.undone; relocates = c.insert_new.ensures.relocates }),
+      record {
+        inserts = through-vacant g.K.PartialEq.eq _ (λ k v. FnOnceReturnsAt g.F.FnOnce c.args.f k (Ok v)) c.args.self x c.in-Ok.value (Err (Memory c.in-Err-insert_new.pair)) c.in-Vacant.is (_, c.in-Ok.ensures, refl) record { inserted = tt; growth = tt; relocates = tt; two = tt; unique = tt; refused = rw c.in-Err-insert_new.ensures.refused refl };
+        kept = tt;
+      },
+    )
+
+pub returns : goal.returns
+returns g c = ((refl, λ _. tt, vacant-now c.args.self c.in-Vacant.entry c.in-Vacant.is), record { inserts = fails-at (λ k e. FnOnceReturnsAt g.F.FnOnce c.args.f k (Err e)) c.args.self c.in-Vacant.entry c.in-Err.error c.in-Vacant.is (_, c.in-Err.ensures, refl); kept = tt })
