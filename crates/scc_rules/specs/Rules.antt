@@ -58,3 +58,7 @@ module _ {K V : Type 0} (eq : K → K → Bool) (holds : K → V → Type 0) whe
     -- f may return r at such a pair
     abbrev pub WritesKept : A → Type 0
     WritesKept r = (p : K × V) × (w : V) × (eq k p.0 ≡ true) × holds p.0 p.1 × holds k p.1 × WritesAt g f p r w
+
+-- a clone of a pair that keeps the rule keeps it
+abbrev pub ClonesKeep : {K V : Type 0} → (K → V → Type 0) → (K → K → Type 0) → (V → V → Type 0) → Type 0
+ClonesKeep {K} {V} holds copies_key copies_value = (k l : K) (v w : V) → holds k v → copies_key k l → copies_value v w → holds l w

@@ -1,17 +1,21 @@
--- What a closure must keep that a walk over a container under a rule calls on each pair.
+-- What a closure must take and keep that a walk over a container under a rule calls on each pair.
+use Rattle.std.specs.Prelude.{List}
 use Rattle.std.specs.Borrow.{Bor, MutBor}
 use Rattle.std.specs.Fn.{Mut}
-use Rattle.scc_common.specs.PairWalks.{CalledToWrite}
+use Rattle.scc_common.specs.PairWalks.{CallableToWrite, CalledToWrite}
+use Rattle.scc_common.specs.Walks.{CallableWhile}
+use Rattle.scc_rules.specs.Rules.{AllKeep}
 
-module _ {K V : Type 0} (holds : K → V → Type 0) where
-  -- f, whatever calls did to it, may be called on each pair that keeps the rule
-  abbrev pub TakesEach : {F A : Type 0} → Mut F (Bor K × (Bor V × Unit {0})) A → Type 0
-  TakesEach {F} g = (s : F) (a : Bor K) (b : Bor V) → holds a.now b.now → g.pre s (a, (b, tt))
+module _ {F K V A : Type 0} (holds : K → V → Type 0) where
+  -- f may be called in turn on any pairs that keep the rule, as long as each call returns `on`
+  abbrev pub TakesKept : Mut F (Bor K × (Bor V × Unit {0})) A → A → F → Type 0
+  TakesKept g on f = (es : List (K × V)) → AllKeep holds es → CallableWhile g on f es
 
-  module _ {F A : Type 0} (g : Mut F (Bor K × (MutBor V × Unit {0})) (A × (MutBor V × Unit {0}))) where
-    -- f, whatever calls did to it, may be called on each pair that keeps the rule, with its value to write to
-    abbrev pub TakesEachToWrite : Type 0
-    TakesEachToWrite = (s : F) (a : Bor K) (b : MutBor V) → holds a.now b.now → g.pre s (a, (b, tt))
+  module _ (g : Mut F (Bor K × (MutBor V × Unit {0})) (A × (MutBor V × Unit {0}))) where
+    -- f may be called in turn on any pairs that keep the rule, each with its value to write to, as long as On holds of
+    -- each result
+    abbrev pub TakesKeptToWrite : (A → Type 0) → F → Type 0
+    TakesKeptToWrite On f = (es : List (K × V)) → AllKeep holds es → CallableToWrite g On f es
 
     -- if f returns r at a pair that keeps the rule, what it leaves keeps the rule
     abbrev pub KeepsEach : A → Type 0
