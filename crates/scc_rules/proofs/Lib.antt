@@ -1,2 +1,2 @@
-mod Lists
-mod Walks
+pub mod Lists
+pub mod Walks
