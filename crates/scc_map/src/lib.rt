@@ -53,8 +53,8 @@ impl<K: Eq + Hash, V, H: BuildHasher> Model for Owned<K, V, H> {
 }
 
 impl<K: Eq + Hash, V, H: BuildHasher> Owned<K, V, H> {
-    // Returns the allocator of the map.
-    pub(crate) fn allocator(&self) -> Global {
+    /// Returns the allocator of the map.
+    pub fn allocator(&self) -> Global {
         self.table.allocator()
     }
 

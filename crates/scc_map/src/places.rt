@@ -15,14 +15,14 @@ use std::hash::{BuildHasher, Hash};
 
 impl<K: Eq + Hash, V, H: BuildHasher> Owned<K, V, H> {
     /// Returns the hash of `k`.
-    pub(crate) fn hash_of(&self, k: &K) -> u64
+    pub fn hash_of(&self, k: &K) -> u64
         ensures { result ≡ hash_in ⟦<H as Hashes<K>>⟧.hash_of self.now k.now }
     {
         self.table.hash(k)
     }
 
     /// Returns the place of the pair of `k`, or `None`. `hash` must be the hash of `k`.
-    pub(crate) fn place_of(&self, hash: u64, k: &K) -> Option<Place>
+    pub fn place_of(&self, hash: u64, k: &K) -> Option<Place>
         requires { hash ≡ hash_in ⟦<H as Hashes<K>>⟧.hash_of self.now k.now }
         ensures place { MatchOption result (find K.eq (entries self.now) k.now ≡ None)
             (IsFoundAt (λ e. K.eq k.now e.0) self.now) }
@@ -51,7 +51,7 @@ impl<K: Eq + Hash, V, H: BuildHasher> Owned<K, V, H> {
     }
 
     /// Writes `value` at `place`, and returns the old value.
-    pub(crate) fn write_at(&mut self, place: Place, value: V) -> V
+    pub fn write_at(&mut self, place: Place, value: V) -> V
         requires { IsPlace self.old place }
         ensures old { (p : K × V) × (slice_get (entries self.old) (index_of self.old place) ≡ Some p) × (result ≡ p.1) }
         ensures new { self.new ≡ with_write_at with_pair_value self.old place value }
@@ -63,7 +63,7 @@ impl<K: Eq + Hash, V, H: BuildHasher> Owned<K, V, H> {
     }
 
     /// Returns the key at `place`, and the value to write.
-    pub(crate) fn parts_mut_at(&mut self, place: Place) -> (&K, &mut V)
+    pub fn parts_mut_at(&mut self, place: Place) -> (&K, &mut V)
         requires { IsPlace self.old place }
         ensures* writes_back { sem 𝓛 (lends_value K.row V.row H.row H.Hasher.row K.Hash H.BuildHasher H.Hasher.Hasher
             self.entry place result.1) }
@@ -73,7 +73,7 @@ impl<K: Eq + Hash, V, H: BuildHasher> Owned<K, V, H> {
     }
 
     /// Puts `key` in the place of the key at `place`, which must equal it, and returns the old key.
-    pub(crate) fn replace_key_at(&mut self, place: Place, key: K) -> K
+    pub fn replace_key_at(&mut self, place: Place, key: K) -> K
         requires within { IsPlace self.old place }
         requires same { (p : K × V) → slice_get (entries self.old) (index_of self.old place) ≡ Some p
             → K.eq key p.0 ≡ true }
@@ -93,7 +93,7 @@ impl<K: Eq + Hash, V, H: BuildHasher> Owned<K, V, H> {
 
     /// Inserts a pair whose key is new, and returns its place. `hash` must be the hash of `k`. If memory is refused,
     /// the pair comes back.
-    pub(crate) fn insert_new(&mut self, hash: u64, k: K, v: V) -> Result<Place, (K, V)>
+    pub fn insert_new(&mut self, hash: u64, k: K, v: V) -> Result<Place, (K, V)>
         requires hashed { hash ≡ hash_in ⟦<H as Hashes<K>>⟧.hash_of self.old k }
         requires absent { find K.eq (entries self.old) k ≡ None }
         ensures { InsertsNewByRule K.eq ⟦<H as Hashes<K>>⟧.hash_of self.old (k, v) result self.new }

@@ -1,0 +1,26 @@
+-- What a closure must take and keep that a walk over a container under a rule calls on each pair.
+use Rattle.std.specs.Prelude.{List}
+use Rattle.std.specs.Borrow.{Bor, MutBor}
+use Rattle.std.specs.Fn.{Mut}
+use Rattle.scc_common.specs.PairWalks.{CallableToWrite, CalledToWrite}
+use Rattle.scc_common.specs.Walks.{CallableWhile}
+use Rattle.scc_rules.specs.Rules.{AllKeep}
+
+module _ {F K V A : Type 0} (holds : K → V → Type 0) where
+  -- f may be called in turn on any pairs that keep the rule, as long as each call returns `on`
+  abbrev pub TakesKept : Mut F (Bor K × (Bor V × Unit {0})) A → A → F → Type 0
+  TakesKept g on f = (es : List (K × V)) → AllKeep holds es → CallableWhile g on f es
+
+  module _ (g : Mut F (Bor K × (MutBor V × Unit {0})) (A × (MutBor V × Unit {0}))) where
+    -- f may be called in turn on any pairs that keep the rule, each with its value to write to, as long as On holds of
+    -- each result
+    abbrev pub TakesKeptToWrite : (A → Type 0) → F → Type 0
+    TakesKeptToWrite On f = (es : List (K × V)) → AllKeep holds es → CallableToWrite g On f es
+
+    -- if f returns r at a pair that keeps the rule, what it leaves keeps the rule
+    abbrev pub KeepsEach : A → Type 0
+    KeepsEach r = (s s' : F) (p : K × V) (w : V) → holds p.0 p.1 → CalledToWrite g s p r w s' → holds p.0 w
+
+    -- whatever f returns at a pair that keeps the rule, what it leaves keeps the rule
+    abbrev pub KeepsEachAlways : Type 0
+    KeepsEachAlways = (s s' : F) (p : K × V) (r : A) (w : V) → holds p.0 p.1 → CalledToWrite g s p r w s' → holds p.0 w
