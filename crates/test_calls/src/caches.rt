@@ -2,12 +2,10 @@
 use crate::expect::{expect, expect_eq};
 use crate::rows::{Call, expect_answers};
 use scc::hash_cache::Owned;
-use scc_script::same::Same;
 use std::process::Abort;
 use test_forms::answers::{Answer, Rule};
 use test_forms::form::{Act, At, Form, Way};
-use test_kit::maybe_equal::MaybeEqual;
-use test_kit::zero::Zero;
+use test_kit::masked::{SAME, ZERO};
 
 type Row = (Call, Answer);
 
@@ -22,7 +20,7 @@ fn puts(key: u64, evicted: (u64, u64)) -> Row {
 
 // Makes the calls on a cache whose keys share a bucket of 32 slots.
 fn expect_in_one_bucket<R: AllocGlobal + Abort>(rt: &R, rows: &[Row]) {
-    match Owned::with_capacity_and_hasher(rt.alloc(), 0, 64, Zero) {
+    match Owned::with_capacity_and_hasher(rt.alloc(), 0, 64, ZERO) {
         Ok(mut cache) => expect_answers(rt, &mut cache, rows),
         Err(_) => expect(rt, false),
     }
@@ -81,10 +79,10 @@ fn cache_evicts_from_the_keys_own_bucket(rt: HostRuntime) {
         puts(32, (0, 0)),
         (Call::Read(other), Answer::Found(Some((other, 0, other)))),
     ];
-    match Owned::with_capacity_and_hasher(rt.alloc(), 64, 64, Same) {
+    match Owned::with_capacity_and_hasher(rt.alloc(), 64, 64, SAME) {
         Ok(mut cache) => {
             expect_answers(&rt, &mut cache, &rows);
-            let sizes = Form::<MaybeEqual, u64>::sizes(&cache);
+            let sizes = cache.sizes();
             expect_eq(&rt, (sizes.len, sizes.capacity), (33, 64));
         }
         Err(_) => expect(&rt, false),
@@ -134,5 +132,5 @@ fn cache_entries_do_what_they_say(rt: HostRuntime) {
         (Call::Clear, Answer::Yes(true)),
         (Call::Read(1), Answer::Found(None)),
     ];
-    expect_answers(&rt, &mut Owned::new(rt.alloc()), &rows);
+    expect_answers(&rt, &mut Owned::with_hasher(rt.alloc(), SAME), &rows);
 }

@@ -1,49 +1,66 @@
 // What single calls and entries return.
 use crate::expect::expect;
 use crate::rows::{Call, expect_answers};
-use scc::{hash_index, hash_map, hash_set};
+use scc::{InsertError, hash_index, hash_map, hash_set};
 use scc_script::same::Same;
 use std::hash::{BuildHasher, RandomState};
-use std::process::Abort;
 use test_forms::answers::Answer;
 use test_forms::form::{Act, At, Way};
+use test_kit::masked::{SAME, ZERO};
 use test_kit::maybe_equal::MaybeEqual;
-use test_kit::zero::Zero;
 
-// Calls that return the same under each hasher.
-const CALLS: [(Call, Answer); 11] = [
-    (Call::Add(Way::Insert, 11, 7, 17), Answer::Added(None)),
-    (
-        Call::Add(Way::Insert, 11, 11, 18),
-        Answer::Exists((11, 11, 18)),
-    ),
-    (Call::Add(Way::Insert, 12, 0, 19), Answer::Added(None)),
-    (Call::Read(11), Answer::Found(Some((11, 7, 17)))),
-    (Call::Read(12), Answer::Found(Some((12, 0, 19)))),
-    (Call::Read(13), Answer::Found(None)),
-    (Call::Passes(11), Answer::Yes(false)),
-    (Call::Passes(13), Answer::Yes(true)),
-    (Call::Remove(11), Answer::Found(Some((11, 7, 17)))),
-    (Call::Read(11), Answer::Found(None)),
-    (Call::Read(12), Answer::Found(Some((12, 0, 19)))),
-];
+// Adds two keys, looks keys up, walks and removes. Returns whether each call returns what it must.
+fn goes_well<H: BuildHasher + Drop>(map: &mut hash_map::Owned<MaybeEqual, u64, H>) -> bool {
+    let (first, second, other) = (MaybeEqual(11, 7), MaybeEqual(12, 0), MaybeEqual(13, 0));
+    let added = map.insert_sync(first, 17).is_ok();
+    let equal = map.insert_sync(MaybeEqual(11, 11), 18);
+    let exists = matches!(equal, Err(InsertError::Exists((MaybeEqual(11, 11), 18))));
+    let also = map.insert_sync(second, 19).is_ok();
+    let seen = [
+        mark_and_value(map, 11),
+        mark_and_value(map, 12),
+        mark_and_value(map, 13),
+    ];
+    let found = seen == [Some((7, 17)), Some((0, 19)), None];
+    let stops = !map.iter_sync(|key, _| key.0 != 11) && map.iter_sync(|key, _| key.0 != 13);
+    let removed = map
+        .remove_sync(&first)
+        .is_some_and(|pair| pair.0.1 == 7 && pair.1 == 17);
+    let left = [mark_and_value(map, 11), mark_and_value(map, 12)] == [None, Some((0, 19))];
+    added
+        && exists
+        && also
+        && found
+        && stops
+        && removed
+        && left
+        && map.remove_sync(&other).is_none()
+}
 
-// Makes the calls on a map under `hasher`.
-fn expect_under<H: BuildHasher + Clone + Drop, R: AllocGlobal + Abort>(rt: &R, hasher: H) {
-    expect_answers(
-        rt,
-        &mut hash_map::Owned::with_hasher(rt.alloc(), hasher),
-        &CALLS,
-    );
+// Returns the mark of the stored key and its value.
+fn mark_and_value<H: BuildHasher + Drop>(
+    map: &hash_map::Owned<MaybeEqual, u64, H>,
+    number: u64,
+) -> Option<(u64, u64)> {
+    map.read_sync(&MaybeEqual(number, 1), |key, value| (key.1, *value))
 }
 
 #[test]
 fn map_calls_under_each_hasher(rt: HostRuntime) {
-    expect_answers(&rt, &mut hash_map::Owned::new(rt.alloc()), &CALLS);
-    expect_under(&rt, Zero);
-    expect_under(&rt, Same);
+    expect(&rt, goes_well(&mut hash_map::Owned::new(rt.alloc())));
+    expect(
+        &rt,
+        goes_well(&mut hash_map::Owned::with_hasher(rt.alloc(), ZERO)),
+    );
+    expect(
+        &rt,
+        goes_well(&mut hash_map::Owned::with_hasher(rt.alloc(), Same)),
+    );
     match RandomState::new(&rt) {
-        Ok(seeded) => expect_under(&rt, seeded),
+        Ok(seeded) => expect(
+            &rt,
+            goes_well(&mut hash_map::Owned::with_hasher(rt.alloc(), seeded)),
+        ),
         Err(_) => expect(&rt, false),
     }
 }
@@ -104,7 +121,11 @@ const MAP_ENTRIES: [(Call, Answer); 16] = [
 
 #[test]
 fn map_entries_insert_what_is_asked_for(rt: HostRuntime) {
-    expect_answers(&rt, &mut hash_map::Owned::new(rt.alloc()), &MAP_ENTRIES);
+    expect_answers(
+        &rt,
+        &mut hash_map::Owned::with_hasher(rt.alloc(), SAME),
+        &MAP_ENTRIES,
+    );
 }
 
 // An insertion of an equal key changes nothing, and an update keeps the stored key.
@@ -128,7 +149,7 @@ const INDEX_VERSIONS: [(Call, Answer); 12] = [
 
 #[test]
 fn index_keeps_the_stored_version(rt: HostRuntime) {
-    let mut index = hash_index::Owned::with_hasher(rt.alloc(), Zero);
+    let mut index = hash_index::Owned::with_hasher(rt.alloc(), ZERO);
     expect_answers(&rt, &mut index, &INDEX_VERSIONS);
 }
 
@@ -162,7 +183,7 @@ const INDEX_ENTRIES: [(Call, Answer); 10] = [
 
 #[test]
 fn index_entries(rt: HostRuntime) {
-    match hash_index::Owned::with_capacity_and_hasher(rt.alloc(), 64, Same) {
+    match hash_index::Owned::with_capacity_and_hasher(rt.alloc(), 64, SAME) {
         Ok(mut index) => expect_answers(&rt, &mut index, &INDEX_ENTRIES),
         Err(_) => expect(&rt, false),
     }
@@ -191,7 +212,7 @@ const SET_CALLS: [(Call, Answer); 10] = [
 fn set_calls(rt: HostRuntime) {
     expect_answers(
         &rt,
-        &mut hash_set::Owned::with_hasher(rt.alloc(), Zero),
+        &mut hash_set::Owned::with_hasher(rt.alloc(), ZERO),
         &SET_CALLS,
     );
 }
@@ -210,5 +231,9 @@ const MAP_WALKS: [(Call, Answer); 8] = [
 
 #[test]
 fn map_retain_removes_what_is_declined(rt: HostRuntime) {
-    expect_answers(&rt, &mut hash_map::Owned::new(rt.alloc()), &MAP_WALKS);
+    expect_answers(
+        &rt,
+        &mut hash_map::Owned::with_hasher(rt.alloc(), SAME),
+        &MAP_WALKS,
+    );
 }

@@ -2,48 +2,34 @@
 use crate::expect::{expect, expect_eq};
 use crate::rows::{Call, expect_answers, expect_sizes};
 use scc::{Verdict, hash_index, hash_map, hash_set};
-use scc_script::same::Same;
-use std::hash::BuildHasher;
 use std::process::Abort;
 use test_forms::answers::{Answer, Rule};
 use test_forms::form::Form;
-use test_kit::maybe_equal::MaybeEqual;
-use test_kit::zero::Zero;
+use test_forms::token::Token;
+use test_kit::masked::{Masked, SAME, ZERO};
 
 const HALF: u64 = 1 << 63;
 
-type Map<H> = hash_map::Owned<MaybeEqual, u64, H>;
+type Map = hash_map::Owned<Token, Token, Masked>;
 
-type Set<H> = hash_set::Owned<MaybeEqual, H>;
+type Set = hash_set::Owned<Token, Masked>;
 
-type Index<H> = hash_index::Owned<MaybeEqual, u64, H>;
+type Index = hash_index::Owned<Token, Token, Masked>;
 
 type Sizes = (Call, (usize, usize, usize));
 
 // Makes the calls on a map under `hasher`.
-fn expect_of_map<H: BuildHasher + Clone + Drop, R: AllocGlobal + Abort>(
-    rt: &R,
-    hasher: H,
-    rows: &[Sizes],
-) {
+fn expect_of_map<R: AllocGlobal + Abort>(rt: &R, hasher: Masked, rows: &[Sizes]) {
     expect_sizes(rt, &mut Map::with_hasher(rt.alloc(), hasher), rows);
 }
 
 // Makes the calls on a set under `hasher`.
-fn expect_of_set<H: BuildHasher + Clone + Drop, R: AllocGlobal + Abort>(
-    rt: &R,
-    hasher: H,
-    rows: &[Sizes],
-) {
+fn expect_of_set<R: AllocGlobal + Abort>(rt: &R, hasher: Masked, rows: &[Sizes]) {
     expect_sizes(rt, &mut Set::with_hasher(rt.alloc(), hasher), rows);
 }
 
 // Makes the calls on an index under `hasher`.
-fn expect_of_index<H: BuildHasher + Clone + Drop, R: AllocGlobal + Abort>(
-    rt: &R,
-    hasher: H,
-    rows: &[Sizes],
-) {
+fn expect_of_index<R: AllocGlobal + Abort>(rt: &R, hasher: Masked, rows: &[Sizes]) {
     expect_sizes(rt, &mut Index::with_hasher(rt.alloc(), hasher), rows);
 }
 
@@ -57,17 +43,17 @@ const IN_ONE_BUCKET: [Sizes; 4] = [
 
 #[test]
 fn map_grows_with_all_keys_in_one_bucket(rt: HostRuntime) {
-    expect_of_map(&rt, Zero, &IN_ONE_BUCKET);
+    expect_of_map(&rt, ZERO, &IN_ONE_BUCKET);
 }
 
 #[test]
 fn set_grows_with_all_keys_in_one_bucket(rt: HostRuntime) {
-    expect_of_set(&rt, Zero, &IN_ONE_BUCKET);
+    expect_of_set(&rt, ZERO, &IN_ONE_BUCKET);
 }
 
 #[test]
 fn index_grows_with_all_keys_in_one_bucket(rt: HostRuntime) {
-    expect_of_index(&rt, Zero, &IN_ONE_BUCKET);
+    expect_of_index(&rt, ZERO, &IN_ONE_BUCKET);
 }
 
 // A bucket with 32 pairs counts as full, although a slot is free while one pair is in its overflow list.
@@ -82,17 +68,17 @@ const WITH_A_SLOT_FREE: [Sizes; 6] = [
 
 #[test]
 fn map_grows_at_32_pairs_with_a_slot_free(rt: HostRuntime) {
-    expect_of_map(&rt, Same, &WITH_A_SLOT_FREE);
+    expect_of_map(&rt, SAME, &WITH_A_SLOT_FREE);
 }
 
 #[test]
 fn set_grows_at_32_pairs_with_a_slot_free(rt: HostRuntime) {
-    expect_of_set(&rt, Same, &WITH_A_SLOT_FREE);
+    expect_of_set(&rt, SAME, &WITH_A_SLOT_FREE);
 }
 
 #[test]
 fn index_grows_at_32_pairs_with_a_slot_free(rt: HostRuntime) {
-    expect_of_index(&rt, Same, &WITH_A_SLOT_FREE);
+    expect_of_index(&rt, SAME, &WITH_A_SLOT_FREE);
 }
 
 // An array that is an eighth full shrinks, also if a pair is removed through its entry.
@@ -104,17 +90,17 @@ const BY_ENTRIES: [Sizes; 3] = [
 
 #[test]
 fn map_removal_through_an_entry_shrinks(rt: HostRuntime) {
-    expect_of_map(&rt, Zero, &BY_ENTRIES);
+    expect_of_map(&rt, ZERO, &BY_ENTRIES);
 }
 
 #[test]
 fn set_removal_through_an_entry_shrinks(rt: HostRuntime) {
-    expect_of_set(&rt, Zero, &BY_ENTRIES);
+    expect_of_set(&rt, ZERO, &BY_ENTRIES);
 }
 
 #[test]
 fn index_removal_through_an_entry_shrinks(rt: HostRuntime) {
-    expect_of_index(&rt, Zero, &BY_ENTRIES);
+    expect_of_index(&rt, ZERO, &BY_ENTRIES);
 }
 
 // A walk that takes one pair and stops shrinks the array too.
@@ -123,7 +109,7 @@ const SPARSE: [Sizes; 2] = [
     (Call::Empty(17, 40), (17, 128, 0)),
 ];
 
-fn expect_stop_shrinks<R: AllocGlobal + Abort, F: Form<MaybeEqual, u64>>(rt: &R, form: &mut F) {
+fn expect_stop_shrinks<R: AllocGlobal + Abort, F: Form>(rt: &R, form: &mut F) {
     expect_sizes(rt, form, &SPARSE);
     let stop = Call::Take(Rule::Always(Verdict::TakeStop));
     expect_answers(rt, form, &[(stop, Answer::Yes(false))]);
@@ -133,12 +119,12 @@ fn expect_stop_shrinks<R: AllocGlobal + Abort, F: Form<MaybeEqual, u64>>(rt: &R,
 
 #[test]
 fn map_stop_in_a_sparse_map_shrinks_it(rt: HostRuntime) {
-    expect_stop_shrinks(&rt, &mut Map::with_hasher(rt.alloc(), Zero));
+    expect_stop_shrinks(&rt, &mut Map::with_hasher(rt.alloc(), ZERO));
 }
 
 #[test]
 fn set_stop_in_a_sparse_set_shrinks_it(rt: HostRuntime) {
-    expect_stop_shrinks(&rt, &mut Set::with_hasher(rt.alloc(), Zero));
+    expect_stop_shrinks(&rt, &mut Set::with_hasher(rt.alloc(), ZERO));
 }
 
 // Whole walks shrink the array too, and a clone has no waiting bucket.
@@ -151,24 +137,24 @@ const BY_WALKS: [Sizes; 4] = [
 
 #[test]
 fn map_walks_shrink(rt: HostRuntime) {
-    expect_of_map(&rt, Zero, &BY_WALKS);
+    expect_of_map(&rt, ZERO, &BY_WALKS);
 }
 
 #[test]
 fn set_walks_shrink(rt: HostRuntime) {
-    expect_of_set(&rt, Zero, &BY_WALKS);
+    expect_of_set(&rt, ZERO, &BY_WALKS);
 }
 
 #[test]
 fn index_walks_shrink(rt: HostRuntime) {
-    expect_of_index(&rt, Zero, &BY_WALKS);
+    expect_of_index(&rt, ZERO, &BY_WALKS);
 }
 
 const SPREAD: [Sizes; 1] = [(Call::Spread(1000), (1000, 131_072, 0))];
 
 #[test]
 fn map_past_65536_slots(rt: HostRuntime) {
-    match Map::with_capacity_and_hasher(rt.alloc(), 65_537, Same) {
+    match Map::with_capacity_and_hasher(rt.alloc(), 65_537, SAME) {
         Ok(mut map) => {
             expect_eq(&rt, map.capacity(), 131_072);
             expect_sizes(&rt, &mut map, &SPREAD);
@@ -187,7 +173,7 @@ const BY_THE_BUCKET: [(Call, Answer); 4] = [
 
 #[test]
 fn map_has_room_by_the_bucket_of_the_key(rt: HostRuntime) {
-    match Map::with_capacity_and_hasher(rt.alloc(), 64, Same) {
+    match Map::with_capacity_and_hasher(rt.alloc(), 64, SAME) {
         Ok(mut map) => expect_answers(&rt, &mut map, &BY_THE_BUCKET),
         Err(_) => expect(&rt, false),
     }
@@ -195,7 +181,7 @@ fn map_has_room_by_the_bucket_of_the_key(rt: HostRuntime) {
 
 #[test]
 fn set_has_room_by_the_bucket_of_the_key(rt: HostRuntime) {
-    match Set::with_capacity_and_hasher(rt.alloc(), 64, Same) {
+    match Set::with_capacity_and_hasher(rt.alloc(), 64, SAME) {
         Ok(mut set) => expect_answers(&rt, &mut set, &BY_THE_BUCKET),
         Err(_) => expect(&rt, false),
     }

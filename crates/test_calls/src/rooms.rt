@@ -4,11 +4,11 @@ use scc::{hash_cache, hash_index, hash_map, hash_set};
 use std::process::Abort;
 use test_forms::answers::Answer;
 use test_forms::form::{Form, Way};
-use test_kit::maybe_equal::MaybeEqual;
-use test_kit::zero::Zero;
+use test_forms::token::Token;
+use test_kit::masked::{Masked, ZERO};
 
 // A container that prepares an insertion.
-trait Making: Form<MaybeEqual, u64> {
+trait Making: Form {
     // Prepares an insertion of `key`. Returns whether the preparation succeeded.
     fn make(&mut self, key: u64) -> bool;
 
@@ -16,9 +16,9 @@ trait Making: Form<MaybeEqual, u64> {
     fn let_go(&mut self);
 }
 
-impl Making for hash_map::Owned<MaybeEqual, u64, Zero> {
+impl Making for hash_map::Owned<Token, Token, Masked> {
     fn make(&mut self, key: u64) -> bool {
-        self.make_room(&MaybeEqual(key, 0)).is_ok()
+        self.make_room(&Token::of(key)).is_ok()
     }
 
     fn let_go(&mut self) {
@@ -26,9 +26,9 @@ impl Making for hash_map::Owned<MaybeEqual, u64, Zero> {
     }
 }
 
-impl Making for hash_set::Owned<MaybeEqual, Zero> {
+impl Making for hash_set::Owned<Token, Masked> {
     fn make(&mut self, key: u64) -> bool {
-        self.make_room(&MaybeEqual(key, 0)).is_ok()
+        self.make_room(&Token::of(key)).is_ok()
     }
 
     fn let_go(&mut self) {
@@ -36,9 +36,9 @@ impl Making for hash_set::Owned<MaybeEqual, Zero> {
     }
 }
 
-impl Making for hash_index::Owned<MaybeEqual, u64, Zero> {
+impl Making for hash_index::Owned<Token, Token, Masked> {
     fn make(&mut self, key: u64) -> bool {
-        self.make_room(&MaybeEqual(key, 0)).is_ok()
+        self.make_room(&Token::of(key)).is_ok()
     }
 
     fn let_go(&mut self) {
@@ -46,9 +46,9 @@ impl Making for hash_index::Owned<MaybeEqual, u64, Zero> {
     }
 }
 
-impl Making for hash_cache::Owned<MaybeEqual, u64, Zero> {
+impl Making for hash_cache::Owned<Token, Token, Masked> {
     fn make(&mut self, key: u64) -> bool {
-        self.make_room(&MaybeEqual(key, 0)).is_ok()
+        self.make_room(&Token::of(key)).is_ok()
     }
 
     fn let_go(&mut self) {
@@ -65,7 +65,7 @@ fn sizes<F: Making>(form: &F) -> (usize, usize, usize) {
 // Adds the keys from `first` on and before `end`. Returns whether each call returned `answer`.
 fn add<F: Making>(form: &mut F, first: u64, end: u64, answer: Answer) -> bool {
     for key in first..end {
-        if form.add(Way::Insert, MaybeEqual(key, 0), key) != answer {
+        if form.add(Way::Insert, Token::of(key), Token::of(key)) != answer {
             return false;
         }
     }
@@ -99,31 +99,31 @@ fn expect_rooms<R: Abort, F: Making>(rt: &R, form: &mut F, last: Answer, pairs: 
 
 #[test]
 fn map_room_is_made_before_an_insertion(rt: HostRuntime) {
-    let mut map = hash_map::Owned::with_hasher(rt.alloc(), Zero);
+    let mut map = hash_map::Owned::with_hasher(rt.alloc(), ZERO);
     expect_rooms(&rt, &mut map, Answer::Added(None), 33);
 }
 
 #[test]
 fn set_room_is_made_before_an_insertion(rt: HostRuntime) {
-    let mut set = hash_set::Owned::with_hasher(rt.alloc(), Zero);
+    let mut set = hash_set::Owned::with_hasher(rt.alloc(), ZERO);
     expect_rooms(&rt, &mut set, Answer::Added(None), 33);
 }
 
 #[test]
 fn index_room_is_made_before_an_insertion(rt: HostRuntime) {
-    let mut index = hash_index::Owned::with_hasher(rt.alloc(), Zero);
+    let mut index = hash_index::Owned::with_hasher(rt.alloc(), ZERO);
     expect_rooms(&rt, &mut index, Answer::Added(None), 33);
 }
 
 #[test]
 fn cache_room_is_made_before_a_put(rt: HostRuntime) {
-    match hash_cache::Owned::with_capacity_and_hasher(rt.alloc(), 0, 128, Zero) {
+    match hash_cache::Owned::with_capacity_and_hasher(rt.alloc(), 0, 128, ZERO) {
         Ok(mut cache) => expect_rooms(&rt, &mut cache, Answer::Added(Some((0, 0, 0))), 32),
         Err(_) => expect(&rt, false),
     }
 }
 
-type Cache = hash_cache::Owned<u64, u64, Zero>;
+type Cache = hash_cache::Owned<u64, u64, Masked>;
 
 // Returns the pair that a put of `key` would evict.
 fn next_out(cache: &Cache, key: u64) -> Option<(u64, u64)> {
@@ -164,7 +164,7 @@ fn outs(
 // A cache tells before a put which pair it evicts: none if the key is there or a slot is free.
 #[test]
 fn cache_next_evicted_is_told_before_a_put(rt: HostRuntime) {
-    match hash_cache::Owned::with_capacity_and_hasher(rt.alloc(), 0, 64, Zero) {
+    match hash_cache::Owned::with_capacity_and_hasher(rt.alloc(), 0, 64, ZERO) {
         Ok(mut cache) => {
             let is_filled = fill(&mut cache);
             let wanted = ([None, Some((0, 1))], Some((0, 1)), Some((1, 2)));

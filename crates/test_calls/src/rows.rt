@@ -4,7 +4,7 @@ use std::alloc::Global;
 use std::process::Abort;
 use test_forms::answers::{Answer, Rule};
 use test_forms::form::{Act, At, Form, Way};
-use test_kit::maybe_equal::MaybeEqual;
+use test_forms::token::Token;
 
 // A call. A key has a number, by which keys are compared, and a mark, which tells equal keys apart.
 #[derive(Clone, Copy)]
@@ -40,9 +40,9 @@ pub(crate) enum Call {
 }
 
 // Adds the keys from `first` on and before `end`. Returns whether each was added.
-fn fill<F: Form<MaybeEqual, u64>>(form: &mut F, first: u64, end: u64) -> bool {
+fn fill<F: Form>(form: &mut F, first: u64, end: u64) -> bool {
     for key in first..end {
-        if form.add(Way::Insert, MaybeEqual(key, 0), key) != Answer::Added(None) {
+        if form.add(Way::Insert, Token::of(key), Token::of(key)) != Answer::Added(None) {
             return false;
         }
     }
@@ -50,10 +50,10 @@ fn fill<F: Form<MaybeEqual, u64>>(form: &mut F, first: u64, end: u64) -> bool {
 }
 
 // Removes the keys from `first` on and before `end`. Returns whether each is gone.
-fn empty<F: Form<MaybeEqual, u64>>(form: &mut F, first: u64, end: u64) -> bool {
+fn empty<F: Form>(form: &mut F, first: u64, end: u64) -> bool {
     for key in first..end {
-        form.remove(&MaybeEqual(key, 0));
-        if form.read(&MaybeEqual(key, 0)) != Answer::Found(None) {
+        form.remove(&Token::of(key));
+        if form.read(&Token::of(key)) != Answer::Found(None) {
             return false;
         }
     }
@@ -61,10 +61,10 @@ fn empty<F: Form<MaybeEqual, u64>>(form: &mut F, first: u64, end: u64) -> bool {
 }
 
 // Removes the keys from `first` on and before `end`, each through its entry. Returns whether each is gone.
-fn empty_by_entry<F: Form<MaybeEqual, u64>>(form: &mut F, first: u64, end: u64) -> bool {
+fn empty_by_entry<F: Form>(form: &mut F, first: u64, end: u64) -> bool {
     for key in first..end {
-        form.act(At::Any, Act::RemoveEntry, &MaybeEqual(key, 0), 0);
-        if form.read(&MaybeEqual(key, 0)) != Answer::Found(None) {
+        form.act(At::Any, Act::RemoveEntry, &Token::of(key), Token::of(0));
+        if form.read(&Token::of(key)) != Answer::Found(None) {
             return false;
         }
     }
@@ -72,14 +72,14 @@ fn empty_by_entry<F: Form<MaybeEqual, u64>>(form: &mut F, first: u64, end: u64) 
 }
 
 // Adds `keys` keys that differ in their highest bits. Returns whether each was added and is read.
-fn spread<F: Form<MaybeEqual, u64>>(form: &mut F, keys: u64) -> bool {
+fn spread<F: Form>(form: &mut F, keys: u64) -> bool {
     for i in 0..keys {
-        if form.add(Way::Insert, MaybeEqual(i << 40, i), 0) != Answer::Added(None) {
+        if form.add(Way::Insert, Token::marked(i << 40, i), Token::of(0)) != Answer::Added(None) {
             return false;
         }
     }
     for i in 0..keys {
-        if form.read(&MaybeEqual(i << 40, 0)) != Answer::Found(Some((i << 40, i, 0))) {
+        if form.read(&Token::of(i << 40)) != Answer::Found(Some((i << 40, i, 0))) {
             return false;
         }
     }
@@ -87,7 +87,7 @@ fn spread<F: Form<MaybeEqual, u64>>(form: &mut F, keys: u64) -> bool {
 }
 
 // Makes a call on many keys or on all.
-fn answer_of_many<F: Form<MaybeEqual, u64>>(alloc: Global, form: &mut F, call: Call) -> Answer {
+fn answer_of_many<F: Form>(alloc: Global, form: &mut F, call: Call) -> Answer {
     match call {
         Call::Fill(first, end) => Answer::Yes(fill(form, first, end)),
         Call::Empty(first, end) => Answer::Yes(empty(form, first, end)),
@@ -111,28 +111,32 @@ fn answer_of_many<F: Form<MaybeEqual, u64>>(alloc: Global, form: &mut F, call: C
 }
 
 // Makes a call.
-fn answer<F: Form<MaybeEqual, u64>>(alloc: Global, form: &mut F, call: Call) -> Answer {
+fn answer<F: Form>(alloc: Global, form: &mut F, call: Call) -> Answer {
     match call {
-        Call::Add(way, number, mark, value) => form.add(way, MaybeEqual(number, mark), value),
-        Call::Replace(number, mark) => form.replace(MaybeEqual(number, mark)),
-        Call::Modify(number, value) => form.modify(MaybeEqual(number, 1), value),
-        Call::On(at, act, number, value) => form.act(at, act, &MaybeEqual(number, 0), value),
-        Call::Remove(number) => form.remove(&MaybeEqual(number, 0)),
-        Call::RemoveIf(number) => form.remove_if(&MaybeEqual(number, 0)),
-        Call::Read(number) => form.read(&MaybeEqual(number, 0)),
-        Call::Place(number) => form.place(&MaybeEqual(number, 0)),
+        Call::Add(way, number, mark, value) => form.add(
+            way,
+            Token::marked(number, mark),
+            Token::of(value),
+        ),
+        Call::Replace(number, mark) => form.replace(Token::marked(number, mark)),
+        Call::Modify(number, value) => form.modify(Token::marked(number, 1), Token::of(value)),
+        Call::On(at, act, number, value) => form.act(at, act, &Token::of(number), Token::of(value)),
+        Call::Remove(number) => form.remove(&Token::of(number)),
+        Call::RemoveIf(number) => form.remove_if(&Token::of(number)),
+        Call::Read(number) => form.read(&Token::of(number)),
+        Call::Place(number) => form.place(&Token::of(number)),
         call => answer_of_many(alloc, form, call),
     }
 }
 
 // Returns the number of pairs, the capacity, and the number of waiting buckets.
-fn sizes<F: Form<MaybeEqual, u64>>(form: &F) -> (usize, usize, usize) {
+fn sizes<F: Form>(form: &F) -> (usize, usize, usize) {
     let sizes = form.sizes();
     (sizes.len, sizes.capacity, form.waiting().unwrap_or(0))
 }
 
 // Returns the number of the first row with a wrong answer, and what the call returned.
-fn first_other<F: Form<MaybeEqual, u64>>(
+fn first_other<F: Form>(
     alloc: Global,
     form: &mut F,
     rows: &[(Call, Answer)],
@@ -147,7 +151,7 @@ fn first_other<F: Form<MaybeEqual, u64>>(
 }
 
 // Makes the calls in turn. Each must return the answer of its row.
-pub(crate) fn expect_answers<R: AllocGlobal + Abort, F: Form<MaybeEqual, u64>>(
+pub(crate) fn expect_answers<R: AllocGlobal + Abort, F: Form>(
     rt: &R,
     form: &mut F,
     rows: &[(Call, Answer)],
@@ -157,7 +161,7 @@ pub(crate) fn expect_answers<R: AllocGlobal + Abort, F: Form<MaybeEqual, u64>>(
 
 // Makes calls on many keys in turn. Each must return true, and leave the number of pairs, the capacity and the number
 // of waiting buckets of its row.
-pub(crate) fn expect_sizes<R: AllocGlobal + Abort, F: Form<MaybeEqual, u64>>(
+pub(crate) fn expect_sizes<R: AllocGlobal + Abort, F: Form>(
     rt: &R,
     form: &mut F,
     rows: &[(Call, (usize, usize, usize))],

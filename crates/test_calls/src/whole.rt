@@ -7,6 +7,7 @@ use std::process::Abort;
 use test_forms::answers::Answer;
 use test_forms::form::Form;
 use test_forms::numbered::Seen;
+use test_kit::masked::ZERO;
 use test_kit::maybe_equal::MaybeEqual;
 use test_kit::zero::Zero;
 
@@ -166,7 +167,7 @@ fn expect_first_mark<R: Abort>(rt: &R, set: &hash_set::Owned<MaybeEqual>) {
 }
 
 // Steps from entry to entry, and steps that remove each pair, meet the pairs of a walk in its order.
-fn expect_steps<R: AllocGlobal + Abort, F: Form<MaybeEqual, u64>>(rt: &R, form: &mut F) {
+fn expect_steps<R: AllocGlobal + Abort, F: Form>(rt: &R, form: &mut F) {
     expect_sizes(rt, form, &[(Call::Fill(0, 40), (40, 128, 0))]);
     let mut walked = Vec::new(rt.alloc());
     expect(rt, form.collect(&mut walked));
@@ -176,11 +177,7 @@ fn expect_steps<R: AllocGlobal + Abort, F: Form<MaybeEqual, u64>>(rt: &R, form: 
     expect_eq(rt, (walked.len(), sizes.len, sizes.capacity), (40, 0, 128));
 }
 
-fn expect_same_steps<R: AllocGlobal + Abort, F: Form<MaybeEqual, u64>>(
-    rt: &R,
-    form: &mut F,
-    walked: &[Seen],
-) {
+fn expect_same_steps<R: AllocGlobal + Abort, F: Form>(rt: &R, form: &mut F, walked: &[Seen]) {
     let mut stepped = Vec::new(rt.alloc());
     let answer = form.step(64, &mut stepped);
     expect_eq(
@@ -190,11 +187,7 @@ fn expect_same_steps<R: AllocGlobal + Abort, F: Form<MaybeEqual, u64>>(
     );
 }
 
-fn expect_same_drain<R: AllocGlobal + Abort, F: Form<MaybeEqual, u64>>(
-    rt: &R,
-    form: &mut F,
-    walked: &[Seen],
-) {
+fn expect_same_drain<R: AllocGlobal + Abort, F: Form>(rt: &R, form: &mut F, walked: &[Seen]) {
     let mut drained = Vec::new(rt.alloc());
     let answer = form.drain(64, &mut drained);
     expect_eq(
@@ -206,21 +199,21 @@ fn expect_same_drain<R: AllocGlobal + Abort, F: Form<MaybeEqual, u64>>(
 
 #[test]
 fn map_steps_from_entry_to_entry(rt: HostRuntime) {
-    expect_steps(&rt, &mut hash_map::Owned::with_hasher(rt.alloc(), Zero));
+    expect_steps(&rt, &mut hash_map::Owned::with_hasher(rt.alloc(), ZERO));
 }
 
 #[test]
 fn set_steps_from_entry_to_entry(rt: HostRuntime) {
-    expect_steps(&rt, &mut hash_set::Owned::with_hasher(rt.alloc(), Zero));
+    expect_steps(&rt, &mut hash_set::Owned::with_hasher(rt.alloc(), ZERO));
 }
 
 #[test]
 fn index_steps_from_entry_to_entry(rt: HostRuntime) {
-    expect_steps(&rt, &mut hash_index::Owned::with_hasher(rt.alloc(), Zero));
+    expect_steps(&rt, &mut hash_index::Owned::with_hasher(rt.alloc(), ZERO));
 }
 
 // A snapshot has each version once.
-fn expect_snapshot<R: AllocGlobal + Abort, F: Form<MaybeEqual, u64>>(rt: &R, form: &mut F) {
+fn expect_snapshot<R: AllocGlobal + Abort, F: Form>(rt: &R, form: &mut F) {
     expect_sizes(rt, form, &[(Call::Fill(0, 40), (40, 128, 0))]);
     let mut walked = Vec::new(rt.alloc());
     let mut met = Vec::new(rt.alloc());
@@ -233,5 +226,5 @@ fn expect_snapshot<R: AllocGlobal + Abort, F: Form<MaybeEqual, u64>>(rt: &R, for
 
 #[test]
 fn index_snapshot_has_each_version(rt: HostRuntime) {
-    expect_snapshot(&rt, &mut hash_index::Owned::with_hasher(rt.alloc(), Zero));
+    expect_snapshot(&rt, &mut hash_index::Owned::with_hasher(rt.alloc(), ZERO));
 }

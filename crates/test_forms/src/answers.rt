@@ -1,6 +1,7 @@
 //! What calls on a container return, by numbers.
 
-use crate::numbered::{Numbered, Seen, keeps, raise, seen, seen_key};
+use crate::numbered::{Seen, keeps, raise, seen, seen_key};
+use crate::token::Token;
 use scc_common::{InsertError, KeyError, Verdict};
 use scc_fallible::TryInsertError;
 
@@ -65,7 +66,7 @@ pub enum Answer {
 }
 
 /// Returns the answer for an insertion that failed.
-pub fn refused<K: Numbered + Drop, V: Numbered + Drop>(error: InsertError<K, V>) -> Answer {
+pub fn refused(error: InsertError<Token, Token>) -> Answer {
     match error {
         InsertError::Exists(pair) => Answer::Exists(seen(&pair.0, &pair.1)),
         InsertError::Memory(pair) => Answer::Refused(Some(seen(&pair.0, &pair.1))),
@@ -81,7 +82,7 @@ pub fn untried<K: Numbered + Drop, V: Numbered + Drop>(error: TryInsertError<K, 
 }
 
 /// Returns the answer for an insertion of a key that failed.
-pub fn refused_key<K: Numbered + Drop>(error: KeyError<K>) -> Answer {
+pub fn refused_key(error: KeyError<Token>) -> Answer {
     match error {
         KeyError::Exists(key) => Answer::Exists(seen_key(&key)),
         KeyError::Memory(key) => Answer::Refused(Some(seen_key(&key))),
@@ -98,7 +99,7 @@ pub enum Rule {
 }
 
 /// Writes `value` by `rule`, and returns the verdict on the pair.
-pub fn verdict<K: Numbered, V: Numbered>(rule: Rule, key: &K, value: &mut V) -> Verdict {
+pub fn verdict(rule: Rule, key: &Token, value: &mut Token) -> Verdict {
     match rule {
         Rule::Rest(_) => raise(value),
         Rule::Always(_) => value.write(9),
@@ -107,7 +108,7 @@ pub fn verdict<K: Numbered, V: Numbered>(rule: Rule, key: &K, value: &mut V) -> 
 }
 
 /// Returns the verdict on a key, as `verdict` does for a pair.
-pub fn key_verdict<K: Numbered>(rule: Rule, key: &K) -> Verdict {
+pub fn key_verdict(rule: Rule, key: &Token) -> Verdict {
     match rule {
         Rule::Rest(rest) => {
             if keeps(key, rest) {
@@ -121,7 +122,7 @@ pub fn key_verdict<K: Numbered>(rule: Rule, key: &K) -> Verdict {
 }
 
 /// Adds 1 to the value. Returns whether the key's number leaves another rest than `rest` when divided by 8.
-pub fn raise_and_keep<K: Numbered, V: Numbered>(key: &K, value: &mut V, rest: u64) -> bool {
+pub fn raise_and_keep(key: &Token, value: &mut Token, rest: u64) -> bool {
     raise(value);
     keeps(key, rest)
 }

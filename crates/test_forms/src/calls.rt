@@ -2,7 +2,8 @@
 
 use crate::answers::{Answer, Kind, Rule};
 use crate::form::{Act, At, Form, WAYS, Way};
-use crate::numbered::{Numbered, Seen};
+use crate::numbered::Seen;
+use crate::token::Token;
 use std::alloc::Global;
 
 /// What a call does.
@@ -131,7 +132,7 @@ fn walked(had_room: bool) -> Answer {
 }
 
 // Makes a call that meets or removes many pairs, or a call on the whole container.
-fn make_walk<K: Drop + Numbered, V: Drop + Numbered, F: Form<K, V>>(
+fn make_walk<F: Form>(
     alloc: Global,
     form: &mut F,
     what: What,
@@ -160,12 +161,12 @@ fn make_walk<K: Drop + Numbered, V: Drop + Numbered, F: Form<K, V>>(
 }
 
 /// Makes the call `what` on a container. Adds the pairs that the call meets or removes to `met`.
-pub fn make<K: Drop + Numbered, V: Drop + Numbered, F: Form<K, V>>(
+pub fn make<F: Form>(
     alloc: Global,
     form: &mut F,
     what: What,
-    key: K,
-    value: V,
+    key: Token,
+    value: Token,
     met: &mut Vec<Seen>,
 ) -> Answer {
     match what {

@@ -1,7 +1,8 @@
 //! The trait `Form`: the calls that a test makes on a container of any kind and form.
 
 use crate::answers::{Answer, Kind, Rule};
-use crate::numbered::{Numbered, Seen};
+use crate::numbered::Seen;
+use crate::token::Token;
 use std::alloc::Global;
 
 /// A way to add a pair. If the key is there, each way does what the call it is named after does.
@@ -150,45 +151,45 @@ impl Sizes {
 }
 
 /// A container of any kind and form. A call that the kind lacks returns `Absent` and adds nothing to `met`.
-pub trait Form<K: Drop + Numbered, V: Drop + Numbered> {
+pub trait Form {
     /// Returns the kind.
     fn kind(&self) -> Kind;
 
     /// Adds the pair by `way`.
-    fn add(&mut self, way: Way, key: K, value: V) -> Answer;
+    fn add(&mut self, way: Way, key: Token, value: Token) -> Answer;
 
     /// Replaces an equal key by `key`, by `replace_sync`. Returns `Swapped`. If the key is missing, a set inserts it,
     /// and another kind drops the vacant entry.
-    fn replace(&mut self, _key: K) -> Answer {
+    fn replace(&mut self, _key: Token) -> Answer {
         Answer::Absent
     }
 
     /// Sets the value of `key` by `update_sync`, whose closure returns the old value. Returns `Old`.
-    fn update(&mut self, _key: &K, _value: V) -> Answer {
+    fn update(&mut self, _key: &Token, _value: Token) -> Answer {
         Answer::Absent
     }
 
     /// Sets the value of the key's entry by `and_modify`. Returns `Found` with the new pair, or `Vacant`.
-    fn modify(&mut self, _key: K, _value: V) -> Answer {
+    fn modify(&mut self, _key: Token, _value: Token) -> Answer {
         Answer::Absent
     }
 
     /// Does `act` with the occupied entry that `at` names. Returns `Found(None)` if there is no such entry.
-    fn act(&mut self, at: At, act: Act, key: &K, value: V) -> Answer;
+    fn act(&mut self, at: At, act: Act, key: &Token, value: Token) -> Answer;
 
     /// Removes the key. Returns `Found`, or `Yes` for an index.
-    fn remove(&mut self, key: &K) -> Answer;
+    fn remove(&mut self, key: &Token) -> Answer;
 
     /// Adds 1 to the value, and removes the pair if the value is even then. An index writes nothing. A set removes
     /// the key if the key's number is even.
-    fn remove_if(&mut self, key: &K) -> Answer;
+    fn remove_if(&mut self, key: &Token) -> Answer;
 
     /// Makes all look-ups of `key`. Returns `Found` with the pair, or `Wrong` if two of the look-ups differ.
-    fn read(&self, key: &K) -> Answer;
+    fn read(&self, key: &Token) -> Answer;
 
     /// Returns `Place` with the number of the key's bucket and whether the bucket has room. An index gives the bucket
     /// alone.
-    fn place(&self, _key: &K) -> Answer {
+    fn place(&self, _key: &Token) -> Answer {
         Answer::Absent
     }
 

@@ -10,3 +10,4 @@ pub mod list;
 pub mod numbered;
 pub mod owned;
 pub mod reserving;
+pub mod token;

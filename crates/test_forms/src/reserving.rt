@@ -1,7 +1,8 @@
 //! The trait `Reserving`: reservations of the owned containers.
 
+use crate::token::Token;
 use scc_table::Reservation;
-use std::hash::{BuildHasher, Hash};
+use test_kit::masked::Masked;
 
 /// An owned container that takes reservations.
 pub trait Reserving {
@@ -15,7 +16,7 @@ pub trait Reserving {
     fn minimum(&self) -> usize;
 }
 
-impl<K: Eq + Hash, V, H: BuildHasher> Reserving for scc_map::Owned<K, V, H> {
+impl Reserving for scc_map::Owned<Token, Token, Masked> {
     fn reserve_slots(&mut self, additional: usize) -> Option<Reservation> {
         self.reserve(additional)
     }
@@ -29,7 +30,7 @@ impl<K: Eq + Hash, V, H: BuildHasher> Reserving for scc_map::Owned<K, V, H> {
     }
 }
 
-impl<K: Eq + Hash, H: BuildHasher> Reserving for scc_set::Owned<K, H> {
+impl Reserving for scc_set::Owned<Token, Masked> {
     fn reserve_slots(&mut self, additional: usize) -> Option<Reservation> {
         self.reserve(additional)
     }
@@ -43,7 +44,7 @@ impl<K: Eq + Hash, H: BuildHasher> Reserving for scc_set::Owned<K, H> {
     }
 }
 
-impl<K: Eq + Hash, V, H: BuildHasher> Reserving for scc_index::Owned<K, V, H> {
+impl Reserving for scc_index::Owned<Token, Token, Masked> {
     fn reserve_slots(&mut self, additional: usize) -> Option<Reservation> {
         self.reserve(additional)
     }

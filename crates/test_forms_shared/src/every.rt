@@ -6,16 +6,16 @@ use scc_shared_index::HashIndex;
 use scc_shared_map::HashMap;
 use scc_shared_set::HashSet;
 use std::alloc::{AllocError, Global};
-use std::hash::{BuildHasher, Hash};
 use std::sync::Wait;
 use test_forms::form::Form;
-use test_forms::numbered::Numbered;
+use test_forms::token::Token;
 use test_kit::lines::{HELD, say};
+use test_kit::masked::Masked;
 
-/// A case on keys and values of the given types.
-pub trait Case<K: Drop + Numbered, V: Drop + Numbered> {
+/// A case.
+pub trait Case {
     /// Tries the case on `form`, which is empty. Returns whether the case holds.
-    fn check<F: Form<K, V>>(&self, alloc: Global, form: &mut F) -> Result<bool, AllocError>;
+    fn check<F: Form>(&self, alloc: Global, form: &mut F) -> Result<bool, AllocError>;
 
     /// Returns whether the case still holds after the container is dropped.
     fn has_ended(&self) -> bool;
@@ -48,97 +48,82 @@ const STRIPES: Size = Size {
     is_one: false,
 };
 
-fn in_owned_map<
-    K: Eq + Hash + Clone + Drop + Numbered,
-    V: Clone + Default + Drop + Numbered + PartialEq,
-    H: BuildHasher + Copy,
-    C: Case<K, V>,
->(alloc: Global, case: &C, hasher: H) -> Result<bool, AllocError> {
-    let mut map: scc_map::Owned<K, V, H> = scc_map::Owned::with_hasher(alloc, hasher);
+fn in_owned_map<C: Case>(alloc: Global, case: &C, hasher: Masked) -> Result<bool, AllocError> {
+    let mut map: scc_map::Owned<Token, Token, Masked> = scc_map::Owned::with_hasher(alloc, hasher);
     case.check(alloc, &mut map)
 }
 
-fn in_owned_set<
-    K: Eq + Hash + Clone + Drop + Numbered,
-    V: Clone + Default + Drop + Numbered + PartialEq,
-    H: BuildHasher + Copy,
-    C: Case<K, V>,
->(alloc: Global, case: &C, hasher: H) -> Result<bool, AllocError> {
-    let mut set: scc_set::Owned<K, H> = scc_set::Owned::with_hasher(alloc, hasher);
+fn in_owned_set<C: Case>(alloc: Global, case: &C, hasher: Masked) -> Result<bool, AllocError> {
+    let mut set: scc_set::Owned<Token, Masked> = scc_set::Owned::with_hasher(alloc, hasher);
     case.check(alloc, &mut set)
 }
 
-fn in_owned_index<
-    K: Eq + Hash + Clone + Drop + Numbered,
-    V: Clone + Default + Drop + Numbered + PartialEq,
-    H: BuildHasher + Copy,
-    C: Case<K, V>,
->(alloc: Global, case: &C, hasher: H) -> Result<bool, AllocError> {
-    let mut index: scc_index::Owned<K, V, H> = scc_index::Owned::with_hasher(alloc, hasher);
+fn in_owned_index<C: Case>(alloc: Global, case: &C, hasher: Masked) -> Result<bool, AllocError> {
+    let mut index: scc_index::Owned<Token, Token, Masked> = scc_index::Owned::with_hasher(
+        alloc, hasher,
+    );
     case.check(alloc, &mut index)
 }
 
-fn in_owned_cache<
-    K: Eq + Hash + Clone + Drop + Numbered,
-    V: Clone + Default + Drop + Numbered + PartialEq,
-    H: BuildHasher + Copy,
-    C: Case<K, V>,
->(alloc: Global, case: &C, hasher: H) -> Result<bool, AllocError> {
-    let mut cache: scc_cache::Owned<K, V, H> = scc_cache::Owned::with_hasher(alloc, hasher);
+fn in_owned_cache<C: Case>(alloc: Global, case: &C, hasher: Masked) -> Result<bool, AllocError> {
+    let mut cache: scc_cache::Owned<Token, Token, Masked> = scc_cache::Owned::with_hasher(
+        alloc, hasher,
+    );
     case.check(alloc, &mut cache)
 }
 
-fn in_map<
-    R: Wait + AllocGlobal,
-    K: Eq + Hash + Clone + Drop + Numbered,
-    V: Clone + Default + Drop + Numbered + PartialEq,
-    H: BuildHasher + Copy,
-    C: Case<K, V>,
->(rt: &R, case: &C, hasher: H, size: Size) -> Result<bool, AllocError> {
+fn in_map<R: Wait + AllocGlobal, C: Case>(
+    rt: &R,
+    case: &C,
+    hasher: Masked,
+    size: Size,
+) -> Result<bool, AllocError> {
     let alloc = rt.alloc();
-    let Ok(map) = HashMap::<K, V, H>::with_capacity_and_hasher(alloc, size.slots, hasher) else {
+    let Ok(map) = HashMap::<Token, Token, Masked>::with_capacity_and_hasher(
+        alloc, size.slots, hasher,
+    ) else {
         return Err(AllocError);
     };
     case.check(alloc, &mut Held::of_stripes(rt, map, size.is_one))
 }
 
-fn in_set<
-    R: Wait + AllocGlobal,
-    K: Eq + Hash + Clone + Drop + Numbered,
-    V: Clone + Default + Drop + Numbered + PartialEq,
-    H: BuildHasher + Copy,
-    C: Case<K, V>,
->(rt: &R, case: &C, hasher: H, size: Size) -> Result<bool, AllocError> {
+fn in_set<R: Wait + AllocGlobal, C: Case>(
+    rt: &R,
+    case: &C,
+    hasher: Masked,
+    size: Size,
+) -> Result<bool, AllocError> {
     let alloc = rt.alloc();
-    let Ok(set) = HashSet::<K, H>::with_capacity_and_hasher(alloc, size.slots, hasher) else {
+    let Ok(set) = HashSet::<Token, Masked>::with_capacity_and_hasher(alloc, size.slots, hasher)
+    else {
         return Err(AllocError);
     };
     case.check(alloc, &mut Held::of_stripes(rt, set, size.is_one))
 }
 
-fn in_index<
-    R: Wait + AllocGlobal,
-    K: Eq + Hash + Clone + Drop + Numbered,
-    V: Clone + Default + Drop + Numbered + PartialEq,
-    H: BuildHasher + Copy,
-    C: Case<K, V>,
->(rt: &R, case: &C, hasher: H, size: Size) -> Result<bool, AllocError> {
+fn in_index<R: Wait + AllocGlobal, C: Case>(
+    rt: &R,
+    case: &C,
+    hasher: Masked,
+    size: Size,
+) -> Result<bool, AllocError> {
     let alloc = rt.alloc();
-    let Ok(index) = HashIndex::<K, V, H>::with_capacity_and_hasher(alloc, size.slots, hasher) else {
+    let Ok(index) = HashIndex::<Token, Token, Masked>::with_capacity_and_hasher(
+        alloc, size.slots, hasher,
+    ) else {
         return Err(AllocError);
     };
     case.check(alloc, &mut Held::of_stripes(rt, index, size.is_one))
 }
 
-fn in_cache<
-    R: Wait + AllocGlobal,
-    K: Eq + Hash + Clone + Drop + Numbered,
-    V: Clone + Default + Drop + Numbered + PartialEq,
-    H: BuildHasher + Copy,
-    C: Case<K, V>,
->(rt: &R, case: &C, hasher: H, size: Size) -> Result<bool, AllocError> {
+fn in_cache<R: Wait + AllocGlobal, C: Case>(
+    rt: &R,
+    case: &C,
+    hasher: Masked,
+    size: Size,
+) -> Result<bool, AllocError> {
     let alloc = rt.alloc();
-    let Ok(cache) = HashCache::<K, V, H>::with_capacity_and_hasher(
+    let Ok(cache) = HashCache::<Token, Token, Masked>::with_capacity_and_hasher(
         alloc,
         size.slots,
         size.maximum,
@@ -150,7 +135,7 @@ fn in_cache<
 }
 
 // Prints `what` and `form` if the case didn't hold. Returns the status of the case, whose container is gone.
-fn tell<R: Print, K: Drop + Numbered, V: Drop + Numbered, C: Case<K, V>>(
+fn tell<R: Print, C: Case>(
     rt: &R,
     case: &C,
     form: &str,
@@ -165,13 +150,12 @@ fn tell<R: Print, K: Drop + Numbered, V: Drop + Numbered, C: Case<K, V>>(
 }
 
 // Tries a case in each owned kind. Returns the worst status.
-fn in_owned_forms<
-    R: AllocGlobal + Print,
-    K: Eq + Hash + Clone + Drop + Numbered,
-    V: Clone + Default + Drop + Numbered + PartialEq,
-    H: BuildHasher + Copy,
-    C: Case<K, V>,
->(rt: &R, case: &C, what: &str, hasher: H) -> u8 {
+fn in_owned_forms<R: AllocGlobal + Print, C: Case>(
+    rt: &R,
+    case: &C,
+    what: &str,
+    hasher: Masked,
+) -> u8 {
     let alloc = rt.alloc();
     let map = in_owned_map(alloc, case, hasher);
     let worst = tell(rt, case, "owned map", what, map);
@@ -184,13 +168,13 @@ fn in_owned_forms<
 }
 
 // Tries a case in each shared kind of the given size. Returns the worst status.
-fn in_shared_forms<
-    R: Wait + AllocGlobal + Print,
-    K: Eq + Hash + Clone + Drop + Numbered,
-    V: Clone + Default + Drop + Numbered + PartialEq,
-    H: BuildHasher + Copy,
-    C: Case<K, V>,
->(rt: &R, case: &C, what: &str, hasher: H, size: Size) -> u8 {
+fn in_shared_forms<R: Wait + AllocGlobal + Print, C: Case>(
+    rt: &R,
+    case: &C,
+    what: &str,
+    hasher: Masked,
+    size: Size,
+) -> u8 {
     let map = in_map(rt, case, hasher, size);
     let form = size.name("map of one stripe", "map of stripes");
     let worst = tell(rt, case, form, what, map);
@@ -207,13 +191,12 @@ fn in_shared_forms<
 
 /// Tries a case in each kind: owned, shared on one stripe, and shared on several. Prints a line for the case, and one
 /// for each form in which it doesn't hold. Returns the worst status.
-pub fn in_every_form<
-    R: Wait + AllocGlobal + Print,
-    K: Eq + Hash + Clone + Drop + Numbered,
-    V: Clone + Default + Drop + Numbered + PartialEq,
-    H: BuildHasher + Copy,
-    C: Case<K, V>,
->(rt: &R, case: &C, what: &str, hasher: H) -> u8 {
+pub fn in_every_form<R: Wait + AllocGlobal + Print, C: Case>(
+    rt: &R,
+    case: &C,
+    what: &str,
+    hasher: Masked,
+) -> u8 {
     let owned = in_owned_forms(rt, case, what, hasher);
     let one = in_shared_forms(rt, case, what, hasher, ONE_STRIPE);
     let several = in_shared_forms(rt, case, what, hasher, STRIPES);

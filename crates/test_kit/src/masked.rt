@@ -5,8 +5,8 @@ ghost use Rattle.test_kit.specs.Masks.{masked_write};
 
 use std::hash::{BuildHasher, Hasher};
 
-/// Builds hashers by which the hash of a `u64` is the number under the mask.
-#[derive(Clone, Copy, Debug, PartialEq)]
+/// Builds hashers by which the hash of a `u64` is the number under the mask. The default mask is 0.
+#[derive(Clone, Copy, Debug, Default, PartialEq)]
 pub struct Masked(pub u64);
 
 /// Every key has the hash 0.

@@ -7,11 +7,13 @@ use std::io::Print;
 use std::process::Abort;
 use std::sync::Wait;
 use test_forms::form::{Form, Way};
+use test_forms::token::Token;
+use test_kit::masked::{Masked, ZERO};
 use test_kit::refusals::{Refusal, TRIES};
 use test_kit::zero::Zero;
 
 // Checks a clone of three keys in 64 slots, and adds a fourth key to the clone alone.
-fn expect_copy<F: Form<u64, u64>, R: Abort + Print>(
+fn expect_copy<F: Form, R: Abort + Print>(
     rt: &R,
     refusal: &mut Refusal,
     original: &F,
@@ -31,7 +33,7 @@ fn expect_copy<F: Form<u64, u64>, R: Abort + Print>(
 fn expect_map<R: AllocGlobal + Abort + Print>(
     rt: &R,
     refusal: &mut Refusal,
-    map: &hash_map::Owned<u64, u64, Zero>,
+    map: &hash_map::Owned<Token, Token, Masked>,
 ) {
     for _ in 0..TRIES {
         match map.try_clone() {
@@ -45,7 +47,10 @@ fn expect_map<R: AllocGlobal + Abort + Print>(
 
 #[test]
 fn a_clone_of_a_map_is_whole(rt: HostRuntime) {
-    let mut map: hash_map::Owned<u64, u64, Zero> = hash_map::Owned::with_hasher(rt.alloc(), Zero);
+    let mut map: hash_map::Owned<Token, Token, Masked> = hash_map::Owned::with_hasher(
+        rt.alloc(),
+        ZERO,
+    );
     let mut refusal = Refusal::new();
     fill(&rt, &mut refusal, &mut map, Way::Insert, 3);
     expect_map(&rt, &mut refusal, &map);
@@ -54,7 +59,7 @@ fn a_clone_of_a_map_is_whole(rt: HostRuntime) {
 fn expect_set<R: AllocGlobal + Abort + Print>(
     rt: &R,
     refusal: &mut Refusal,
-    set: &hash_set::Owned<u64, Zero>,
+    set: &hash_set::Owned<Token, Masked>,
 ) {
     for _ in 0..TRIES {
         match set.try_clone() {
@@ -68,7 +73,7 @@ fn expect_set<R: AllocGlobal + Abort + Print>(
 
 #[test]
 fn a_clone_of_a_set_is_whole(rt: HostRuntime) {
-    let mut set: hash_set::Owned<u64, Zero> = hash_set::Owned::with_hasher(rt.alloc(), Zero);
+    let mut set: hash_set::Owned<Token, Masked> = hash_set::Owned::with_hasher(rt.alloc(), ZERO);
     let mut refusal = Refusal::new();
     fill(&rt, &mut refusal, &mut set, Way::Insert, 3);
     expect_set(&rt, &mut refusal, &set);
@@ -77,7 +82,7 @@ fn a_clone_of_a_set_is_whole(rt: HostRuntime) {
 fn expect_index<R: AllocGlobal + Abort + Print>(
     rt: &R,
     refusal: &mut Refusal,
-    index: &hash_index::Owned<u64, u64, Zero>,
+    index: &hash_index::Owned<Token, Token, Masked>,
 ) {
     for _ in 0..TRIES {
         match index.try_clone() {
@@ -91,9 +96,9 @@ fn expect_index<R: AllocGlobal + Abort + Print>(
 
 #[test]
 fn a_clone_of_an_index_is_whole(rt: HostRuntime) {
-    let mut index: hash_index::Owned<u64, u64, Zero> = hash_index::Owned::with_hasher(
+    let mut index: hash_index::Owned<Token, Token, Masked> = hash_index::Owned::with_hasher(
         rt.alloc(),
-        Zero,
+        ZERO,
     );
     let mut refusal = Refusal::new();
     fill(&rt, &mut refusal, &mut index, Way::Insert, 3);

@@ -15,7 +15,7 @@ use test_kit::refusals::{Refusal, TRIES};
 struct Copying;
 
 impl Job for Copying {
-    fn run<F: Form<u64, u64>, R: AllocGlobal + Abort + Print + Wait>(
+    fn run<F: Form, R: AllocGlobal + Abort + Print + Wait>(
         &self,
         rt: &R,
         refusal: &mut Refusal,
@@ -45,7 +45,7 @@ impl Job for Copying {
 struct Snapshot;
 
 impl Job for Snapshot {
-    fn run<F: Form<u64, u64>, R: AllocGlobal + Abort + Print + Wait>(
+    fn run<F: Form, R: AllocGlobal + Abort + Print + Wait>(
         &self,
         rt: &R,
         refusal: &mut Refusal,

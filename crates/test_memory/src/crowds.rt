@@ -16,7 +16,7 @@ use test_kit::refusals::{Refusal, TRIES};
 struct Crowd;
 
 impl Job for Crowd {
-    fn run<F: Form<u64, u64>, R: AllocGlobal + Abort + Print + Wait>(
+    fn run<F: Form, R: AllocGlobal + Abort + Print + Wait>(
         &self,
         rt: &R,
         refusal: &mut Refusal,

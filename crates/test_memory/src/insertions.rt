@@ -10,6 +10,7 @@ use std::sync::Wait;
 use test_forms::answers::{Answer, Kind};
 use test_forms::form::{Form, WAYS, Way};
 use test_forms::numbered::Seen;
+use test_forms::token::Token;
 use test_kit::refusals::{Refusal, TRIES};
 
 // The state of a container before the insertion.
@@ -73,7 +74,7 @@ impl Looks {
 }
 
 // Adds `key` by `way`, after the keys below it, until the insertion succeeds. A refused insertion must change nothing.
-pub(crate) fn expect_added<F: Form<u64, u64>, R: Abort + Print>(
+pub(crate) fn expect_added<F: Form, R: Abort + Print>(
     rt: &R,
     refusal: &mut Refusal,
     of: Of,
@@ -86,7 +87,7 @@ pub(crate) fn expect_added<F: Form<u64, u64>, R: Abort + Print>(
     let pair = pair_of(kind, key, value_of(way, key));
     for _ in 0..TRIES {
         looks.before.see(rt, form);
-        let answer = form.add(way, key, !key);
+        let answer = form.add(way, Token::of(key), Token::of(!key));
         if !matches!(answer, Answer::Refused(_)) {
             expect_eq(rt, answer, wanted(kind, way, key));
             break;
@@ -109,7 +110,7 @@ struct Insertion {
 }
 
 impl Job for Insertion {
-    fn run<F: Form<u64, u64>, R: AllocGlobal + Abort + Print + Wait>(
+    fn run<F: Form, R: AllocGlobal + Abort + Print + Wait>(
         &self,
         rt: &R,
         refusal: &mut Refusal,
@@ -140,7 +141,7 @@ impl Job for Insertion {
 
 // Adds keys to a full bucket until the array has doubled. The first key doubles it. If the growth is refused, the key
 // is added all the same, and the next key tries again.
-fn expect_growth<F: Form<u64, u64>, R: Abort + Print>(
+fn expect_growth<F: Form, R: Abort + Print>(
     rt: &R,
     refusal: &mut Refusal,
     of: Of,

@@ -37,3 +37,5 @@ mod versions;
 mod walks;
 #[cfg(test)]
 mod without_arrays;
+#[cfg(test)]
+mod worked;

@@ -5,6 +5,7 @@ use std::process::Abort;
 use test_forms::answers::{Answer, Kind};
 use test_forms::form::{Form, Sizes, Way};
 use test_forms::numbered::Seen;
+use test_forms::token::Token;
 use test_kit::refusals::{Refusal, TRIES};
 
 // Returns the value of a key that was added by `way`: its complement, unless the way gives it another value.
@@ -23,24 +24,18 @@ pub(crate) fn pair_of(kind: Kind, key: u64, value: u64) -> Seen {
 
 // Fails if a key from `first` up to, but without, `end` is missing or hasn't the value of `way`, or if another key is
 // present.
-pub(crate) fn expect_keys<F: Form<u64, u64>, R: Abort>(
-    rt: &R,
-    form: &F,
-    way: Way,
-    first: u64,
-    end: u64,
-) {
+pub(crate) fn expect_keys<F: Form, R: Abort>(rt: &R, form: &F, way: Way, first: u64, end: u64) {
     let kind = form.kind();
     expect_eq(rt, form.sizes().len as u64, end.saturating_sub(first));
     for key in first..end {
         let pair = pair_of(kind, key, value_of(way, key));
-        expect_eq(rt, form.read(&key), Answer::Found(Some(pair)));
+        expect_eq(rt, form.read(&Token::of(key)), Answer::Found(Some(pair)));
     }
-    expect_eq(rt, form.read(&end), Answer::Found(None));
+    expect_eq(rt, form.read(&Token::of(end)), Answer::Found(None));
 }
 
 // Adds a key until the insertion isn't refused.
-pub(crate) fn put<F: Form<u64, u64>, R: Print>(
+pub(crate) fn put<F: Form, R: Print>(
     rt: &R,
     refusal: &mut Refusal,
     form: &mut F,
@@ -48,7 +43,10 @@ pub(crate) fn put<F: Form<u64, u64>, R: Print>(
     value: u64,
 ) {
     for _ in 0..TRIES {
-        if !matches!(form.add(Way::Insert, key, value), Answer::Refused(_)) {
+        if !matches!(
+            form.add(Way::Insert, Token::of(key), Token::of(value)),
+            Answer::Refused(_)
+        ) {
             return;
         }
         refusal.meet(rt, "an insertion that fills a container");
@@ -56,7 +54,7 @@ pub(crate) fn put<F: Form<u64, u64>, R: Print>(
 }
 
 // Adds the keys below `count`, with the values of `way`.
-pub(crate) fn fill<F: Form<u64, u64>, R: Abort + Print>(
+pub(crate) fn fill<F: Form, R: Abort + Print>(
     rt: &R,
     refusal: &mut Refusal,
     form: &mut F,
@@ -71,7 +69,7 @@ pub(crate) fn fill<F: Form<u64, u64>, R: Abort + Print>(
 
 // Adds keys, each with its complement as value, to a container of 64 slots until it has 128. The 33rd key makes it
 // grow if the growth isn't refused. Returns the number of added keys; a cache has lost all but the last 32.
-pub(crate) fn fill_to_growth<F: Form<u64, u64>, R: Abort + Print>(
+pub(crate) fn fill_to_growth<F: Form, R: Abort + Print>(
     rt: &R,
     refusal: &mut Refusal,
     form: &mut F,
@@ -118,7 +116,7 @@ impl Look {
     }
 
     // Looks at `form`.
-    pub(crate) fn see<F: Form<u64, u64>, R: Abort>(&mut self, rt: &R, form: &F) {
+    pub(crate) fn see<F: Form, R: Abort>(&mut self, rt: &R, form: &F) {
         self.pairs.clear();
         expect(rt, form.collect(&mut self.pairs));
         self.sizes = Some(form.sizes());

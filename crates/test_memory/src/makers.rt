@@ -5,6 +5,7 @@ use std::process::Abort;
 use std::sync::Wait;
 use test_forms::answers::Kind;
 use test_forms::form::Form;
+use test_forms::token::Token;
 use test_kit::refusals::Refusal;
 
 // A kind in a form.
@@ -41,7 +42,7 @@ impl Of {
 
 // A job that is done with a container.
 pub(crate) trait Job {
-    fn run<F: Form<u64, u64>, R: AllocGlobal + Abort + Print + Wait>(
+    fn run<F: Form, R: AllocGlobal + Abort + Print + Wait>(
         &self,
         rt: &R,
         refusal: &mut Refusal,
@@ -90,24 +91,8 @@ pub(crate) fn of_items<J: Job, R: AllocGlobal + Abort + Print + Wait>(
     }
 }
 
-// Returns the items that containers are made of: enough keys to make an array grow, each with its complement as value.
-pub(crate) fn items() -> [(u64, u64); 34] {
-    let mut items = [(0u64, 0u64); 34];
-    let mut key = 0u64;
-    for item in items.iter_mut() {
-        *item = (key, !key);
-        key = key.wrapping_add(1);
-    }
-    items
-}
-
-// Returns the keys of the items.
-pub(crate) fn keys() -> [u64; 34] {
-    let mut keys = [0u64; 34];
-    let mut next = 0u64;
-    for key in keys.iter_mut() {
-        *key = next;
-        next = next.wrapping_add(1);
-    }
-    keys
+// Returns the item of a key, which has its complement as value. Containers are made of the items of the keys below 34,
+// enough to make an array grow.
+pub(crate) fn item(key: u64) -> (Token, Token) {
+    (Token::of(key), Token::of(!key))
 }

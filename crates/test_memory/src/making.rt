@@ -22,7 +22,7 @@ struct Empty {
 }
 
 impl Job for Empty {
-    fn run<F: Form<u64, u64>, R: AllocGlobal + Abort + Print + Wait>(
+    fn run<F: Form, R: AllocGlobal + Abort + Print + Wait>(
         &self,
         rt: &R,
         _refusal: &mut Refusal,
@@ -40,7 +40,7 @@ impl Job for Empty {
 struct Collected;
 
 impl Job for Collected {
-    fn run<F: Form<u64, u64>, R: AllocGlobal + Abort + Print + Wait>(
+    fn run<F: Form, R: AllocGlobal + Abort + Print + Wait>(
         &self,
         rt: &R,
         refusal: &mut Refusal,

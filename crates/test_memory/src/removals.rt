@@ -10,6 +10,7 @@ use std::process::Abort;
 use std::sync::Wait;
 use test_forms::answers::{Answer, Kind, Rule};
 use test_forms::form::{Act, At, Form, Way};
+use test_forms::token::Token;
 use test_kit::refusals::{Refusal, TRIES};
 
 // The calls that may remove a pair and then shrink the array.
@@ -74,7 +75,7 @@ fn removed(kind: Kind, key: u64, value: u64) -> Answer {
 }
 
 // Takes all pairs, until the list has had room for each.
-fn take_all<F: Form<u64, u64>, R: AllocGlobal + Abort + Print>(
+fn take_all<F: Form, R: AllocGlobal + Abort + Print>(
     rt: &R,
     refusal: &mut Refusal,
     of: Of,
@@ -94,7 +95,7 @@ fn take_all<F: Form<u64, u64>, R: AllocGlobal + Abort + Print>(
 }
 
 // Removes the pair of `key`, or more pairs with it.
-fn remove<F: Form<u64, u64>, R: AllocGlobal + Abort + Print>(
+fn remove<F: Form, R: AllocGlobal + Abort + Print>(
     rt: &R,
     refusal: &mut Refusal,
     of: Of,
@@ -106,17 +107,21 @@ fn remove<F: Form<u64, u64>, R: AllocGlobal + Abort + Print>(
     let kind = form.kind();
     let at = if kind == Kind::Set { At::Any } else { At::Key };
     match removal {
-        Removal::Key => expect_eq(rt, form.remove(&key), removed(kind, key, !key)),
+        Removal::Key => expect_eq(rt, form.remove(&Token::of(key)), removed(kind, key, !key)),
         Removal::Condition => {
             let value = (!key).wrapping_add(1);
-            expect_eq(rt, form.remove_if(&key), removed(kind, key, value));
+            expect_eq(
+                rt,
+                form.remove_if(&Token::of(key)),
+                removed(kind, key, value),
+            );
         }
         Removal::Entry => {
-            let answer = form.act(at, Act::RemoveEntry, &key, 0);
+            let answer = form.act(at, Act::RemoveEntry, &Token::of(key), Token::of(0));
             expect_eq(rt, answer, removed(kind, key, !key));
         }
         Removal::Value => {
-            let answer = form.act(at, Act::Remove, &key, 0);
+            let answer = form.act(at, Act::Remove, &Token::of(key), Token::of(0));
             expect_eq(rt, answer, Answer::Old(Some(!key)));
         }
         Removal::Retain => form.retain(0),
@@ -127,15 +132,11 @@ fn remove<F: Form<u64, u64>, R: AllocGlobal + Abort + Print>(
 
 // Fills a bucket of an array of 64 slots until the array has doubled, and removes all keys but the last 17, one more
 // than an eighth of the slots. Returns the number of keys that were added, from 0 on.
-fn thin_out<F: Form<u64, u64>, R: Abort + Print>(
-    rt: &R,
-    refusal: &mut Refusal,
-    form: &mut F,
-) -> u64 {
+fn thin_out<F: Form, R: Abort + Print>(rt: &R, refusal: &mut Refusal, form: &mut F) -> u64 {
     let count = fill_to_growth(rt, refusal, form);
     for key in 0..count {
         if form.sizes().len > 17 {
-            form.remove(&key);
+            form.remove(&Token::of(key));
         }
     }
     expect_eq(rt, (form.sizes().len, form.sizes().capacity), (17, 128));
@@ -143,11 +144,11 @@ fn thin_out<F: Form<u64, u64>, R: Abort + Print>(
 }
 
 // Removes the first key from `first` on that is present. Returns the key after it.
-fn remove_next<F: Form<u64, u64>>(form: &mut F, first: u64) -> u64 {
+fn remove_next<F: Form>(form: &mut F, first: u64) -> u64 {
     let mut key = first;
     let before = form.sizes().len;
     for _ in 0..TRIES {
-        form.remove(&key);
+        form.remove(&Token::of(key));
         key = key.saturating_add(1);
         if form.sizes().len != before {
             break;
@@ -157,7 +158,7 @@ fn remove_next<F: Form<u64, u64>>(form: &mut F, first: u64) -> u64 {
 }
 
 // Shrinks the array by one removal after another, and by clearing, until the shrink isn't refused.
-pub(crate) fn expect_shrunk<F: Form<u64, u64>, R: Abort + Print>(
+pub(crate) fn expect_shrunk<F: Form, R: Abort + Print>(
     rt: &R,
     refusal: &mut Refusal,
     of: Of,
@@ -185,7 +186,7 @@ struct Shrink {
 }
 
 impl Job for Shrink {
-    fn run<F: Form<u64, u64>, R: AllocGlobal + Abort + Print + Wait>(
+    fn run<F: Form, R: AllocGlobal + Abort + Print + Wait>(
         &self,
         rt: &R,
         refusal: &mut Refusal,
@@ -212,7 +213,7 @@ impl Job for Shrink {
             } else {
                 Some(pair)
             };
-            expect_eq(rt, form.read(&other), Answer::Found(wanted));
+            expect_eq(rt, form.read(&Token::of(other)), Answer::Found(wanted));
         }
         expect_shrunk(rt, refusal, of, form, first);
     }

@@ -21,7 +21,7 @@ pub(crate) const GREATEST: usize = 9_223_372_036_854_775_808;
 struct Reservation;
 
 impl Job for Reservation {
-    fn run<F: Form<u64, u64>, R: AllocGlobal + Abort + Print + Wait>(
+    fn run<F: Form, R: AllocGlobal + Abort + Print + Wait>(
         &self,
         rt: &R,
         refusal: &mut Refusal,
@@ -50,7 +50,7 @@ impl Job for Reservation {
 struct Greatest;
 
 impl Job for Greatest {
-    fn run<F: Form<u64, u64>, R: AllocGlobal + Abort + Print + Wait>(
+    fn run<F: Form, R: AllocGlobal + Abort + Print + Wait>(
         &self,
         rt: &R,
         refusal: &mut Refusal,

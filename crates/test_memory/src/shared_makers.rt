@@ -1,12 +1,13 @@
 // Makers of the shared kinds.
-use crate::makers::{Job, Of, items, keys};
+use crate::makers::{Job, Of, item};
 use scc::{HashCache, HashIndex, HashMap, HashSet};
 use std::io::Print;
 use std::process::Abort;
 use std::sync::Wait;
+use test_forms::token::Token;
 use test_forms_shared::held::Held;
+use test_kit::masked::{Masked, ZERO};
 use test_kit::refusals::{Refusal, TRIES};
-use test_kit::zero::Zero;
 
 pub(crate) fn with_map<J: Job, R: AllocGlobal + Abort + Print + Wait>(
     rt: &R,
@@ -15,10 +16,10 @@ pub(crate) fn with_map<J: Job, R: AllocGlobal + Abort + Print + Wait>(
     job: &J,
 ) {
     for _ in 0..TRIES {
-        let made: Result<HashMap<u64, u64, Zero>, _> = HashMap::with_capacity_and_hasher(
+        let made: Result<HashMap<Token, Token, Masked>, _> = HashMap::with_capacity_and_hasher(
             rt.alloc(),
             slots,
-            Zero,
+            ZERO,
         );
         match made {
             Ok(map) => return job.run(rt, refusal, Of::SharedMap, &mut Held::new(rt, map)),
@@ -34,10 +35,10 @@ pub(crate) fn map_of_items<J: Job, R: AllocGlobal + Abort + Print + Wait>(
     job: &J,
 ) {
     for _ in 0..TRIES {
-        let made: Result<HashMap<u64, u64, Zero>, _> = HashMap::try_from_iter(
+        let made: Result<HashMap<Token, Token, Masked>, _> = HashMap::try_from_iter(
             rt,
             rt.alloc(),
-            items(),
+            (0..34).map(item),
         );
         match made {
             Ok(map) => return job.run(rt, refusal, Of::SharedMap, &mut Held::new(rt, map)),
@@ -54,10 +55,10 @@ pub(crate) fn with_set<J: Job, R: AllocGlobal + Abort + Print + Wait>(
     job: &J,
 ) {
     for _ in 0..TRIES {
-        let made: Result<HashSet<u64, Zero>, _> = HashSet::with_capacity_and_hasher(
+        let made: Result<HashSet<Token, Masked>, _> = HashSet::with_capacity_and_hasher(
             rt.alloc(),
             slots,
-            Zero,
+            ZERO,
         );
         match made {
             Ok(set) => return job.run(rt, refusal, Of::SharedSet, &mut Held::new(rt, set)),
@@ -73,7 +74,11 @@ pub(crate) fn set_of_items<J: Job, R: AllocGlobal + Abort + Print + Wait>(
     job: &J,
 ) {
     for _ in 0..TRIES {
-        let made: Result<HashSet<u64, Zero>, _> = HashSet::try_from_iter(rt, rt.alloc(), keys());
+        let made: Result<HashSet<Token, Masked>, _> = HashSet::try_from_iter(
+            rt,
+            rt.alloc(),
+            (0..34).map(Token::of),
+        );
         match made {
             Ok(set) => return job.run(rt, refusal, Of::SharedSet, &mut Held::new(rt, set)),
             Err(_) => refusal.meet(rt, "a shared set of items"),
@@ -89,10 +94,10 @@ pub(crate) fn with_index<J: Job, R: AllocGlobal + Abort + Print + Wait>(
     job: &J,
 ) {
     for _ in 0..TRIES {
-        let made: Result<HashIndex<u64, u64, Zero>, _> = HashIndex::with_capacity_and_hasher(
+        let made: Result<HashIndex<Token, Token, Masked>, _> = HashIndex::with_capacity_and_hasher(
             rt.alloc(),
             slots,
-            Zero,
+            ZERO,
         );
         match made {
             Ok(index) => return job.run(rt, refusal, Of::SharedIndex, &mut Held::new(rt, index)),
@@ -108,10 +113,10 @@ pub(crate) fn index_of_items<J: Job, R: AllocGlobal + Abort + Print + Wait>(
     job: &J,
 ) {
     for _ in 0..TRIES {
-        let made: Result<HashIndex<u64, u64, Zero>, _> = HashIndex::try_from_iter(
+        let made: Result<HashIndex<Token, Token, Masked>, _> = HashIndex::try_from_iter(
             rt,
             rt.alloc(),
-            items(),
+            (0..34).map(item),
         );
         match made {
             Ok(index) => return job.run(rt, refusal, Of::SharedIndex, &mut Held::new(rt, index)),
@@ -128,11 +133,11 @@ pub(crate) fn with_cache<J: Job, R: AllocGlobal + Abort + Print + Wait>(
     job: &J,
 ) {
     for _ in 0..TRIES {
-        let made: Result<HashCache<u64, u64, Zero>, _> = HashCache::with_capacity_and_hasher(
+        let made: Result<HashCache<Token, Token, Masked>, _> = HashCache::with_capacity_and_hasher(
             rt.alloc(),
             slots,
             128,
-            Zero,
+            ZERO,
         );
         match made {
             Ok(cache) => return job.run(rt, refusal, Of::SharedCache, &mut Held::new(rt, cache)),
@@ -148,10 +153,10 @@ pub(crate) fn cache_of_items<J: Job, R: AllocGlobal + Abort + Print + Wait>(
     job: &J,
 ) {
     for _ in 0..TRIES {
-        let made: Result<HashCache<u64, u64, Zero>, _> = HashCache::try_from_iter(
+        let made: Result<HashCache<Token, Token, Masked>, _> = HashCache::try_from_iter(
             rt,
             rt.alloc(),
-            items(),
+            (0..34).map(item),
         );
         match made {
             Ok(cache) => return job.run(rt, refusal, Of::SharedCache, &mut Held::new(rt, cache)),

@@ -10,6 +10,7 @@ use std::process::Abort;
 use std::sync::Wait;
 use test_forms::answers::{Answer, Kind};
 use test_forms::form::{Act, At, Form, Way};
+use test_forms::token::Token;
 use test_kit::refusals::{Refusal, TRIES};
 use test_kit::zero::Zero;
 
@@ -29,7 +30,7 @@ struct Changing {
 }
 
 impl Job for Changing {
-    fn run<F: Form<u64, u64>, R: AllocGlobal + Abort + Print + Wait>(
+    fn run<F: Form, R: AllocGlobal + Abort + Print + Wait>(
         &self,
         rt: &R,
         refusal: &mut Refusal,
@@ -43,8 +44,14 @@ impl Job for Changing {
         let pair = pair_of(Kind::Index, 1, 7);
         for _ in 0..TRIES {
             let (answer, wanted) = match self.change {
-                Change::Update => (form.act(At::Key, Act::Set, &1, 7), Answer::Yes(true)),
-                Change::Modify => (form.modify(1, 7), Answer::Found(Some(pair))),
+                Change::Update => (
+                    form.act(At::Key, Act::Set, &Token::of(1), Token::of(7)),
+                    Answer::Yes(true),
+                ),
+                Change::Modify => (
+                    form.modify(Token::of(1), Token::of(7)),
+                    Answer::Found(Some(pair)),
+                ),
             };
             if answer == wanted {
                 break;
@@ -57,8 +64,12 @@ impl Job for Changing {
             after.see(rt, form);
             before.expect_same(rt, &after, false);
         }
-        expect_eq(rt, form.read(&1), Answer::Found(Some(pair)));
-        expect_eq(rt, form.read(&0), Answer::Found(Some((0, 0, !0))));
+        expect_eq(rt, form.read(&Token::of(1)), Answer::Found(Some(pair)));
+        expect_eq(
+            rt,
+            form.read(&Token::of(0)),
+            Answer::Found(Some((0, 0, !0))),
+        );
     }
 }
 
@@ -77,6 +88,17 @@ fn a_refused_change_leaves_the_version(rt: HostRuntime) {
 #[test]
 fn a_refused_change_leaves_the_shared_version(rt: HostRuntime) {
     expect_changes(&rt, Of::SharedIndex);
+}
+
+// Returns an index of the keys 0 and 1, each with its complement as value.
+fn of_two<R: AllocGlobal + Abort + Print>(rt: &R, refusal: &mut Refusal) -> Index {
+    for _ in 0..TRIES {
+        match Owned::try_from_iter(rt.alloc(), [(0, !0), (1, !1)]) {
+            Ok(index) => return index,
+            Err(_) => refusal.meet(rt, "an index for two keys"),
+        }
+    }
+    panic!(rt; "it is refused each time")
 }
 
 // Sets the value of key 1 by its entry until the call isn't refused. While it is refused, the entry shows the old
@@ -135,8 +157,7 @@ fn expect_modified<R: Abort + Print>(rt: &R, refusal: &mut Refusal, index: &mut 
 #[test]
 fn a_refused_entry_publishes_by_its_next_call(rt: HostRuntime) {
     let mut refusal = Refusal::new();
-    let mut index = Owned::with_hasher(rt.alloc(), Zero);
-    fill(&rt, &mut refusal, &mut index, Way::Insert, 2);
+    let mut index = of_two(&rt, &mut refusal);
     expect_modified(&rt, &mut refusal, &mut index);
     expect_updated(&rt, &mut refusal, &mut index, !1 ^ 1, 7);
     let values = (
@@ -187,8 +208,7 @@ fn expect_cloned<R: Abort + Print>(
 #[test]
 fn a_refused_clone_of_a_snapshot_leaves_the_snapshot(rt: HostRuntime) {
     let mut refusal = Refusal::new();
-    let mut index: Index = Owned::with_hasher(rt.alloc(), Zero);
-    fill(&rt, &mut refusal, &mut index, Way::Insert, 2);
+    let mut index = of_two(&rt, &mut refusal);
     for _ in 0..TRIES {
         match index.iter() {
             Ok(versions) => return expect_cloned(&rt, &mut refusal, &mut index, versions),

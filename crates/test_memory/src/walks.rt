@@ -11,6 +11,7 @@ use std::sync::Wait;
 use test_forms::answers::{Answer, Kind, Rule};
 use test_forms::form::{Form, Way};
 use test_forms::numbered::Seen;
+use test_forms::token::Token;
 use test_kit::refusals::{Refusal, TRIES};
 
 const KEYS: u64 = 12;
@@ -22,7 +23,7 @@ fn is_taken(kind: Kind, taken: &[Seen], key: u64) -> bool {
 }
 
 // Checks that each key is in the list, or in the container with its old value.
-fn expect_parted<F: Form<u64, u64>, R: Abort>(rt: &R, form: &F, taken: &[Seen]) {
+fn expect_parted<F: Form, R: Abort>(rt: &R, form: &F, taken: &[Seen]) {
     let kind = form.kind();
     let all = form.sizes().len.saturating_add(taken.len());
     expect_eq(rt, all as u64, KEYS);
@@ -32,7 +33,7 @@ fn expect_parted<F: Form<u64, u64>, R: Abort>(rt: &R, form: &F, taken: &[Seen]) 
         } else {
             Some(pair_of(kind, key, !key))
         };
-        expect_eq(rt, form.read(&key), Answer::Found(left));
+        expect_eq(rt, form.read(&Token::of(key)), Answer::Found(left));
     }
 }
 
@@ -40,7 +41,7 @@ fn expect_parted<F: Form<u64, u64>, R: Abort>(rt: &R, form: &F, taken: &[Seen]) 
 struct Taking;
 
 impl Job for Taking {
-    fn run<F: Form<u64, u64>, R: AllocGlobal + Abort + Print + Wait>(
+    fn run<F: Form, R: AllocGlobal + Abort + Print + Wait>(
         &self,
         rt: &R,
         refusal: &mut Refusal,

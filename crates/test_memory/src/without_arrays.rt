@@ -10,11 +10,13 @@ use std::sync::Wait;
 use test_forms::answers::Answer;
 use test_forms::form::{Form, WAYS, Way};
 use test_forms::reserving::Reserving;
+use test_forms::token::Token;
+use test_kit::masked::{Masked, ZERO};
 use test_kit::refusals::{Refusal, TRIES};
 use test_kit::zero::Zero;
 
 // Tries each way on an owned container.
-fn expect_no_array<C: Form<u64, u64> + Reserving, R: Abort + Print>(rt: &R, owned: &mut C) {
+fn expect_no_array<C: Form + Reserving, R: Abort + Print>(rt: &R, owned: &mut C) {
     let token = owned
         .reserve_slots(GREATEST)
         .expect(rt, "so many can be reserved");
@@ -22,7 +24,11 @@ fn expect_no_array<C: Form<u64, u64> + Reserving, R: Abort + Print>(rt: &R, owne
     for way in WAYS {
         if way.is_of(kind) {
             let pair = pair_of(kind, 0, value_of(way, 0));
-            expect_eq(rt, owned.add(way, 0, !0), Answer::Refused(Some(pair)));
+            expect_eq(
+                rt,
+                owned.add(way, Token::of(0), Token::of(!0)),
+                Answer::Refused(Some(pair)),
+            );
             expect_keys(rt, owned, way, 0, 0);
         }
     }
@@ -35,21 +41,24 @@ fn expect_no_array<C: Form<u64, u64> + Reserving, R: Abort + Print>(rt: &R, owne
 
 #[test]
 fn map_without_an_array_that_no_memory_has(rt: HostRuntime) {
-    let mut map: hash_map::Owned<u64, u64, Zero> = hash_map::Owned::with_hasher(rt.alloc(), Zero);
+    let mut map: hash_map::Owned<Token, Token, Masked> = hash_map::Owned::with_hasher(
+        rt.alloc(),
+        ZERO,
+    );
     expect_no_array(&rt, &mut map);
 }
 
 #[test]
 fn set_without_an_array_that_no_memory_has(rt: HostRuntime) {
-    let mut set: hash_set::Owned<u64, Zero> = hash_set::Owned::with_hasher(rt.alloc(), Zero);
+    let mut set: hash_set::Owned<Token, Masked> = hash_set::Owned::with_hasher(rt.alloc(), ZERO);
     expect_no_array(&rt, &mut set);
 }
 
 #[test]
 fn index_without_an_array_that_no_memory_has(rt: HostRuntime) {
-    let mut index: hash_index::Owned<u64, u64, Zero> = hash_index::Owned::with_hasher(
+    let mut index: hash_index::Owned<Token, Token, Masked> = hash_index::Owned::with_hasher(
         rt.alloc(),
-        Zero,
+        ZERO,
     );
     expect_no_array(&rt, &mut index);
 }

@@ -1,5 +1,5 @@
-// A recorded cache of texts: the copies of an evicted pair are made before anything is changed, so a refused put
-// evicts nothing, and the put that succeeds is right.
+// A recorded cache of numbers and texts. A put copies the pair that it evicts before it changes anything, so a put
+// whose copy is refused evicts nothing.
 ghost use Rattle.std.specs.Prelude.{◌≡◌, Some};
 ghost use Rattle.scc_recorded.specs.Setups.{request_of};
 
@@ -16,53 +16,42 @@ use std::sync::ledger::{Blank, Ledger};
 use test_kit::refusals::{Refusal, TRIES};
 use test_kit::zero::Zero;
 
-// A key, which is a number, or a value, which is a number or a text. Both have one type, since the borrow checker
-// counts the types that it meets.
-#[derive(Clone, PartialEq, Eq, Hash, Drop)]
-enum Word {
-    Number(u64),
-    Text(String),
-}
+type Names = Owned<u64, String, Shared<Zero>>;
 
-type Names = Owned<Word, Word, Shared<Zero>>;
-
-// Returns the value of a key: key 0 has a text, and every other key a number, which allocates nothing. Returns `None`
-// if the text is refused each time.
-fn value_of<R: AllocGlobal + Print>(rt: &R, refusal: &mut Refusal, key: u64) -> Option<Word> {
-    if key > 0 {
-        return Some(Word::Number(0));
-    }
-    match text(rt, refusal, "x") {
-        Some(text) => Some(Word::Text(text)),
-        None => None,
-    }
-}
-
-// Returns whether `reply` is the reply of the put of `key`: the put of key 32 evicts key 0, and no other put evicts.
-fn is_answer(key: u64, reply: &Reply<Word, Word>) -> bool {
+// Returns whether `reply` is the reply of the put of `key`: the put of key 32 evicts key 0 with its text, and no other
+// put evicts.
+fn is_answer(key: u64, reply: &Reply<u64, String>) -> bool {
     match reply {
         Reply::Evicted(None) => key < 32,
-        Reply::Evicted(Some(pair)) => key == 32 && is_number(&pair.0, 0) && is_x(&pair.1),
+        Reply::Evicted(Some(pair)) => key == 32 && pair.0 == 0 && pair.1.as_str() == "x",
         _ => false,
     }
 }
 
-fn is_number(word: &Word, wanted: u64) -> bool {
-    match word {
-        Word::Number(number) => *number == wanted,
-        Word::Text(_) => false,
+// Returns the number of pairs in the cache, asking again until the call succeeds.
+fn length<L: Ledger, M: Site<Shared<Zero>>, R: AllocGlobal + Print + Wait>(
+    rt: &R,
+    refusal: &mut Refusal,
+    recorded: &Recorded<Names, L, M>,
+    pass: &mut Pass<Names, L>,
+) -> Option<usize> {
+    for _ in 0..TRIES {
+        match recorded.len(rt, pass) {
+            Ok(length) => return Some(length),
+            Err(_) => refusal.meet(rt, "room for a recorded length"),
+        }
     }
+    None
 }
 
-fn is_x(word: &Word) -> bool {
-    match word {
-        Word::Number(_) => false,
-        Word::Text(text) => text.as_str() == "x",
-    }
+// Returns the clock of `pass`, and the number of its receipts.
+fn said<L: Ledger>(pass: &Pass<Names, L>) -> (u64, usize) {
+    (pass.clock(), pass.receipts().len())
 }
 
-// Puts a key once, and returns whether its reply is right, or `None` if its text or the put was refused. The container
-// may refuse only the put of key 32: any other refusal by it is wrong.
+// Puts a key once, and returns whether its reply is right, or `None` if its text or the put was refused. Key 0 has the
+// text "x", and every other key an empty text, which allocates nothing. The container may refuse only the put of key
+// 32: any other refusal by it is wrong.
 fn put<L: Ledger, M: Site<Shared<Zero>>, R: AllocGlobal + Print + Wait>(
     rt: &R,
     refusal: &mut Refusal,
@@ -70,10 +59,10 @@ fn put<L: Ledger, M: Site<Shared<Zero>>, R: AllocGlobal + Print + Wait>(
     pass: &mut Pass<Names, L>,
     key: u64,
 ) -> Option<bool> {
-    let Some(value) = value_of(rt, refusal, key) else {
+    let Some(value) = text(rt, refusal, if key == 0 { "x" } else { "" }) else {
         return None;
     };
-    match recorded.call(rt, pass, CacheCall::Put(Word::Number(key), value)) {
+    match recorded.call(rt, pass, CacheCall::Put(key, value)) {
         Ok(reply) => Some(is_answer(key, &reply)),
         Err(CallError::Room) => {
             refusal.meet(rt, "room for a recorded put of a text");
@@ -86,7 +75,7 @@ fn put<L: Ledger, M: Site<Shared<Zero>>, R: AllocGlobal + Print + Wait>(
     }
 }
 
-// Puts `key` until the put succeeds. A refused put leaves the pass as it was, and evicts nothing.
+// Puts a key until it goes in. A refused put leaves the pass as it was, and the pairs of the keys below.
 fn expect_put<L: Ledger, M: Site<Shared<Zero>>, R: AllocGlobal + Abort + Print + Wait>(
     rt: &R,
     refusal: &mut Refusal,
@@ -95,30 +84,14 @@ fn expect_put<L: Ledger, M: Site<Shared<Zero>>, R: AllocGlobal + Abort + Print +
     key: u64,
 ) {
     for _ in 0..TRIES {
-        let before = (pass.clock(), pass.receipts().len());
+        let before = said(pass);
         if let Some(is_right) = put(rt, refusal, recorded, pass, key) {
             return expect(rt, is_right);
         }
-        expect_eq(rt, (pass.clock(), pass.receipts().len()), before);
-        expect_length(rt, refusal, recorded, pass, key);
+        let after = said(pass);
+        let count = length(rt, refusal, recorded, pass);
+        expect_eq(rt, (after, count), (before, Some(key as usize)));
         expect_first(rt, refusal, recorded, pass, key);
-    }
-    expect(rt, false);
-}
-
-// Checks that the cache holds this number of keys.
-fn expect_length<L: Ledger, M: Site<Shared<Zero>>, R: Abort + Print + Wait>(
-    rt: &R,
-    refusal: &mut Refusal,
-    recorded: &Recorded<Names, L, M>,
-    pass: &mut Pass<Names, L>,
-    keys: u64,
-) {
-    for _ in 0..TRIES {
-        match recorded.len(rt, pass) {
-            Ok(count) => return expect_eq(rt, count as u64, keys),
-            Err(_) => refusal.meet(rt, "a length after a refused put"),
-        }
     }
     expect(rt, false);
 }
@@ -132,8 +105,8 @@ fn look<L: Ledger, M: Site<Shared<Zero>>, R: Print + Wait>(
     pass: &mut Pass<Names, L>,
     keys: u64,
 ) -> Option<bool> {
-    match recorded.call(rt, pass, CacheCall::Read(Word::Number(0))) {
-        Ok(Reply::Value(Some(value))) => Some(keys > 0 && is_x(&value)),
+    match recorded.call(rt, pass, CacheCall::Read(0)) {
+        Ok(Reply::Value(Some(value))) => Some(keys > 0 && value.as_str() == "x"),
         Ok(_) => Some(keys == 0),
         Err(_) => {
             refusal.meet(rt, "a look after a refused put");
@@ -158,7 +131,7 @@ fn expect_first<L: Ledger, M: Site<Shared<Zero>>, R: Abort + Print + Wait>(
     expect(rt, false);
 }
 
-// Puts the keys 0 to 32 in a bucket of 32 slots, with the only pass.
+// Puts the keys 0 to 32 with the only pass, in a bucket of 32 slots.
 fn put_all<L: Ledger, M: Site<Shared<Zero>>, R: AllocGlobal + Abort + Print + Wait>(
     rt: &R,
     refusal: &mut Refusal,
@@ -169,11 +142,12 @@ fn put_all<L: Ledger, M: Site<Shared<Zero>>, R: AllocGlobal + Abort + Print + Wa
         for key in 0..33 {
             expect_put(rt, refusal, recorded, pass, key);
         }
+        expect_eq(rt, length(rt, refusal, recorded, pass), Some(32));
     }
 }
 
-// Makes the puts on one stripe of 64 slots. Returns false if the container was refused.
-fn puts<L: Ledger, M: Site<Shared<Zero>>, R: AllocGlobal + Abort + Print + Wait>(
+// Runs the test on one stripe of 64 slots. Returns false if the container was refused.
+fn on_one_stripe<L: Ledger, M: Site<Shared<Zero>>, R: AllocGlobal + Abort + Print + Wait>(
     rt: &R,
     refusal: &mut Refusal,
     hasher: Shared<Zero>,
@@ -190,8 +164,8 @@ fn puts<L: Ledger, M: Site<Shared<Zero>>, R: AllocGlobal + Abort + Print + Wait>
         hasher,
     };
     match Recorded::<Names, L, M>::open(rt.alloc(), setup, 1, 1, receipts, records) {
-        Ok((recorded, handed)) => {
-            let mut passes = handed;
+        Ok((recorded, passes)) => {
+            let mut passes = passes;
             put_all(rt, refusal, &recorded, passes.as_mut_slice());
             true
         }
@@ -204,7 +178,13 @@ fn puts<L: Ledger, M: Site<Shared<Zero>>, R: AllocGlobal + Abort + Print + Wait>
 
 fn attempt<R: AllocGlobal + Abort + Print + Wait>(rt: &R, refusal: &mut Refusal) -> bool {
     match shared(rt, refusal) {
-        Some(hasher) => puts::<Brand, Brand, R>(rt, refusal, hasher, Blank::new(1), Blank::new(1)),
+        Some(hasher) => on_one_stripe::<Brand, Brand, R>(
+            rt,
+            refusal,
+            hasher,
+            Blank::new(1),
+            Blank::new(1),
+        ),
         None => false,
     }
 }

@@ -11,6 +11,8 @@ mod expect;
 #[cfg(test)]
 mod finishes;
 #[cfg(test)]
+mod finishing;
+#[cfg(test)]
 mod growths;
 #[cfg(test)]
 mod kinds;
@@ -20,5 +22,7 @@ mod runs;
 mod scripts;
 #[cfg(test)]
 mod texts;
+#[cfg(test)]
+mod worked;
 #[cfg(test)]
 mod workers;

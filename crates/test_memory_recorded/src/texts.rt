@@ -6,8 +6,9 @@ ghost use Rattle.scc_recorded.specs.Setups.{request_of};
 
 use crate::calls::shared;
 use crate::expect::{expect, expect_eq};
+use crate::finishing::finished;
 use scc::hash_map::Owned;
-use scc::recorded::{Closed, Finished, MapCall, Pass, Recorded, Reply, Setup, Shared, Site, Step};
+use scc::recorded::{Finished, MapCall, Pass, Recorded, Reply, Setup, Shared, Site, Step};
 use std::io::Print;
 use std::marker::Brand;
 use std::process::Abort;
@@ -128,26 +129,6 @@ fn expect_receipt<L: Ledger, R: Abort>(rt: &R, pass: &Pass<Names, L>, number: u6
     expect(rt, is_last);
 }
 
-// Finishes the run. Returns `None` if the finish is refused each time.
-fn finished<L: Ledger, M: Site<Shared<Zero>>, R: Print>(
-    rt: &R,
-    refusal: &mut Refusal,
-    closed: Closed<Names, L, M>,
-    passes: Vec<Pass<Names, L>>,
-) -> Option<Finished<Names>> {
-    let mut held = (closed, passes);
-    for _ in 0..TRIES {
-        match held.0.finish(held.1) {
-            Ok(run) => return Some(run),
-            Err(back) => {
-                refusal.meet(rt, "a finish of texts");
-                held = (back.recorded, back.passes);
-            }
-        }
-    }
-    None
-}
-
 // Returns whether the records of `history` have the stamps from 1 on, each with the right reply, and the number of
 // records. Resizes may stand between them.
 fn records_of(history: &[Step<MapCall<String, String>, Reply<String, String>>]) -> (bool, u64) {
@@ -187,7 +168,7 @@ fn call_and_finish<L: Ledger, M: Site<Shared<Zero>>, R: AllocGlobal + Abort + Pr
             expect_answer(rt, refusal, &recorded, pass, number);
         }
     }
-    match finished(rt, refusal, recorded.close(), passes) {
+    match finished(rt, refusal, false, recorded.close(), passes) {
         Some(run) => expect_told(rt, &run),
         None => expect(rt, false),
     }

@@ -5,9 +5,9 @@ use test_forms::answers::{Answer, Kind};
 use test_forms::form::{Form, Way};
 use test_forms::numbered::Seen;
 use test_forms::reserving::Reserving;
+use test_forms::token::Token;
 use test_kit::lines::say;
 use test_kit::masked::{Masked, ZERO};
-use test_kit::maybe_equal::MaybeEqual;
 
 // Numbers of pairs that one bucket of 32 slots waits for.
 const CROWDS: [u64; 2] = [40, 600];
@@ -19,31 +19,26 @@ fn pair_of(kind: Kind, number: u64) -> Seen {
 }
 
 // Adds the pairs of the numbers from `from` on and before `to`. Returns whether each was added.
-fn fills<F: Form<MaybeEqual, u64>>(form: &mut F, from: u64, to: u64) -> bool {
+fn fills<F: Form>(form: &mut F, from: u64, to: u64) -> bool {
     let mut added = true;
     for number in from..to {
-        added &= form.add(Way::Insert, MaybeEqual(number, 0), number) == Answer::Added(None);
+        added &= form.add(Way::Insert, Token::of(number), Token::of(number)) == Answer::Added(None);
     }
     added
 }
 
 // Returns whether the pairs below number `to` are there, and no others.
-fn finds<F: Form<MaybeEqual, u64>>(form: &F, kind: Kind, to: u64) -> bool {
-    let mut found = form.read(&MaybeEqual(to, 0)) == Answer::Found(None);
+fn finds<F: Form>(form: &F, kind: Kind, to: u64) -> bool {
+    let mut found = form.read(&Token::of(to)) == Answer::Found(None);
     for number in 0..to {
-        found &= form.read(&MaybeEqual(number, 0)) == Answer::Found(Some(pair_of(kind, number)));
+        found &= form.read(&Token::of(number)) == Answer::Found(Some(pair_of(kind, number)));
     }
     found && form.sizes().len as u64 == to
 }
 
 // Returns whether `pairs` pairs of one bucket are found while all buckets of an array of `slots` slots wait, are
 // relocated by one insertion, and are found again.
-fn relocates<F: Form<MaybeEqual, u64> + Reserving>(
-    form: &mut F,
-    kind: Kind,
-    pairs: u64,
-    slots: usize,
-) -> bool {
+fn relocates<F: Form + Reserving>(form: &mut F, kind: Kind, pairs: u64, slots: usize) -> bool {
     let waits = form.sizes().capacity == slots && form.waiting() == Some(slots / 32);
     let found = finds(form, kind, pairs);
     let added = fills(form, pairs, pairs.saturating_add(1));
@@ -53,7 +48,7 @@ fn relocates<F: Form<MaybeEqual, u64> + Reserving>(
 
 // Returns whether a bucket of `pairs` pairs waits and is relocated three times: the array grows by a reservation and
 // by a second one, and shrinks when the second one is released.
-fn crowds<F: Form<MaybeEqual, u64> + Reserving>(form: &mut F, kind: Kind, pairs: u64) -> bool {
+fn crowds<F: Form + Reserving>(form: &mut F, kind: Kind, pairs: u64) -> bool {
     let filled = fills(form, 0, pairs);
     let Some(_first) = form.reserve_slots(10_000) else {
         return false;
@@ -71,7 +66,7 @@ fn crowds<F: Form<MaybeEqual, u64> + Reserving>(form: &mut F, kind: Kind, pairs:
 fn of_maps(alloc: Global) -> bool {
     let mut holds = true;
     for pairs in CROWDS {
-        let mut map: scc_map::Owned<MaybeEqual, u64, Masked> = scc_map::Owned::with_hasher(
+        let mut map: scc_map::Owned<Token, Token, Masked> = scc_map::Owned::with_hasher(
             alloc, ZERO,
         );
         holds &= crowds(&mut map, Kind::Map, pairs);
@@ -82,7 +77,7 @@ fn of_maps(alloc: Global) -> bool {
 fn of_sets(alloc: Global) -> bool {
     let mut holds = true;
     for pairs in CROWDS {
-        let mut set: scc_set::Owned<MaybeEqual, Masked> = scc_set::Owned::with_hasher(alloc, ZERO);
+        let mut set: scc_set::Owned<Token, Masked> = scc_set::Owned::with_hasher(alloc, ZERO);
         holds &= crowds(&mut set, Kind::Set, pairs);
     }
     holds
@@ -91,7 +86,7 @@ fn of_sets(alloc: Global) -> bool {
 fn of_indexes(alloc: Global) -> bool {
     let mut holds = true;
     for pairs in CROWDS {
-        let mut index: scc_index::Owned<MaybeEqual, u64, Masked> = scc_index::Owned::with_hasher(
+        let mut index: scc_index::Owned<Token, Token, Masked> = scc_index::Owned::with_hasher(
             alloc, ZERO,
         );
         holds &= crowds(&mut index, Kind::Index, pairs);

@@ -4,7 +4,7 @@ use test_forms::answers::Kind;
 use test_forms::calls::{DRASTIC, GENTLE, LOOKS, What, way_of};
 use test_forms::form::Way;
 use test_forms::list::List;
-use test_kit::maybe_equal::MaybeEqual;
+use test_forms::token::Token;
 use test_kit::numbers::next;
 
 /// A call, with a key and a value that it may need.
@@ -12,10 +12,19 @@ use test_kit::numbers::next;
 pub struct Call {
     /// What it does.
     pub what: What,
-    /// Its key, with a mark that no other call has.
-    pub key: MaybeEqual,
-    /// Its value.
+    /// The number of its key.
+    pub number: u64,
+    /// The mark of its key, which no other call has.
+    pub mark: u64,
+    /// The number of its value.
     pub value: u64,
+}
+
+impl Call {
+    /// Returns its key.
+    pub(crate) fn key(&self) -> Token {
+        Token::marked(self.number, self.mark)
+    }
 }
 
 /// Draws calls. Keys are made from numbers up to a mask, or in turn from greater numbers. Their marks rise.
@@ -115,7 +124,8 @@ impl Draws {
         self.made = self.made.wrapping_add(1);
         Call {
             what,
-            key: MaybeEqual(number, self.made),
+            number,
+            mark: self.made,
             value: next(&mut self.seed) % 1000,
         }
     }

@@ -5,9 +5,9 @@ use std::sync::Wait;
 use test_forms::answers::{Answer, Kind};
 use test_forms::form::{Act, At, Form, Way};
 use test_forms::numbered::Seen;
+use test_forms::token::Token;
 use test_forms_shared::every::{Case, in_every_form};
 use test_kit::masked::{ALIKE, ZERO};
-use test_kit::maybe_equal::MaybeEqual;
 
 // Returns the number of keys: a full bucket of a cache, or more than a bucket of another kind has slots for.
 fn keys_of(kind: Kind) -> u64 {
@@ -15,14 +15,14 @@ fn keys_of(kind: Kind) -> u64 {
 }
 
 // Returns the key of number `i`, far from the other keys. `i` is added to its mark.
-fn key_of(i: u64, mark: u64) -> MaybeEqual {
-    MaybeEqual(i.wrapping_mul(0x9E37_79B9_7F4A_7C15), mark.wrapping_add(i))
+fn key_of(i: u64, mark: u64) -> Token {
+    Token::marked(i.wrapping_mul(0x9E37_79B9_7F4A_7C15), mark.wrapping_add(i))
 }
 
 // Returns the numbers of the pair of key `i`.
 fn pair_of(i: u64, mark: u64, value: u64) -> Seen {
     let key = key_of(i, mark);
-    (key.0, key.1, value)
+    (key.number(), key.mark(), value)
 }
 
 // Returns the value as the kind shows it.
@@ -31,21 +31,21 @@ fn shown(kind: Kind, value: u64) -> u64 {
 }
 
 // Adds the keys (i, 100 + i) with the values i. Returns whether each was added, and an equal key then comes back.
-fn fills<F: Form<MaybeEqual, u64>>(form: &mut F) -> bool {
+fn fills<F: Form>(form: &mut F) -> bool {
     let kind = form.kind();
     let mut added = true;
     for i in 0..keys_of(kind) {
-        added &= form.add(Way::Insert, key_of(i, 100), i) == Answer::Added(None);
+        added &= form.add(Way::Insert, key_of(i, 100), Token::of(i)) == Answer::Added(None);
     }
     for i in 0..keys_of(kind) {
         let back = Answer::Exists(pair_of(i, 300, shown(kind, 7)));
-        added &= form.add(Way::Insert, key_of(i, 300), 7) == back;
+        added &= form.add(Way::Insert, key_of(i, 300), Token::of(7)) == back;
     }
     added
 }
 
 // Returns whether key i has the mark `mark` + i and the value `value` + i, and is removed with them.
-fn goes<F: Form<MaybeEqual, u64>>(form: &mut F, mark: u64, value: u64) -> bool {
+fn goes<F: Form>(form: &mut F, mark: u64, value: u64) -> bool {
     let kind = form.kind();
     let mut gone = true;
     for i in 0..keys_of(kind) {
@@ -66,7 +66,7 @@ fn goes<F: Form<MaybeEqual, u64>>(form: &mut F, mark: u64, value: u64) -> bool {
 pub struct Replaces;
 
 // Returns whether each replacement returns the replaced key.
-fn all_replaced<F: Form<MaybeEqual, u64>>(form: &mut F) -> bool {
+fn all_replaced<F: Form>(form: &mut F) -> bool {
     let kind = form.kind();
     let mut replaced = true;
     for i in 0..keys_of(kind) {
@@ -85,12 +85,8 @@ fn all_replaced<F: Form<MaybeEqual, u64>>(form: &mut F) -> bool {
     replaced
 }
 
-impl Case<MaybeEqual, u64> for Replaces {
-    fn check<F: Form<MaybeEqual, u64>>(
-        &self,
-        _alloc: Global,
-        form: &mut F,
-    ) -> Result<bool, AllocError> {
+impl Case for Replaces {
+    fn check<F: Form>(&self, _alloc: Global, form: &mut F) -> Result<bool, AllocError> {
         let mark = if form.kind() == Kind::Index { 100 } else { 200 };
         Ok(fills(form) && all_replaced(form) && goes(form, mark, 0))
     }
@@ -105,8 +101,8 @@ impl Case<MaybeEqual, u64> for Replaces {
 pub struct Updates;
 
 // Writes the value of key `i` as its kind does.
-fn write<F: Form<MaybeEqual, u64>>(form: &mut F, i: u64) -> Answer {
-    let (key, value) = (key_of(i, 200), i.wrapping_add(400));
+fn write<F: Form>(form: &mut F, i: u64) -> Answer {
+    let (key, value) = (key_of(i, 200), Token::of(i.wrapping_add(400)));
     match form.kind() {
         Kind::Index => form.act(At::Key, Act::Set, &key, value),
         Kind::Cache => form.add(Way::InsertEntry, key, value),
@@ -115,7 +111,7 @@ fn write<F: Form<MaybeEqual, u64>>(form: &mut F, i: u64) -> Answer {
 }
 
 // Returns whether each write returns what its kind says.
-fn all_updated<F: Form<MaybeEqual, u64>>(form: &mut F) -> bool {
+fn all_updated<F: Form>(form: &mut F) -> bool {
     let kind = form.kind();
     let mut updated = true;
     for i in 0..keys_of(kind) {
@@ -130,12 +126,8 @@ fn all_updated<F: Form<MaybeEqual, u64>>(form: &mut F) -> bool {
     updated
 }
 
-impl Case<MaybeEqual, u64> for Updates {
-    fn check<F: Form<MaybeEqual, u64>>(
-        &self,
-        _alloc: Global,
-        form: &mut F,
-    ) -> Result<bool, AllocError> {
+impl Case for Updates {
+    fn check<F: Form>(&self, _alloc: Global, form: &mut F) -> Result<bool, AllocError> {
         Ok(fills(form) && all_updated(form) && goes(form, 100, 400))
     }
 

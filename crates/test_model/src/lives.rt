@@ -1,13 +1,13 @@
 //! Calls of all sorts on tokens. After each run of calls the tokens in the container live and no others. Each token
 //! is dropped once.
 
-use crate::token::{Book, Token};
 use std::alloc::{AllocError, Global};
 use std::rc::Rc;
 use std::sync::Wait;
 use test_forms::answers::{Kind, Rule};
 use test_forms::calls::{What, make};
 use test_forms::form::{Act, At, Form, Way};
+use test_forms::token::{Book, Token};
 use test_forms_shared::every::{Case, in_every_form};
 use test_kit::lines::REFUSED;
 use test_kit::masked::{SAME, ZERO};
@@ -59,7 +59,7 @@ impl Lives {
     }
 
     // Makes the call on each key of a range. Returns whether only the held tokens live then.
-    fn run<F: Form<Token, Token>>(
+    fn run<F: Form>(
         &self,
         alloc: Global,
         form: &mut F,
@@ -76,11 +76,7 @@ impl Lives {
     }
 
     // Makes the runs of calls on single keys: calls that add, that fail, that write and that remove.
-    fn run_calls<F: Form<Token, Token>>(
-        &self,
-        alloc: Global,
-        form: &mut F,
-    ) -> Result<bool, AllocError> {
+    fn run_calls<F: Form>(&self, alloc: Global, form: &mut F) -> Result<bool, AllocError> {
         let mut right = true;
         for (what, from, to) in RUNS {
             right = self.run(alloc, form, what, (from, to))? && right;
@@ -89,7 +85,7 @@ impl Lives {
     }
 
     // Makes walks that remove a part of the pairs, and clears the container.
-    fn run_walks<F: Form<Token, Token>>(&self, alloc: Global, form: &mut F) -> bool {
+    fn run_walks<F: Form>(&self, alloc: Global, form: &mut F) -> bool {
         let kind = form.kind();
         let mut taken = Vec::new(alloc);
         let _ = form.take(alloc, Rule::Rest(3), &mut taken);
@@ -101,12 +97,8 @@ impl Lives {
     }
 }
 
-impl Case<Token, Token> for Lives {
-    fn check<F: Form<Token, Token>>(
-        &self,
-        alloc: Global,
-        form: &mut F,
-    ) -> Result<bool, AllocError> {
+impl Case for Lives {
+    fn check<F: Form>(&self, alloc: Global, form: &mut F) -> Result<bool, AllocError> {
         let called = self.run_calls(alloc, form)?;
         let walked = self.run_walks(alloc, form);
         let refilled = self.run(alloc, form, What::Add(Way::Insert), (0, self.last))?;

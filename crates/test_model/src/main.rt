@@ -14,7 +14,6 @@ mod run;
 mod sizes;
 mod stops;
 mod tally;
-mod token;
 mod tokens;
 mod twins;
 mod versions;

@@ -8,9 +8,9 @@ use test_forms::agreeing::{Asked, agrees};
 use test_forms::calls::make;
 use test_forms::form::Form;
 use test_forms::list::List;
+use test_forms::token::Token;
 use test_forms_shared::every::Case;
 use test_kit::masked::Masked;
-use test_kit::maybe_equal::MaybeEqual;
 
 /// All pairs are compared after this many calls.
 const LOOK: u64 = 50;
@@ -33,26 +33,22 @@ pub struct Run {
 fn asked(hasher: &Masked, call: &Call) -> Asked {
     Asked {
         what: call.what,
-        number: call.key.0,
-        mark: call.key.1,
-        hash: hasher.hash_one(call.key),
+        number: call.number,
+        mark: call.mark,
+        hash: hasher.hash_one(call.number),
         value: call.value,
     }
 }
 
 // Returns whether a walk meets the pairs of the list, and no others.
-fn is_as<F: Form<MaybeEqual, u64>>(
-    alloc: Global,
-    form: &F,
-    list: &List,
-) -> Result<bool, AllocError> {
+fn is_as<F: Form>(alloc: Global, form: &F, list: &List) -> Result<bool, AllocError> {
     let mut met = Vec::new(alloc);
     let collected = form.collect(&mut met);
     Ok(collected && list.is_met_by(alloc, met.as_slice())?)
 }
 
 // Returns whether the sizes fit a container with as many pairs as the list.
-fn fits<F: Form<MaybeEqual, u64>>(form: &F, list: &List) -> bool {
+fn fits<F: Form>(form: &F, list: &List) -> bool {
     let sizes = form.sizes();
     sizes.len == list.len()
         && sizes.is_empty == (sizes.len == 0)
@@ -61,7 +57,7 @@ fn fits<F: Form<MaybeEqual, u64>>(form: &F, list: &List) -> bool {
 }
 
 // Makes a call on the container and on the list. Returns whether both agree and the sizes are right.
-fn step<F: Form<MaybeEqual, u64>>(
+fn step<F: Form>(
     alloc: Global,
     hasher: &Masked,
     form: &mut F,
@@ -69,14 +65,21 @@ fn step<F: Form<MaybeEqual, u64>>(
     call: &Call,
 ) -> Result<bool, AllocError> {
     let mut met = Vec::new(alloc);
-    let answer = make(alloc, form, call.what, call.key, call.value, &mut met);
+    let answer = make(
+        alloc,
+        form,
+        call.what,
+        call.key(),
+        Token::of(call.value),
+        &mut met,
+    );
     list.resize(alloc, form.sizes().capacity)?;
     let is_right = agrees(alloc, list, &asked(hasher, call), answer, met.as_slice())?;
     Ok(is_right && fits(form, list))
 }
 
 // Makes the calls. Returns whether all agreed.
-fn make_all<F: Form<MaybeEqual, u64>>(
+fn make_all<F: Form>(
     alloc: Global,
     run: &Run,
     form: &mut F,
@@ -88,7 +91,7 @@ fn make_all<F: Form<MaybeEqual, u64>>(
     for number in 0..run.calls {
         let waits = form.waiting().unwrap_or(0) > 0;
         let call = draws.draw(list, waits);
-        tally.note(call.what, list.find(call.key.0).is_some(), waits)?;
+        tally.note(call.what, list.find(call.number).is_some(), waits)?;
         let is_right = step(alloc, &run.hasher, form, list, &call)?;
         let is_whole = number % LOOK > 0 || is_as(alloc, form, list)?;
         agree = agree && is_right && is_whole;
@@ -96,12 +99,8 @@ fn make_all<F: Form<MaybeEqual, u64>>(
     Ok(agree && is_as(alloc, form, list)?)
 }
 
-impl Case<MaybeEqual, u64> for Run {
-    fn check<F: Form<MaybeEqual, u64>>(
-        &self,
-        alloc: Global,
-        form: &mut F,
-    ) -> Result<bool, AllocError> {
+impl Case for Run {
+    fn check<F: Form>(&self, alloc: Global, form: &mut F) -> Result<bool, AllocError> {
         let mut list = List::new(alloc, form.kind(), form.is_one());
         let mut tally = Tally::new(alloc);
         let agree = make_all(alloc, self, form, &mut list, &mut tally)?;
@@ -118,12 +117,8 @@ impl Case<MaybeEqual, u64> for Run {
 #[derive(Clone, Copy)]
 pub struct Forgetful(pub Run);
 
-impl Case<MaybeEqual, u64> for Forgetful {
-    fn check<F: Form<MaybeEqual, u64>>(
-        &self,
-        alloc: Global,
-        form: &mut F,
-    ) -> Result<bool, AllocError> {
+impl Case for Forgetful {
+    fn check<F: Form>(&self, alloc: Global, form: &mut F) -> Result<bool, AllocError> {
         let mut list = List::forgetful(alloc, form.kind(), form.is_one(), 20);
         let mut tally = Tally::new(alloc);
         let agree = make_all(alloc, &self.0, form, &mut list, &mut tally)?;

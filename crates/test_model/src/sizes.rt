@@ -5,9 +5,9 @@ use test_forms::answers::{Answer, Kind};
 use test_forms::form::{Form, Way};
 use test_forms::numbered::Seen;
 use test_forms::reserving::Reserving;
+use test_forms::token::Token;
 use test_kit::lines::say;
 use test_kit::masked::{Masked, SAME};
-use test_kit::maybe_equal::MaybeEqual;
 
 /// So many keys make an array grow past 2^20 slots, although half of its buckets are never used.
 const MANY: u64 = (1 << 19) + 1;
@@ -19,8 +19,8 @@ const MAXIMUM: u64 = 1 << 17;
 const VERSIONS: usize = 100_000;
 
 // Returns the key of `number`. If keys are their own hashes, these keys fill the first half of all buckets evenly.
-fn key_of(number: u64) -> MaybeEqual {
-    MaybeEqual(number.reverse_bits() / 2, 0)
+fn key_of(number: u64) -> Token {
+    Token::of(number.reverse_bits() / 2)
 }
 
 // Returns the value of `number`.
@@ -35,20 +35,21 @@ fn pair_of(kind: Kind, number: u64) -> Seen {
     } else {
         0
     };
-    (key_of(number).0, 0, value)
+    (key_of(number).number(), 0, value)
 }
 
 // Adds the pairs of the numbers from `from` on and before `to`. Returns whether each was added.
-fn fills<F: Form<MaybeEqual, u64>>(form: &mut F, from: u64, to: u64) -> bool {
+fn fills<F: Form>(form: &mut F, from: u64, to: u64) -> bool {
     let mut added = true;
     for number in from..to {
-        added &= form.add(Way::Insert, key_of(number), value_of(number)) == Answer::Added(None);
+        added &= form.add(Way::Insert, key_of(number), Token::of(value_of(number)))
+            == Answer::Added(None);
     }
     added
 }
 
 // Returns whether the pairs of the numbers from `from` on and before `to` are there, and that of `to` is missing.
-fn finds<F: Form<MaybeEqual, u64>>(form: &F, kind: Kind, from: u64, to: u64) -> bool {
+fn finds<F: Form>(form: &F, kind: Kind, from: u64, to: u64) -> bool {
     let mut found = form.read(&key_of(to)) == Answer::Found(None);
     for number in from..to {
         found &= form.read(&key_of(number)) == Answer::Found(Some(pair_of(kind, number)));
@@ -57,7 +58,7 @@ fn finds<F: Form<MaybeEqual, u64>>(form: &F, kind: Kind, from: u64, to: u64) -> 
 }
 
 // Removes the pairs of the numbers from `from` on and before `to`. Returns whether each was removed.
-fn goes<F: Form<MaybeEqual, u64>>(form: &mut F, kind: Kind, from: u64, to: u64) -> bool {
+fn goes<F: Form>(form: &mut F, kind: Kind, from: u64, to: u64) -> bool {
     let mut gone = true;
     for number in from..to {
         let wanted = if kind == Kind::Index {
@@ -72,7 +73,7 @@ fn goes<F: Form<MaybeEqual, u64>>(form: &mut F, kind: Kind, from: u64, to: u64) 
 
 // Returns whether an empty container grows past 2^20 slots by insertions, and shrinks to the least array when all but
 // 16 pairs are removed.
-fn grows<F: Form<MaybeEqual, u64>>(form: &mut F, kind: Kind) -> bool {
+fn grows<F: Form>(form: &mut F, kind: Kind) -> bool {
     fills(form, 0, MANY - 1)
         && form.sizes().used() == (1 << 19, 1 << 20)
         && fills(form, MANY - 1, MANY)
@@ -85,7 +86,7 @@ fn grows<F: Form<MaybeEqual, u64>>(form: &mut F, kind: Kind) -> bool {
 
 // Returns whether a container of 1000 pairs gets more than 2^20 slots by a reservation, finds its pairs while all its
 // buckets wait, and shrinks back when the reservation is released.
-fn reserves<F: Form<MaybeEqual, u64> + Reserving>(form: &mut F, kind: Kind) -> bool {
+fn reserves<F: Form + Reserving>(form: &mut F, kind: Kind) -> bool {
     let filled = fills(form, 0, 1000) && form.sizes().used() == (1000, 2048);
     let Some(token) = form.reserve_slots(1 + (1 << 20)) else {
         return false;
@@ -98,26 +99,22 @@ fn reserves<F: Form<MaybeEqual, u64> + Reserving>(form: &mut F, kind: Kind) -> b
 }
 
 fn of_maps(alloc: Global) -> Result<bool, AllocError> {
-    let mut large: scc_map::Owned<MaybeEqual, u64, Masked> = scc_map::Owned::with_hasher(
-        alloc, SAME,
-    );
-    let mut small: scc_map::Owned<MaybeEqual, u64, Masked> = scc_map::Owned::with_hasher(
-        alloc, SAME,
-    );
+    let mut large: scc_map::Owned<Token, Token, Masked> = scc_map::Owned::with_hasher(alloc, SAME);
+    let mut small: scc_map::Owned<Token, Token, Masked> = scc_map::Owned::with_hasher(alloc, SAME);
     Ok(grows(&mut large, Kind::Map) && reserves(&mut small, Kind::Map))
 }
 
 fn of_sets(alloc: Global) -> Result<bool, AllocError> {
-    let mut large: scc_set::Owned<MaybeEqual, Masked> = scc_set::Owned::with_hasher(alloc, SAME);
-    let mut small: scc_set::Owned<MaybeEqual, Masked> = scc_set::Owned::with_hasher(alloc, SAME);
+    let mut large: scc_set::Owned<Token, Masked> = scc_set::Owned::with_hasher(alloc, SAME);
+    let mut small: scc_set::Owned<Token, Masked> = scc_set::Owned::with_hasher(alloc, SAME);
     Ok(grows(&mut large, Kind::Set) && reserves(&mut small, Kind::Set))
 }
 
 fn of_indexes(alloc: Global) -> Result<bool, AllocError> {
-    let mut large: scc_index::Owned<MaybeEqual, u64, Masked> = scc_index::Owned::with_hasher(
+    let mut large: scc_index::Owned<Token, Token, Masked> = scc_index::Owned::with_hasher(
         alloc, SAME,
     );
-    let mut small: scc_index::Owned<MaybeEqual, u64, Masked> = scc_index::Owned::with_hasher(
+    let mut small: scc_index::Owned<Token, Token, Masked> = scc_index::Owned::with_hasher(
         alloc, SAME,
     );
     Ok(grows(&mut large, Kind::Index) && reserves(&mut small, Kind::Index))
@@ -125,13 +122,14 @@ fn of_indexes(alloc: Global) -> Result<bool, AllocError> {
 
 // Returns whether each put of these numbers evicts the pair that was put `MAXIMUM` puts before it, the least recent
 // pair of its bucket.
-fn evicts<F: Form<MaybeEqual, u64>>(form: &mut F, from: u64, to: u64) -> bool {
+fn evicts<F: Form>(form: &mut F, from: u64, to: u64) -> bool {
     let mut evicted = true;
     for number in from..to {
-        let key = MaybeEqual(number.reverse_bits(), 0);
+        let key = Token::of(number.reverse_bits());
         let least = number.wrapping_sub(MAXIMUM);
         let gone = (least.reverse_bits(), 0, value_of(least));
-        evicted &= form.add(Way::Insert, key, value_of(number)) == Answer::Added(Some(gone));
+        evicted &= form.add(Way::Insert, key, Token::of(value_of(number)))
+            == Answer::Added(Some(gone));
     }
     evicted
 }
@@ -139,15 +137,15 @@ fn evicts<F: Form<MaybeEqual, u64>>(form: &mut F, from: u64, to: u64) -> bool {
 // Shows that a cache takes as many pairs as its maximum without an eviction, and then evicts one pair for each put.
 fn of_caches(alloc: Global) -> Result<bool, AllocError> {
     let maximum = MAXIMUM as usize;
-    let Ok(mut cache) = scc_cache::Owned::<MaybeEqual, u64, Masked>::with_capacity_and_hasher(
+    let Ok(mut cache) = scc_cache::Owned::<Token, Token, Masked>::with_capacity_and_hasher(
         alloc, 0, maximum, SAME,
     ) else {
         return Err(AllocError);
     };
     let mut added = true;
     for number in 0..MAXIMUM {
-        let key = MaybeEqual(number.reverse_bits(), 0);
-        let answer = cache.add(Way::Insert, key, value_of(number));
+        let key = Token::of(number.reverse_bits());
+        let answer = cache.add(Way::Insert, key, Token::of(value_of(number)));
         added &= answer == Answer::Added(None);
     }
     let full = cache.sizes().used() == (maximum, maximum);
@@ -158,7 +156,7 @@ fn of_caches(alloc: Global) -> Result<bool, AllocError> {
 // Returns whether the snapshot has each version once, and ends for good after them.
 fn has_each_once(
     alloc: Global,
-    versions: scc_index::Iter<MaybeEqual, u64>,
+    versions: scc_index::Iter<Token, Token>,
 ) -> Result<bool, AllocError> {
     let mut met = vec![in alloc; false; VERSIONS]?;
     let mut count = 0usize;
@@ -168,10 +166,10 @@ fn has_each_once(
         let Some(version) = versions.next() else {
             break;
         };
-        let number = version.key().0.wrapping_mul(2).reverse_bits();
+        let number = version.key().number().wrapping_mul(2).reverse_bits();
         let place = number as usize;
         if let Some(is_met) = met.get_mut(place) {
-            right &= !*is_met && *version.value() == value_of(number);
+            right &= !*is_met && version.value().number() == value_of(number);
             *is_met = true;
             count = count.saturating_add(1);
         }
@@ -181,7 +179,7 @@ fn has_each_once(
 
 // Shows that a snapshot of many versions outlives the pairs of its index.
 fn of_snapshots(alloc: Global) -> Result<bool, AllocError> {
-    let mut index: scc_index::Owned<MaybeEqual, u64, Masked> = scc_index::Owned::with_hasher(
+    let mut index: scc_index::Owned<Token, Token, Masked> = scc_index::Owned::with_hasher(
         alloc, SAME,
     );
     let filled = fills(&mut index, 0, VERSIONS as u64);

@@ -6,20 +6,20 @@ use std::sync::Wait;
 use test_forms::answers::{Answer, Kind, Rule};
 use test_forms::form::{Form, Way};
 use test_forms::numbered::Seen;
+use test_forms::token::Token;
 use test_forms_shared::every::{Case, in_every_form};
 use test_kit::masked::{SAME, ZERO};
-use test_kit::maybe_equal::MaybeEqual;
 
 // Returns a key. If keys are their own hashes, each of these keys has a stripe of its own, if there are several.
-fn key_of(number: u64) -> MaybeEqual {
-    MaybeEqual((number << 60).wrapping_add(number), 0)
+fn key_of(number: u64) -> Token {
+    Token::of((number << 60).wrapping_add(number))
 }
 
 // Adds `keys` keys with the value 0. Returns whether each was added.
-fn fills<F: Form<MaybeEqual, u64>>(form: &mut F, keys: u64) -> bool {
+fn fills<F: Form>(form: &mut F, keys: u64) -> bool {
     let mut added = true;
     for number in 1..keys.saturating_add(1) {
-        added &= form.add(Way::Insert, key_of(number), 0) == Answer::Added(None);
+        added &= form.add(Way::Insert, key_of(number), Token::of(0)) == Answer::Added(None);
     }
     added
 }
@@ -38,12 +38,7 @@ struct Walked {
 }
 
 // Walks over `keys` pairs with a closure that always returns `verdict`.
-fn walk<F: Form<MaybeEqual, u64>>(
-    alloc: Global,
-    form: &mut F,
-    keys: u64,
-    verdict: Verdict,
-) -> Option<Walked> {
+fn walk<F: Form>(alloc: Global, form: &mut F, keys: u64, verdict: Verdict) -> Option<Walked> {
     let mut taken = Vec::new(alloc);
     let mut left = Vec::new(alloc);
     let filled = fills(form, keys);
@@ -83,12 +78,8 @@ fn has_none(walked: &Walked, pairs: usize) -> bool {
     walked.answer == Answer::Absent && walked.left.len() == pairs
 }
 
-impl Case<MaybeEqual, u64> for Stops {
-    fn check<F: Form<MaybeEqual, u64>>(
-        &self,
-        alloc: Global,
-        form: &mut F,
-    ) -> Result<bool, AllocError> {
+impl Case for Stops {
+    fn check<F: Form>(&self, alloc: Global, form: &mut F) -> Result<bool, AllocError> {
         let kind = form.kind();
         let Some(walked) = walk(alloc, form, 3, self.0) else {
             return Ok(false);
@@ -123,12 +114,8 @@ fn has_visited(walked: &Walked, verdict: Verdict, kind: Kind) -> bool {
         && count_of(full, written) == 32
 }
 
-impl Case<MaybeEqual, u64> for Walks {
-    fn check<F: Form<MaybeEqual, u64>>(
-        &self,
-        alloc: Global,
-        form: &mut F,
-    ) -> Result<bool, AllocError> {
+impl Case for Walks {
+    fn check<F: Form>(&self, alloc: Global, form: &mut F) -> Result<bool, AllocError> {
         let kind = form.kind();
         let Some(walked) = walk(alloc, form, 32, self.0) else {
             return Ok(false);

@@ -3,9 +3,9 @@
 use scc_table::Reservation;
 use std::alloc::Global;
 use test_forms::reserving::Reserving;
+use test_forms::token::Token;
 use test_kit::lines::say;
 use test_kit::masked::{Masked, SAME};
-use test_kit::maybe_equal::MaybeEqual;
 
 // Returns whether `form` refuses `token` and returns it with its `slots` slots.
 fn refuses<C: Reserving>(form: &mut C, token: Reservation, slots: usize) -> bool {
@@ -31,26 +31,22 @@ fn judges<C: Reserving>(first: &mut C, second: &mut C) -> bool {
 }
 
 fn of_maps(alloc: Global) -> bool {
-    let mut first: scc_map::Owned<MaybeEqual, u64, Masked> = scc_map::Owned::with_hasher(
-        alloc, SAME,
-    );
-    let mut second: scc_map::Owned<MaybeEqual, u64, Masked> = scc_map::Owned::with_hasher(
-        alloc, SAME,
-    );
+    let mut first: scc_map::Owned<Token, Token, Masked> = scc_map::Owned::with_hasher(alloc, SAME);
+    let mut second: scc_map::Owned<Token, Token, Masked> = scc_map::Owned::with_hasher(alloc, SAME);
     judges(&mut first, &mut second)
 }
 
 fn of_sets(alloc: Global) -> bool {
-    let mut first: scc_set::Owned<MaybeEqual, Masked> = scc_set::Owned::with_hasher(alloc, SAME);
-    let mut second: scc_set::Owned<MaybeEqual, Masked> = scc_set::Owned::with_hasher(alloc, SAME);
+    let mut first: scc_set::Owned<Token, Masked> = scc_set::Owned::with_hasher(alloc, SAME);
+    let mut second: scc_set::Owned<Token, Masked> = scc_set::Owned::with_hasher(alloc, SAME);
     judges(&mut first, &mut second)
 }
 
 fn of_indexes(alloc: Global) -> bool {
-    let mut first: scc_index::Owned<MaybeEqual, u64, Masked> = scc_index::Owned::with_hasher(
+    let mut first: scc_index::Owned<Token, Token, Masked> = scc_index::Owned::with_hasher(
         alloc, SAME,
     );
-    let mut second: scc_index::Owned<MaybeEqual, u64, Masked> = scc_index::Owned::with_hasher(
+    let mut second: scc_index::Owned<Token, Token, Masked> = scc_index::Owned::with_hasher(
         alloc, SAME,
     );
     judges(&mut first, &mut second)

@@ -13,10 +13,10 @@ use test_forms::calls::{is_of, make};
 use test_forms::form::Form;
 use test_forms::list::List;
 use test_forms::numbered::Seen;
+use test_forms::token::Token;
 use test_forms_shared::held::Held;
 use test_kit::lines::say;
 use test_kit::masked::{Masked, SAME};
-use test_kit::maybe_equal::MaybeEqual;
 
 /// The number of calls that both get.
 const CALLS: u64 = 1000;
@@ -36,11 +36,7 @@ fn are_same(pairs: &[Seen], others: &[Seen]) -> bool {
 }
 
 // Returns whether both hold the same pairs and have the same sizes.
-fn are_alike<A: Form<MaybeEqual, u64>, B: Form<MaybeEqual, u64>>(
-    alloc: Global,
-    one: &A,
-    other: &B,
-) -> bool {
+fn are_alike<A: Form, B: Form>(alloc: Global, one: &A, other: &B) -> bool {
     let mut pairs = Vec::new(alloc);
     let mut others = Vec::new(alloc);
     let collected = one.collect(&mut pairs) && other.collect(&mut others);
@@ -48,22 +44,31 @@ fn are_alike<A: Form<MaybeEqual, u64>, B: Form<MaybeEqual, u64>>(
 }
 
 // Makes a call on both. Returns whether both meet the same pairs, and return the same if the kind has the call.
-fn answer_alike<A: Form<MaybeEqual, u64>, B: Form<MaybeEqual, u64>>(
-    alloc: Global,
-    one: &mut A,
-    other: &mut B,
-    call: &Call,
-) -> bool {
+fn answer_alike<A: Form, B: Form>(alloc: Global, one: &mut A, other: &mut B, call: &Call) -> bool {
     let mut pairs = Vec::new(alloc);
     let mut others = Vec::new(alloc);
-    let answer = make(alloc, one, call.what, call.key, call.value, &mut pairs);
-    let wanted = make(alloc, other, call.what, call.key, call.value, &mut others);
+    let answer = make(
+        alloc,
+        one,
+        call.what,
+        call.key(),
+        Token::of(call.value),
+        &mut pairs,
+    );
+    let wanted = make(
+        alloc,
+        other,
+        call.what,
+        call.key(),
+        Token::of(call.value),
+        &mut others,
+    );
     let is_answered = answer == wanted || !is_of(call.what, one.kind());
     is_answered && are_same(pairs.as_slice(), others.as_slice())
 }
 
 // Returns the pairs of a container as a list, from which keys are drawn.
-fn listed<F: Form<MaybeEqual, u64>>(alloc: Global, form: &F) -> Result<List, AllocError> {
+fn listed<F: Form>(alloc: Global, form: &F) -> Result<List, AllocError> {
     let mut pairs = Vec::new(alloc);
     let mut list = List::new(alloc, form.kind(), false);
     if !form.collect(&mut pairs) {
@@ -76,7 +81,7 @@ fn listed<F: Form<MaybeEqual, u64>>(alloc: Global, form: &F) -> Result<List, All
 }
 
 // Makes random calls on both. Returns whether both do the same, each call comes, and the number of slots grows.
-fn agree<A: Form<MaybeEqual, u64>, B: Form<MaybeEqual, u64>>(
+fn agree<A: Form, B: Form>(
     alloc: Global,
     shared: &mut A,
     owned: &mut B,
@@ -88,7 +93,7 @@ fn agree<A: Form<MaybeEqual, u64>, B: Form<MaybeEqual, u64>>(
     for _ in 0..CALLS {
         let list = listed(alloc, owned)?;
         let call = draws.draw(&list, false);
-        tally.note(call.what, list.find(call.key.0).is_some(), false)?;
+        tally.note(call.what, list.find(call.number).is_some(), false)?;
         let answered = answer_alike(alloc, shared, owned, &call);
         are_equal = are_equal && answered && are_alike(alloc, shared, owned);
         most = most.max(owned.sizes().capacity);
@@ -99,8 +104,8 @@ fn agree<A: Form<MaybeEqual, u64>, B: Form<MaybeEqual, u64>>(
 fn of_maps<R: Wait + AllocGlobal>(rt: &R) -> Result<bool, AllocError> {
     let alloc = rt.alloc();
     let (Ok(shared), Ok(mut owned)) = (
-        HashMap::<MaybeEqual, u64, Masked>::with_capacity_and_hasher(alloc, SLOTS, SAME),
-        scc_map::Owned::<MaybeEqual, u64, Masked>::with_capacity_and_hasher(alloc, SLOTS, SAME),
+        HashMap::<Token, Token, Masked>::with_capacity_and_hasher(alloc, SLOTS, SAME),
+        scc_map::Owned::<Token, Token, Masked>::with_capacity_and_hasher(alloc, SLOTS, SAME),
     ) else {
         return Err(AllocError);
     };
@@ -110,8 +115,8 @@ fn of_maps<R: Wait + AllocGlobal>(rt: &R) -> Result<bool, AllocError> {
 fn of_sets<R: Wait + AllocGlobal>(rt: &R) -> Result<bool, AllocError> {
     let alloc = rt.alloc();
     let (Ok(shared), Ok(mut owned)) = (
-        HashSet::<MaybeEqual, Masked>::with_capacity_and_hasher(alloc, SLOTS, SAME),
-        scc_set::Owned::<MaybeEqual, Masked>::with_capacity_and_hasher(alloc, SLOTS, SAME),
+        HashSet::<Token, Masked>::with_capacity_and_hasher(alloc, SLOTS, SAME),
+        scc_set::Owned::<Token, Masked>::with_capacity_and_hasher(alloc, SLOTS, SAME),
     ) else {
         return Err(AllocError);
     };
@@ -121,8 +126,8 @@ fn of_sets<R: Wait + AllocGlobal>(rt: &R) -> Result<bool, AllocError> {
 fn of_indexes<R: Wait + AllocGlobal>(rt: &R) -> Result<bool, AllocError> {
     let alloc = rt.alloc();
     let (Ok(shared), Ok(mut owned)) = (
-        HashIndex::<MaybeEqual, u64, Masked>::with_capacity_and_hasher(alloc, SLOTS, SAME),
-        scc_index::Owned::<MaybeEqual, u64, Masked>::with_capacity_and_hasher(alloc, SLOTS, SAME),
+        HashIndex::<Token, Token, Masked>::with_capacity_and_hasher(alloc, SLOTS, SAME),
+        scc_index::Owned::<Token, Token, Masked>::with_capacity_and_hasher(alloc, SLOTS, SAME),
     ) else {
         return Err(AllocError);
     };
@@ -132,8 +137,8 @@ fn of_indexes<R: Wait + AllocGlobal>(rt: &R) -> Result<bool, AllocError> {
 fn of_caches<R: Wait + AllocGlobal>(rt: &R) -> Result<bool, AllocError> {
     let alloc = rt.alloc();
     let (Ok(shared), Ok(mut owned)) = (
-        HashCache::<MaybeEqual, u64, Masked>::with_capacity_and_hasher(alloc, SLOTS, MAXIMUM, SAME),
-        scc_cache::Owned::<MaybeEqual, u64, Masked>::with_capacity_and_hasher(
+        HashCache::<Token, Token, Masked>::with_capacity_and_hasher(alloc, SLOTS, MAXIMUM, SAME),
+        scc_cache::Owned::<Token, Token, Masked>::with_capacity_and_hasher(
             alloc, SLOTS, MAXIMUM, SAME,
         ),
     ) else {

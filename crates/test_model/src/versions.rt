@@ -1,10 +1,10 @@
 //! Versions that a reader keeps: they live as long as they have an owner, and are dropped once.
 
-use crate::token::{Book, Token};
 use scc_shared_index::HashIndex;
 use std::alloc::{AllocError, Global};
 use std::rc::Rc;
 use std::sync::Wait;
+use test_forms::token::{Book, Token};
 use test_kit::lines::{REFUSED, say};
 use test_kit::masked::{Masked, ZERO};
 

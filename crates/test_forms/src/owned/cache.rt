@@ -2,27 +2,31 @@
 
 use crate::answers::{Answer, Kind, Rule, raise_and_keep, refused, untried, verdict};
 use crate::form::{Act, At, Form, Sizes, Way};
-use crate::numbered::{Numbered, Seen, note_pairs, raise_to_even, seen, seen_pair, value_of};
+use crate::numbered::{Seen, note_pairs, raise_to_even, seen, seen_pair, value_of};
+use crate::token::Token;
 use scc_cache::borrowed::{Entry, OccupiedEntry, ReplaceResult};
 use scc_cache::{EvictedEntry, Owned};
 use scc_common::InsertError;
 use scc_fallible::TryInsertError;
 use std::alloc::Global;
-use std::hash::{BuildHasher, Hash};
+use test_kit::masked::Masked;
 
 /// The result of a put through an entry: the evicted pair, if any, and the entry of the new pair.
-type Placed<'a, K, V, H> = Result<
-    (EvictedEntry<K, V>, OccupiedEntry<'a, K, V, H>),
-    InsertError<K, V>,
+type Placed<'a> = Result<
+    (
+        EvictedEntry<Token, Token>,
+        OccupiedEntry<'a, Token, Token, Masked>,
+    ),
+    InsertError<Token, Token>,
 >;
 
 // Puts the pair through its entry.
-fn enter<'a, K: Eq + Hash + Drop + Numbered, V: Default + Drop + Numbered, H: BuildHasher + Drop>(
-    cache: &'a mut Owned<K, V, H>,
+fn enter<'a>(
+    cache: &'a mut Owned<Token, Token, Masked>,
     way: Way,
-    key: K,
-    value: V,
-) -> Placed<'a, K, V, H> {
+    key: Token,
+    value: Token,
+) -> Placed<'a> {
     let entry = cache.entry_sync(key);
     match way {
         Way::OrInsertWith => entry.or_put_with(|| value),
@@ -34,12 +38,7 @@ fn enter<'a, K: Eq + Hash + Drop + Numbered, V: Default + Drop + Numbered, H: Bu
 }
 
 // Returns the answer for a way that returns an entry.
-fn entered<K: Eq + Hash + Drop + Numbered, V: Default + Drop + Numbered, H: BuildHasher + Drop>(
-    cache: &mut Owned<K, V, H>,
-    way: Way,
-    key: K,
-    value: V,
-) -> Answer {
+fn entered(cache: &mut Owned<Token, Token, Masked>, way: Way, key: Token, value: Token) -> Answer {
     match enter(cache, way, key, value) {
         Ok(placed) => {
             let (evicted, entry) = placed;
@@ -83,11 +82,7 @@ fn entered_or_failed<K: Eq + Hash + Drop + Numbered, V: Drop + Numbered, H: Buil
 }
 
 // Puts the pair through its vacant entry.
-fn fill<K: Eq + Hash + Drop + Numbered, V: Drop + Numbered, H: BuildHasher + Drop>(
-    cache: &mut Owned<K, V, H>,
-    key: K,
-    value: V,
-) -> Answer {
+fn fill(cache: &mut Owned<Token, Token, Masked>, key: Token, value: Token) -> Answer {
     match cache.entry_sync(key) {
         Entry::Vacant(entry) => match entry.put_entry(value) {
             Ok(placed) => {
@@ -102,11 +97,7 @@ fn fill<K: Eq + Hash + Drop + Numbered, V: Drop + Numbered, H: BuildHasher + Dro
 }
 
 // Replaces an equal key by `key`, or puts the pair.
-fn replace_or_fill<K: Eq + Hash + Drop + Numbered, V: Drop + Numbered, H: BuildHasher + Drop>(
-    cache: &mut Owned<K, V, H>,
-    key: K,
-    value: V,
-) -> Answer {
+fn replace_or_fill(cache: &mut Owned<Token, Token, Masked>, key: Token, value: Token) -> Answer {
     match cache.replace_sync(key) {
         ReplaceResult::Replaced(entry, old) => {
             let here = seen(entry.key(), entry.get());
@@ -124,11 +115,11 @@ fn replace_or_fill<K: Eq + Hash + Drop + Numbered, V: Drop + Numbered, H: BuildH
 }
 
 // Does `act` with the entry of the key, and keeps its pair.
-fn act_and_keep<K: Eq + Hash + Drop + Numbered, V: Drop + Numbered, H: BuildHasher + Drop>(
-    cache: &mut Owned<K, V, H>,
+fn act_and_keep(
+    cache: &mut Owned<Token, Token, Masked>,
     act: Act,
-    key: &K,
-    value: V,
+    key: &Token,
+    value: Token,
 ) -> Answer {
     match cache.get_sync(key) {
         Some(mut entry) => match act {
@@ -144,11 +135,7 @@ fn act_and_keep<K: Eq + Hash + Drop + Numbered, V: Drop + Numbered, H: BuildHash
 }
 
 // Removes the pair of the entry.
-fn act_and_remove<K: Eq + Hash + Drop + Numbered, V: Drop + Numbered, H: BuildHasher + Drop>(
-    cache: &mut Owned<K, V, H>,
-    act: Act,
-    key: &K,
-) -> Answer {
+fn act_and_remove(cache: &mut Owned<Token, Token, Masked>, act: Act, key: &Token) -> Answer {
     match cache.get_sync(key) {
         Some(entry) => match act {
             Act::Remove => Answer::Old(Some(entry.remove().number())),
@@ -158,13 +145,12 @@ fn act_and_remove<K: Eq + Hash + Drop + Numbered, V: Drop + Numbered, H: BuildHa
     }
 }
 
-impl<K: Eq + Hash + Drop + Numbered, V: Default + Drop + Numbered, H: BuildHasher + Drop> Form<K, V>
-    for Owned<K, V, H> {
+impl Form for Owned<Token, Token, Masked> {
     fn kind(&self) -> Kind {
         Kind::Cache
     }
 
-    fn add(&mut self, way: Way, key: K, value: V) -> Answer {
+    fn add(&mut self, way: Way, key: Token, value: Token) -> Answer {
         match way {
             Way::Insert => match self.put_sync(key, value) {
                 Ok(evicted) => Answer::Added(seen_pair(evicted)),
@@ -180,7 +166,7 @@ impl<K: Eq + Hash + Drop + Numbered, V: Default + Drop + Numbered, H: BuildHashe
         }
     }
 
-    fn replace(&mut self, key: K) -> Answer {
+    fn replace(&mut self, key: Token) -> Answer {
         match self.replace_sync(key) {
             ReplaceResult::Replaced(entry, old) => {
                 Answer::Swapped(Some(old.mark()), Some(seen(entry.key(), entry.get())))
@@ -189,7 +175,7 @@ impl<K: Eq + Hash + Drop + Numbered, V: Default + Drop + Numbered, H: BuildHashe
         }
     }
 
-    fn modify(&mut self, key: K, value: V) -> Answer {
+    fn modify(&mut self, key: Token, value: Token) -> Answer {
         match self
             .entry_sync(key)
             .and_modify(|old| old.write(value.number()))
@@ -202,7 +188,7 @@ impl<K: Eq + Hash + Drop + Numbered, V: Default + Drop + Numbered, H: BuildHashe
         }
     }
 
-    fn act(&mut self, at: At, act: Act, key: &K, value: V) -> Answer {
+    fn act(&mut self, at: At, act: Act, key: &Token, value: Token) -> Answer {
         if at != At::Key {
             return Answer::Absent;
         }
@@ -213,16 +199,16 @@ impl<K: Eq + Hash + Drop + Numbered, V: Default + Drop + Numbered, H: BuildHashe
         }
     }
 
-    fn remove(&mut self, key: &K) -> Answer {
+    fn remove(&mut self, key: &Token) -> Answer {
         Answer::Found(seen_pair(self.remove_sync(key)))
     }
 
-    fn remove_if(&mut self, key: &K) -> Answer {
+    fn remove_if(&mut self, key: &Token) -> Answer {
         let taken = self.remove_if_sync(key, |value| raise_to_even(value));
         Answer::Found(seen_pair(taken))
     }
 
-    fn read(&self, key: &K) -> Answer {
+    fn read(&self, key: &Token) -> Answer {
         let found = self.read_sync(key, |key, value| seen(key, value));
         if self.contains_sync(key) == found.is_some() {
             Answer::Found(found)
@@ -236,7 +222,7 @@ impl<K: Eq + Hash + Drop + Numbered, V: Default + Drop + Numbered, H: BuildHashe
     }
 
     fn take(&mut self, alloc: Global, rule: Rule, met: &mut Vec<Seen>) -> Answer {
-        let mut pairs: Vec<(K, V)> = Vec::new(alloc);
+        let mut pairs: Vec<(Token, Token)> = Vec::new(alloc);
         let ended = self.iter_mut_sync(|key, value| verdict(rule, key, value), &mut pairs);
         let noted = note_pairs(pairs.as_slice(), met);
         match ended {

@@ -2,20 +2,21 @@
 
 use crate::answers::{Answer, Kind, refused, untried};
 use crate::form::{Act, At, Form, Sizes, Way};
-use crate::numbered::{Numbered, Seen, keeps, seen, value_of};
+use crate::numbered::{Seen, keeps, seen, value_of};
+use crate::token::Token;
 use scc_common::InsertError;
 use scc_fallible::TryInsertError;
 use scc_index::Owned;
 use scc_index::borrowed::{Entry, OccupiedEntry};
-use std::hash::{BuildHasher, Hash};
+use test_kit::masked::Masked;
 
 // Adds the pair through its entry.
-fn enter<'a, K: Eq + Hash + Drop + Numbered, V: Default + Drop + Numbered, H: BuildHasher + Drop>(
-    index: &'a mut Owned<K, V, H>,
+fn enter<'a>(
+    index: &'a mut Owned<Token, Token, Masked>,
     way: Way,
-    key: K,
-    value: V,
-) -> Result<OccupiedEntry<'a, K, V, H>, InsertError<K, V>> {
+    key: Token,
+    value: Token,
+) -> Result<OccupiedEntry<'a, Token, Token, Masked>, InsertError<Token, Token>> {
     let entry = index.entry_sync(key);
     match way {
         Way::OrInsertWith => entry.or_insert_with(|| value),
@@ -26,12 +27,7 @@ fn enter<'a, K: Eq + Hash + Drop + Numbered, V: Default + Drop + Numbered, H: Bu
 }
 
 // Returns the answer for a way that returns an entry.
-fn entered<K: Eq + Hash + Drop + Numbered, V: Default + Drop + Numbered, H: BuildHasher + Drop>(
-    index: &mut Owned<K, V, H>,
-    way: Way,
-    key: K,
-    value: V,
-) -> Answer {
+fn entered(index: &mut Owned<Token, Token, Masked>, way: Way, key: Token, value: Token) -> Answer {
     match enter(index, way, key, value) {
         Ok(entry) => Answer::Entry(None, seen(entry.key(), entry.get())),
         Err(error) => refused(error),
@@ -67,11 +63,7 @@ fn entered_or_failed<K: Eq + Hash + Drop + Numbered, V: Drop + Numbered, H: Buil
 }
 
 // Adds the pair through its vacant entry.
-fn fill<K: Eq + Hash + Drop + Numbered, V: Drop + Numbered, H: BuildHasher + Drop>(
-    index: &mut Owned<K, V, H>,
-    key: K,
-    value: V,
-) -> Answer {
+fn fill(index: &mut Owned<Token, Token, Masked>, key: Token, value: Token) -> Answer {
     match index.entry_sync(key) {
         Entry::Vacant(entry) => match entry.insert_entry(value) {
             Ok(entry) => Answer::Entry(None, seen(entry.key(), entry.get())),
@@ -82,11 +74,11 @@ fn fill<K: Eq + Hash + Drop + Numbered, V: Drop + Numbered, H: BuildHasher + Dro
 }
 
 // Returns the occupied entry that `at` names.
-fn find<'a, K: Eq + Hash + Drop + Numbered, V: Drop + Numbered, H: BuildHasher + Drop>(
-    index: &'a mut Owned<K, V, H>,
+fn find<'a>(
+    index: &'a mut Owned<Token, Token, Masked>,
     at: At,
-    key: &K,
-) -> Option<OccupiedEntry<'a, K, V, H>> {
+    key: &Token,
+) -> Option<OccupiedEntry<'a, Token, Token, Masked>> {
     let number = key.number();
     match at {
         At::Key => index.get_sync(key),
@@ -96,12 +88,7 @@ fn find<'a, K: Eq + Hash + Drop + Numbered, V: Drop + Numbered, H: BuildHasher +
 }
 
 // Reads the entry that `at` names, or removes its pair.
-fn act_and_end<K: Eq + Hash + Drop + Numbered, V: Drop + Numbered, H: BuildHasher + Drop>(
-    index: &mut Owned<K, V, H>,
-    at: At,
-    act: Act,
-    key: &K,
-) -> Answer {
+fn act_and_end(index: &mut Owned<Token, Token, Masked>, at: At, act: Act, key: &Token) -> Answer {
     match find(index, at, key) {
         Some(entry) => match act {
             Act::RemoveEntry => {
@@ -115,11 +102,11 @@ fn act_and_end<K: Eq + Hash + Drop + Numbered, V: Drop + Numbered, H: BuildHashe
 }
 
 // Makes a new version at the entry.
-fn act_and_set<K: Eq + Hash + Clone + Drop + Numbered, V: Drop + Numbered, H: BuildHasher + Drop>(
-    index: &mut Owned<K, V, H>,
+fn act_and_set(
+    index: &mut Owned<Token, Token, Masked>,
     at: At,
-    key: &K,
-    value: V,
+    key: &Token,
+    value: Token,
 ) -> Answer {
     match find(index, at, key) {
         Some(mut entry) => match entry.update(value) {
@@ -131,11 +118,7 @@ fn act_and_set<K: Eq + Hash + Clone + Drop + Numbered, V: Drop + Numbered, H: Bu
 }
 
 // Steps to the next entry.
-fn act_and_step<K: Eq + Hash + Drop + Numbered, V: Drop + Numbered, H: BuildHasher + Drop>(
-    index: &mut Owned<K, V, H>,
-    at: At,
-    key: &K,
-) -> Answer {
+fn act_and_step(index: &mut Owned<Token, Token, Masked>, at: At, key: &Token) -> Answer {
     match find(index, at, key) {
         Some(entry) => match entry.next_sync() {
             Some(next) => Answer::Found(Some(seen(next.key(), next.get()))),
@@ -146,11 +129,7 @@ fn act_and_step<K: Eq + Hash + Drop + Numbered, V: Drop + Numbered, H: BuildHash
 }
 
 // Removes the pair of the entry, and steps to the next entry.
-fn act_and_go_on<K: Eq + Hash + Drop + Numbered, V: Drop + Numbered, H: BuildHasher + Drop>(
-    index: &mut Owned<K, V, H>,
-    at: At,
-    key: &K,
-) -> Answer {
+fn act_and_go_on(index: &mut Owned<Token, Token, Masked>, at: At, key: &Token) -> Answer {
     match find(index, at, key) {
         Some(entry) => {
             let here = seen(entry.key(), entry.get());
@@ -163,16 +142,12 @@ fn act_and_go_on<K: Eq + Hash + Drop + Numbered, V: Drop + Numbered, H: BuildHas
     }
 }
 
-impl<
-    K: Eq + Hash + Clone + Drop + Numbered,
-    V: Clone + Default + Drop + Numbered + PartialEq,
-    H: BuildHasher + Clone + Drop,
-> Form<K, V> for Owned<K, V, H> {
+impl Form for Owned<Token, Token, Masked> {
     fn kind(&self) -> Kind {
         Kind::Index
     }
 
-    fn add(&mut self, way: Way, key: K, value: V) -> Answer {
+    fn add(&mut self, way: Way, key: Token, value: Token) -> Answer {
         match way {
             Way::Insert => match self.insert_sync(key, value) {
                 Ok(()) => Answer::Added(None),
@@ -187,7 +162,7 @@ impl<
         }
     }
 
-    fn modify(&mut self, key: K, value: V) -> Answer {
+    fn modify(&mut self, key: Token, value: Token) -> Answer {
         match self.entry_sync(key).and_modify(|_| value) {
             Ok(Entry::Occupied(entry)) => Answer::Found(Some(seen(entry.key(), entry.get()))),
             Ok(Entry::Vacant(entry)) => {
@@ -198,7 +173,7 @@ impl<
         }
     }
 
-    fn act(&mut self, at: At, act: Act, key: &K, value: V) -> Answer {
+    fn act(&mut self, at: At, act: Act, key: &Token, value: Token) -> Answer {
         match act {
             Act::Look | Act::RemoveEntry => act_and_end(self, at, act, key),
             Act::Set => act_and_set(self, at, key, value),
@@ -208,15 +183,15 @@ impl<
         }
     }
 
-    fn remove(&mut self, key: &K) -> Answer {
+    fn remove(&mut self, key: &Token) -> Answer {
         Answer::Yes(self.remove_sync(key))
     }
 
-    fn remove_if(&mut self, key: &K) -> Answer {
+    fn remove_if(&mut self, key: &Token) -> Answer {
         Answer::Yes(self.remove_if_sync(key, |value| value.number() % 2 == 0))
     }
 
-    fn read(&self, key: &K) -> Answer {
+    fn read(&self, key: &Token) -> Answer {
         let found = self.peek_with(key, |key, value| seen(key, value));
         let read = self.read_sync(key, |key, value| seen(key, value));
         let peeked = match self.peek(key) {
@@ -230,7 +205,7 @@ impl<
         }
     }
 
-    fn place(&self, key: &K) -> Answer {
+    fn place(&self, key: &Token) -> Answer {
         Answer::Place(self.bucket_index(key), true)
     }
 

@@ -2,23 +2,22 @@
 
 use crate::answers::{Answer, Kind, Rule, raise_and_keep, refused, untried, verdict};
 use crate::form::{Act, At, Form, Sizes, Way};
-use crate::numbered::{
-    Numbered, Seen, keeps, note_pairs, raise_to_even, seen, seen_pair, value_of,
-};
+use crate::numbered::{Seen, keeps, note_pairs, raise_to_even, seen, seen_pair, value_of};
+use crate::token::Token;
 use scc_common::InsertError;
 use scc_fallible::TryInsertError;
 use scc_map::Owned;
 use scc_map::borrowed::{Entry, OccupiedEntry, ReplaceResult};
 use std::alloc::Global;
-use std::hash::{BuildHasher, Hash};
+use test_kit::masked::Masked;
 
 // Adds the pair through its entry.
-fn enter<'a, K: Eq + Hash + Drop + Numbered, V: Default + Drop + Numbered, H: BuildHasher + Drop>(
-    map: &'a mut Owned<K, V, H>,
+fn enter<'a>(
+    map: &'a mut Owned<Token, Token, Masked>,
     way: Way,
-    key: K,
-    value: V,
-) -> Result<OccupiedEntry<'a, K, V, H>, InsertError<K, V>> {
+    key: Token,
+    value: Token,
+) -> Result<OccupiedEntry<'a, Token, Token, Masked>, InsertError<Token, Token>> {
     let entry = map.entry_sync(key);
     match way {
         Way::OrInsertWith => entry.or_insert_with(|| value),
@@ -30,12 +29,7 @@ fn enter<'a, K: Eq + Hash + Drop + Numbered, V: Default + Drop + Numbered, H: Bu
 }
 
 // Returns the answer for a way that returns an entry.
-fn entered<K: Eq + Hash + Drop + Numbered, V: Default + Drop + Numbered, H: BuildHasher + Drop>(
-    map: &mut Owned<K, V, H>,
-    way: Way,
-    key: K,
-    value: V,
-) -> Answer {
+fn entered(map: &mut Owned<Token, Token, Masked>, way: Way, key: Token, value: Token) -> Answer {
     match enter(map, way, key, value) {
         Ok(entry) => Answer::Entry(None, seen(entry.key(), entry.get())),
         Err(error) => refused(error),
@@ -71,11 +65,7 @@ fn entered_or_failed<K: Eq + Hash + Drop + Numbered, V: Drop + Numbered, H: Buil
 }
 
 // Adds the pair through its vacant entry.
-fn fill<K: Eq + Hash + Drop + Numbered, V: Drop + Numbered, H: BuildHasher + Drop>(
-    map: &mut Owned<K, V, H>,
-    key: K,
-    value: V,
-) -> Answer {
+fn fill(map: &mut Owned<Token, Token, Masked>, key: Token, value: Token) -> Answer {
     match map.entry_sync(key) {
         Entry::Vacant(entry) => match entry.insert_entry(value) {
             Ok(entry) => Answer::Entry(None, seen(entry.key(), entry.get())),
@@ -86,11 +76,7 @@ fn fill<K: Eq + Hash + Drop + Numbered, V: Drop + Numbered, H: BuildHasher + Dro
 }
 
 // Replaces an equal key by `key`, or adds the pair.
-fn replace_or_fill<K: Eq + Hash + Drop + Numbered, V: Drop + Numbered, H: BuildHasher + Drop>(
-    map: &mut Owned<K, V, H>,
-    key: K,
-    value: V,
-) -> Answer {
+fn replace_or_fill(map: &mut Owned<Token, Token, Masked>, key: Token, value: Token) -> Answer {
     match map.replace_sync(key) {
         ReplaceResult::Replaced(entry, old) => {
             let here = seen(entry.key(), entry.get());
@@ -104,11 +90,11 @@ fn replace_or_fill<K: Eq + Hash + Drop + Numbered, V: Drop + Numbered, H: BuildH
 }
 
 // Returns the occupied entry that `at` names.
-fn find<'a, K: Eq + Hash + Drop + Numbered, V: Drop + Numbered, H: BuildHasher + Drop>(
-    map: &'a mut Owned<K, V, H>,
+fn find<'a>(
+    map: &'a mut Owned<Token, Token, Masked>,
     at: At,
-    key: &K,
-) -> Option<OccupiedEntry<'a, K, V, H>> {
+    key: &Token,
+) -> Option<OccupiedEntry<'a, Token, Token, Masked>> {
     let number = key.number();
     match at {
         At::Key => map.get_sync(key),
@@ -118,12 +104,12 @@ fn find<'a, K: Eq + Hash + Drop + Numbered, V: Drop + Numbered, H: BuildHasher +
 }
 
 // Does `act` with the entry that `at` names, and keeps its pair.
-fn act_and_keep<K: Eq + Hash + Drop + Numbered, V: Drop + Numbered, H: BuildHasher + Drop>(
-    map: &mut Owned<K, V, H>,
+fn act_and_keep(
+    map: &mut Owned<Token, Token, Masked>,
     at: At,
     act: Act,
-    key: &K,
-    value: V,
+    key: &Token,
+    value: Token,
 ) -> Answer {
     match find(map, at, key) {
         Some(mut entry) => match act {
@@ -139,12 +125,7 @@ fn act_and_keep<K: Eq + Hash + Drop + Numbered, V: Drop + Numbered, H: BuildHash
 }
 
 // Removes the pair of the entry.
-fn act_and_remove<K: Eq + Hash + Drop + Numbered, V: Drop + Numbered, H: BuildHasher + Drop>(
-    map: &mut Owned<K, V, H>,
-    at: At,
-    act: Act,
-    key: &K,
-) -> Answer {
+fn act_and_remove(map: &mut Owned<Token, Token, Masked>, at: At, act: Act, key: &Token) -> Answer {
     match find(map, at, key) {
         Some(entry) => match act {
             Act::Remove => Answer::Old(Some(entry.remove().number())),
@@ -155,11 +136,7 @@ fn act_and_remove<K: Eq + Hash + Drop + Numbered, V: Drop + Numbered, H: BuildHa
 }
 
 // Steps to the next entry.
-fn act_and_step<K: Eq + Hash + Drop + Numbered, V: Drop + Numbered, H: BuildHasher + Drop>(
-    map: &mut Owned<K, V, H>,
-    at: At,
-    key: &K,
-) -> Answer {
+fn act_and_step(map: &mut Owned<Token, Token, Masked>, at: At, key: &Token) -> Answer {
     match find(map, at, key) {
         Some(entry) => match entry.next_sync() {
             Some(next) => Answer::Found(Some(seen(next.key(), next.get()))),
@@ -170,11 +147,7 @@ fn act_and_step<K: Eq + Hash + Drop + Numbered, V: Drop + Numbered, H: BuildHash
 }
 
 // Removes the pair of the entry, and steps to the next entry.
-fn act_and_go_on<K: Eq + Hash + Drop + Numbered, V: Drop + Numbered, H: BuildHasher + Drop>(
-    map: &mut Owned<K, V, H>,
-    at: At,
-    key: &K,
-) -> Answer {
+fn act_and_go_on(map: &mut Owned<Token, Token, Masked>, at: At, key: &Token) -> Answer {
     match find(map, at, key) {
         Some(entry) => match entry.remove_and_sync() {
             Ok(both) => {
@@ -188,16 +161,12 @@ fn act_and_go_on<K: Eq + Hash + Drop + Numbered, V: Drop + Numbered, H: BuildHas
     }
 }
 
-impl<
-    K: Eq + Hash + Clone + Drop + Numbered,
-    V: Clone + Default + Drop + Numbered + PartialEq,
-    H: BuildHasher + Clone + Drop,
-> Form<K, V> for Owned<K, V, H> {
+impl Form for Owned<Token, Token, Masked> {
     fn kind(&self) -> Kind {
         Kind::Map
     }
 
-    fn add(&mut self, way: Way, key: K, value: V) -> Answer {
+    fn add(&mut self, way: Way, key: Token, value: Token) -> Answer {
         match way {
             Way::Insert => match self.insert_sync(key, value) {
                 Ok(()) => Answer::Added(None),
@@ -216,7 +185,7 @@ impl<
         }
     }
 
-    fn replace(&mut self, key: K) -> Answer {
+    fn replace(&mut self, key: Token) -> Answer {
         match self.replace_sync(key) {
             ReplaceResult::Replaced(entry, old) => {
                 Answer::Swapped(Some(old.mark()), Some(seen(entry.key(), entry.get())))
@@ -225,7 +194,7 @@ impl<
         }
     }
 
-    fn update(&mut self, key: &K, value: V) -> Answer {
+    fn update(&mut self, key: &Token, value: Token) -> Answer {
         Answer::Old(self.update_sync(key, |_, old| {
             let number = old.number();
             *old = value;
@@ -233,7 +202,7 @@ impl<
         }))
     }
 
-    fn modify(&mut self, key: K, value: V) -> Answer {
+    fn modify(&mut self, key: Token, value: Token) -> Answer {
         match self
             .entry_sync(key)
             .and_modify(|old| old.write(value.number()))
@@ -246,7 +215,7 @@ impl<
         }
     }
 
-    fn act(&mut self, at: At, act: Act, key: &K, value: V) -> Answer {
+    fn act(&mut self, at: At, act: Act, key: &Token, value: Token) -> Answer {
         match act {
             Act::Look | Act::Write | Act::Set => act_and_keep(self, at, act, key, value),
             Act::Remove | Act::RemoveEntry => act_and_remove(self, at, act, key),
@@ -255,16 +224,16 @@ impl<
         }
     }
 
-    fn remove(&mut self, key: &K) -> Answer {
+    fn remove(&mut self, key: &Token) -> Answer {
         Answer::Found(seen_pair(self.remove_sync(key)))
     }
 
-    fn remove_if(&mut self, key: &K) -> Answer {
+    fn remove_if(&mut self, key: &Token) -> Answer {
         let taken = self.remove_if_sync(key, |value| raise_to_even(value));
         Answer::Found(seen_pair(taken))
     }
 
-    fn read(&self, key: &K) -> Answer {
+    fn read(&self, key: &Token) -> Answer {
         let found = self.read_sync(key, |key, value| seen(key, value));
         if self.contains_sync(key) == found.is_some() {
             Answer::Found(found)
@@ -273,7 +242,7 @@ impl<
         }
     }
 
-    fn place(&self, key: &K) -> Answer {
+    fn place(&self, key: &Token) -> Answer {
         Answer::Place(self.bucket_index(key), self.has_room(key))
     }
 
@@ -282,7 +251,7 @@ impl<
     }
 
     fn take(&mut self, alloc: Global, rule: Rule, met: &mut Vec<Seen>) -> Answer {
-        let mut pairs: Vec<(K, V)> = Vec::new(alloc);
+        let mut pairs: Vec<(Token, Token)> = Vec::new(alloc);
         let ended = self.iter_mut_sync(|key, value| verdict(rule, key, value), &mut pairs);
         let noted = note_pairs(pairs.as_slice(), met);
         match ended {

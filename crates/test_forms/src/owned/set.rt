@@ -2,18 +2,19 @@
 
 use crate::answers::{Answer, Kind, Rule, key_verdict, refused_key};
 use crate::form::{Act, At, Form, Sizes, Way};
-use crate::numbered::{Numbered, Seen, keeps, note_keys, seen_key};
+use crate::numbered::{Seen, keeps, note_keys, seen_key};
+use crate::token::Token;
 use scc_set::Owned;
 use scc_set::entry::OccupiedEntry;
 use std::alloc::Global;
-use std::hash::{BuildHasher, Hash};
+use test_kit::masked::Masked;
 
 // Returns the occupied entry that `at` names: the first whose key has the key's number, or the first of all.
-fn find<'a, K: Eq + Hash + Drop + Numbered, H: BuildHasher + Drop>(
-    set: &'a mut Owned<K, H>,
+fn find<'a>(
+    set: &'a mut Owned<Token, Masked>,
     at: At,
-    key: &K,
-) -> Option<OccupiedEntry<'a, K, H>> {
+    key: &Token,
+) -> Option<OccupiedEntry<'a, Token, Masked>> {
     let number = key.number();
     match at {
         At::First => set.begin_sync(),
@@ -22,12 +23,7 @@ fn find<'a, K: Eq + Hash + Drop + Numbered, H: BuildHasher + Drop>(
 }
 
 // Reads the entry that `at` names, or removes its key.
-fn act_and_end<K: Eq + Hash + Drop + Numbered, H: BuildHasher + Drop>(
-    set: &mut Owned<K, H>,
-    at: At,
-    act: Act,
-    key: &K,
-) -> Answer {
+fn act_and_end(set: &mut Owned<Token, Masked>, at: At, act: Act, key: &Token) -> Answer {
     match find(set, at, key) {
         Some(entry) => match act {
             Act::RemoveEntry => Answer::Found(Some(seen_key(&entry.remove_entry()))),
@@ -38,11 +34,7 @@ fn act_and_end<K: Eq + Hash + Drop + Numbered, H: BuildHasher + Drop>(
 }
 
 // Steps to the next entry.
-fn act_and_step<K: Eq + Hash + Drop + Numbered, H: BuildHasher + Drop>(
-    set: &mut Owned<K, H>,
-    at: At,
-    key: &K,
-) -> Answer {
+fn act_and_step(set: &mut Owned<Token, Masked>, at: At, key: &Token) -> Answer {
     match find(set, at, key) {
         Some(entry) => match entry.next_sync() {
             Some(next) => Answer::Found(Some(seen_key(next.get()))),
@@ -53,11 +45,7 @@ fn act_and_step<K: Eq + Hash + Drop + Numbered, H: BuildHasher + Drop>(
 }
 
 // Removes the key of the entry, and steps to the next entry.
-fn act_and_go_on<K: Eq + Hash + Drop + Numbered, H: BuildHasher + Drop>(
-    set: &mut Owned<K, H>,
-    at: At,
-    key: &K,
-) -> Answer {
+fn act_and_go_on(set: &mut Owned<Token, Masked>, at: At, key: &Token) -> Answer {
     match find(set, at, key) {
         Some(entry) => match entry.remove_and_sync() {
             Ok(both) => {
@@ -71,16 +59,12 @@ fn act_and_go_on<K: Eq + Hash + Drop + Numbered, H: BuildHasher + Drop>(
     }
 }
 
-impl<
-    K: Eq + Hash + Clone + Drop + Numbered,
-    V: Drop + Numbered,
-    H: BuildHasher + Clone + Drop,
-> Form<K, V> for Owned<K, H> {
+impl Form for Owned<Token, Masked> {
     fn kind(&self) -> Kind {
         Kind::Set
     }
 
-    fn add(&mut self, way: Way, key: K, _value: V) -> Answer {
+    fn add(&mut self, way: Way, key: Token, _value: Token) -> Answer {
         match way {
             Way::Insert => match self.insert_sync(key) {
                 Ok(()) => Answer::Added(None),
@@ -94,14 +78,14 @@ impl<
         }
     }
 
-    fn replace(&mut self, key: K) -> Answer {
+    fn replace(&mut self, key: Token) -> Answer {
         match self.replace_sync(key) {
             Ok(old) => Answer::Swapped(old.map(|key| key.mark()), None),
             Err(error) => refused_key(error),
         }
     }
 
-    fn act(&mut self, at: At, act: Act, key: &K, _value: V) -> Answer {
+    fn act(&mut self, at: At, act: Act, key: &Token, _value: Token) -> Answer {
         if at == At::Key {
             return Answer::Absent;
         }
@@ -113,17 +97,17 @@ impl<
         }
     }
 
-    fn remove(&mut self, key: &K) -> Answer {
+    fn remove(&mut self, key: &Token) -> Answer {
         Answer::Found(self.remove_sync(key).map(|key| seen_key(&key)))
     }
 
-    fn remove_if(&mut self, key: &K) -> Answer {
+    fn remove_if(&mut self, key: &Token) -> Answer {
         let is_even = key.number() % 2 == 0;
         let taken = self.remove_if_sync(key, || is_even);
         Answer::Found(taken.map(|key| seen_key(&key)))
     }
 
-    fn read(&self, key: &K) -> Answer {
+    fn read(&self, key: &Token) -> Answer {
         let found = self.read_sync(key, |key| seen_key(key));
         if self.contains_sync(key) == found.is_some() {
             Answer::Found(found)
@@ -132,7 +116,7 @@ impl<
         }
     }
 
-    fn place(&self, key: &K) -> Answer {
+    fn place(&self, key: &Token) -> Answer {
         Answer::Place(self.bucket_index(key), self.has_room(key))
     }
 
@@ -141,7 +125,7 @@ impl<
     }
 
     fn take(&mut self, alloc: Global, rule: Rule, met: &mut Vec<Seen>) -> Answer {
-        let mut keys: Vec<K> = Vec::new(alloc);
+        let mut keys: Vec<Token> = Vec::new(alloc);
         let ended = self.iter_mut_sync(|key| key_verdict(rule, key), &mut keys);
         let noted = note_keys(keys.as_slice(), met);
         match ended {

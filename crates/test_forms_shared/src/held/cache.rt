@@ -7,15 +7,22 @@ use scc_common::InsertError;
 use scc_fallible::TryInsertError;
 use scc_shared_cache::HashCache;
 use std::alloc::Global;
-use std::hash::{BuildHasher, Hash};
 use std::sync::Wait;
 use test_forms::answers::{Answer, Kind, Rule, raise_and_keep, refused, untried, verdict};
 use test_forms::form::{Act, At, Form, Sizes, Way};
-use test_forms::numbered::{Numbered, Seen, note_pairs, raise_to_even, seen, seen_pair, value_of};
+use test_forms::numbered::{Seen, note_pairs, raise_to_even, seen, seen_pair, value_of};
+use test_forms::token::Token;
+use test_kit::masked::Masked;
 
 // Returns the answer for a way that returns an entry.
-fn entered<K: Eq + Hash + Drop + Numbered, V: Drop + Numbered, H: BuildHasher>(
-    answer: Result<(EvictedEntry<K, V>, OccupiedEntry<'_, K, V, H>), InsertError<K, V>>,
+fn entered(
+    answer: Result<
+        (
+            EvictedEntry<Token, Token>,
+            OccupiedEntry<'_, Token, Token, Masked>,
+        ),
+        InsertError<Token, Token>,
+    >,
 ) -> Answer {
     match answer {
         Ok((evicted, entry)) => {
@@ -27,12 +34,12 @@ fn entered<K: Eq + Hash + Drop + Numbered, V: Drop + Numbered, H: BuildHasher>(
 }
 
 // Puts the pair through its entry.
-fn enter<K: Eq + Hash + Drop + Numbered, V: Default + Drop + Numbered, H: BuildHasher>(
+fn enter(
     rt: &impl Wait,
-    cache: &HashCache<K, V, H>,
+    cache: &HashCache<Token, Token, Masked>,
     way: Way,
-    key: K,
-    value: V,
+    key: Token,
+    value: Token,
 ) -> Answer {
     let entry = cache.entry_sync(rt, key);
     entered(match way {
@@ -74,11 +81,11 @@ fn enter_or_fail<K: Eq + Hash + Drop + Numbered, V: Drop + Numbered, H: BuildHas
 }
 
 // Puts the pair through its vacant entry.
-fn fill<K: Eq + Hash + Drop + Numbered, V: Drop + Numbered, H: BuildHasher>(
+fn fill(
     rt: &impl Wait,
-    cache: &HashCache<K, V, H>,
-    key: K,
-    value: V,
+    cache: &HashCache<Token, Token, Masked>,
+    key: Token,
+    value: Token,
 ) -> Answer {
     match cache.entry_sync(rt, key) {
         Entry::Vacant(entry) => entered(entry.put_entry(value)),
@@ -90,11 +97,11 @@ fn fill<K: Eq + Hash + Drop + Numbered, V: Drop + Numbered, H: BuildHasher>(
 }
 
 // Replaces an equal key by `key`. A missing key gets `value`, if there is one.
-fn swap<K: Eq + Hash + Drop + Numbered, V: Drop + Numbered, H: BuildHasher>(
+fn swap(
     rt: &impl Wait,
-    cache: &HashCache<K, V, H>,
-    key: K,
-    value: Option<V>,
+    cache: &HashCache<Token, Token, Masked>,
+    key: Token,
+    value: Option<Token>,
 ) -> Answer {
     match cache.replace_sync(rt, key) {
         ReplaceResult::Replaced(entry, old) => {
@@ -109,10 +116,10 @@ fn swap<K: Eq + Hash + Drop + Numbered, V: Drop + Numbered, H: BuildHasher>(
 }
 
 // Sets the value of the key's entry, if the key is there.
-fn modify_in<K: Eq + Hash + Drop + Numbered, V: Drop + Numbered, H: BuildHasher>(
+fn modify_in(
     rt: &impl Wait,
-    cache: &HashCache<K, V, H>,
-    key: K,
+    cache: &HashCache<Token, Token, Masked>,
+    key: Token,
     number: u64,
 ) -> Answer {
     match cache
@@ -131,10 +138,7 @@ fn modify_in<K: Eq + Hash + Drop + Numbered, V: Drop + Numbered, H: BuildHasher>
 }
 
 // Writes the value of an entry if `written` is a number, and reads the entry.
-fn look<K: Eq + Hash + Drop + Numbered, V: Drop + Numbered, H: BuildHasher>(
-    entry: OccupiedEntry<'_, K, V, H>,
-    written: Option<u64>,
-) -> Answer {
+fn look(entry: OccupiedEntry<'_, Token, Token, Masked>, written: Option<u64>) -> Answer {
     let mut entry = entry;
     if let Some(number) = written {
         entry.get_mut().write(number);
@@ -144,20 +148,13 @@ fn look<K: Eq + Hash + Drop + Numbered, V: Drop + Numbered, H: BuildHasher>(
 }
 
 // Sets the value of an entry.
-fn set<K: Eq + Hash + Drop + Numbered, V: Drop + Numbered, H: BuildHasher>(
-    entry: OccupiedEntry<'_, K, V, H>,
-    value: V,
-) -> Answer {
+fn set(entry: OccupiedEntry<'_, Token, Token, Masked>, value: Token) -> Answer {
     let mut entry = entry;
     Answer::Old(Some(entry.put(value).number()))
 }
 
 // Does `act` with an entry.
-fn act_on<K: Eq + Hash + Drop + Numbered, V: Drop + Numbered, H: BuildHasher>(
-    entry: OccupiedEntry<'_, K, V, H>,
-    act: Act,
-    number: u64,
-) -> Answer {
+fn act_on(entry: OccupiedEntry<'_, Token, Token, Masked>, act: Act, number: u64) -> Answer {
     match act {
         Act::Look => look(entry, None),
         Act::Write => look(entry, Some(number)),
@@ -168,12 +165,12 @@ fn act_on<K: Eq + Hash + Drop + Numbered, V: Drop + Numbered, H: BuildHasher>(
 }
 
 // Does `act` with the entry of the key.
-fn act_in<K: Eq + Hash + Drop + Numbered, V: Drop + Numbered, H: BuildHasher>(
+fn act_in(
     rt: &impl Wait,
-    cache: &HashCache<K, V, H>,
+    cache: &HashCache<Token, Token, Masked>,
     act: Act,
-    key: &K,
-    value: V,
+    key: &Token,
+    value: Token,
 ) -> Answer {
     match cache.get_sync(rt, key) {
         Some(entry) => match act {
@@ -184,17 +181,12 @@ fn act_in<K: Eq + Hash + Drop + Numbered, V: Drop + Numbered, H: BuildHasher>(
     }
 }
 
-impl<
-    K: Eq + Hash + Drop + Numbered,
-    V: Default + Drop + Numbered,
-    H: BuildHasher + Drop,
-    R: Wait,
-> Form<K, V> for Held<'_, R, HashCache<K, V, H>> {
+impl<R: Wait> Form for Held<'_, R, HashCache<Token, Token, Masked>> {
     fn kind(&self) -> Kind {
         Kind::Cache
     }
 
-    fn add(&mut self, way: Way, key: K, value: V) -> Answer {
+    fn add(&mut self, way: Way, key: Token, value: Token) -> Answer {
         match way {
             Way::Insert => match self.shared.put_sync(self.rt, key, value) {
                 Ok(evicted) => Answer::Added(seen_pair(evicted)),
@@ -210,33 +202,33 @@ impl<
         }
     }
 
-    fn replace(&mut self, key: K) -> Answer {
+    fn replace(&mut self, key: Token) -> Answer {
         swap(self.rt, &self.shared, key, None)
     }
 
-    fn modify(&mut self, key: K, value: V) -> Answer {
+    fn modify(&mut self, key: Token, value: Token) -> Answer {
         modify_in(self.rt, &self.shared, key, value.number())
     }
 
-    fn act(&mut self, at: At, act: Act, key: &K, value: V) -> Answer {
+    fn act(&mut self, at: At, act: Act, key: &Token, value: Token) -> Answer {
         if at != At::Key || !act.is_of(Kind::Cache) {
             return Answer::Absent;
         }
         act_in(self.rt, &self.shared, act, key, value)
     }
 
-    fn remove(&mut self, key: &K) -> Answer {
+    fn remove(&mut self, key: &Token) -> Answer {
         Answer::Found(seen_pair(self.shared.remove_sync(self.rt, key)))
     }
 
-    fn remove_if(&mut self, key: &K) -> Answer {
+    fn remove_if(&mut self, key: &Token) -> Answer {
         let taken = self
             .shared
             .remove_if_sync(self.rt, key, |value| raise_to_even(value));
         Answer::Found(seen_pair(taken))
     }
 
-    fn read(&self, key: &K) -> Answer {
+    fn read(&self, key: &Token) -> Answer {
         let found = self
             .shared
             .read_sync(self.rt, key, |key, value| seen(key, value));
@@ -253,7 +245,7 @@ impl<
     }
 
     fn take(&mut self, alloc: Global, rule: Rule, met: &mut Vec<Seen>) -> Answer {
-        let mut pairs: Vec<(K, V)> = Vec::new(alloc);
+        let mut pairs: Vec<(Token, Token)> = Vec::new(alloc);
         let ended = self.shared.iter_mut_sync(
             self.rt,
             |key, value| verdict(rule, key, value),

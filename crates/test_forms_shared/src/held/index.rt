@@ -5,15 +5,16 @@ use scc_common::InsertError;
 use scc_fallible::TryInsertError;
 use scc_index::locked::{Entry, OccupiedEntry};
 use scc_shared_index::HashIndex;
-use std::hash::{BuildHasher, Hash};
 use std::sync::Wait;
 use test_forms::answers::{Answer, Kind, refused, untried};
 use test_forms::form::{Act, At, Form, Sizes, Way};
-use test_forms::numbered::{Numbered, Seen, keeps, seen, value_of};
+use test_forms::numbered::{Seen, keeps, seen, value_of};
+use test_forms::token::Token;
+use test_kit::masked::Masked;
 
 // Returns the answer for a way that returns an entry.
-fn entered<K: Eq + Hash + Drop + Numbered, V: Drop + Numbered, H: BuildHasher>(
-    answer: Result<OccupiedEntry<'_, K, V, H>, InsertError<K, V>>,
+fn entered(
+    answer: Result<OccupiedEntry<'_, Token, Token, Masked>, InsertError<Token, Token>>,
 ) -> Answer {
     match answer {
         Ok(entry) => {
@@ -25,12 +26,12 @@ fn entered<K: Eq + Hash + Drop + Numbered, V: Drop + Numbered, H: BuildHasher>(
 }
 
 // Adds the pair through its entry.
-fn enter<K: Eq + Hash + Drop + Numbered, V: Default + Drop + Numbered, H: BuildHasher>(
+fn enter(
     rt: &impl Wait,
-    index: &HashIndex<K, V, H>,
+    index: &HashIndex<Token, Token, Masked>,
     way: Way,
-    key: K,
-    value: V,
+    key: Token,
+    value: Token,
 ) -> Answer {
     let entry = index.entry_sync(rt, key);
     entered(match way {
@@ -71,11 +72,11 @@ fn enter_or_fail<K: Eq + Hash + Drop + Numbered, V: Drop + Numbered, H: BuildHas
 }
 
 // Adds the pair through its vacant entry.
-fn fill<K: Eq + Hash + Drop + Numbered, V: Drop + Numbered, H: BuildHasher>(
+fn fill(
     rt: &impl Wait,
-    index: &HashIndex<K, V, H>,
-    key: K,
-    value: V,
+    index: &HashIndex<Token, Token, Masked>,
+    key: Token,
+    value: Token,
 ) -> Answer {
     match index.entry_sync(rt, key) {
         Entry::Vacant(entry) => entered(entry.insert_entry(value)),
@@ -87,11 +88,11 @@ fn fill<K: Eq + Hash + Drop + Numbered, V: Drop + Numbered, H: BuildHasher>(
 }
 
 // Sets the value of the key's entry, if the key is there.
-fn modify_in<K: Eq + Hash + Clone + Drop + Numbered, V: Drop + Numbered, H: BuildHasher>(
+fn modify_in(
     rt: &impl Wait,
-    index: &HashIndex<K, V, H>,
-    key: K,
-    value: V,
+    index: &HashIndex<Token, Token, Masked>,
+    key: Token,
+    value: Token,
 ) -> Answer {
     match index.entry_sync(rt, key).and_modify(|_| value) {
         Ok(Entry::Occupied(entry)) => {
@@ -110,9 +111,7 @@ fn modify_in<K: Eq + Hash + Clone + Drop + Numbered, V: Drop + Numbered, H: Buil
 }
 
 // Returns the pair of an entry, if there is one.
-fn shown<K: Eq + Hash + Drop + Numbered, V: Drop + Numbered, H: BuildHasher>(
-    entry: Option<OccupiedEntry<'_, K, V, H>>,
-) -> Option<Seen> {
+fn shown(entry: Option<OccupiedEntry<'_, Token, Token, Masked>>) -> Option<Seen> {
     match entry {
         Some(entry) => {
             let here = seen(entry.key(), entry.get());
@@ -123,18 +122,13 @@ fn shown<K: Eq + Hash + Drop + Numbered, V: Drop + Numbered, H: BuildHasher>(
 }
 
 // Reads an entry.
-fn look<K: Eq + Hash + Drop + Numbered, V: Drop + Numbered, H: BuildHasher>(
-    entry: OccupiedEntry<'_, K, V, H>,
-) -> Answer {
+fn look(entry: OccupiedEntry<'_, Token, Token, Masked>) -> Answer {
     let here = seen(entry.key(), entry.get());
     Answer::Found(Some(here))
 }
 
 // Makes a new version at an entry.
-fn set<K: Eq + Hash + Clone + Drop + Numbered, V: Drop + Numbered, H: BuildHasher>(
-    entry: OccupiedEntry<'_, K, V, H>,
-    value: V,
-) -> Answer {
+fn set(entry: OccupiedEntry<'_, Token, Token, Masked>, value: Token) -> Answer {
     let mut entry = entry;
     match entry.update(value) {
         Ok(()) => Answer::Yes(true),
@@ -146,20 +140,13 @@ fn set<K: Eq + Hash + Clone + Drop + Numbered, V: Drop + Numbered, H: BuildHashe
 }
 
 // Removes the pair of an entry, and steps to the next entry.
-fn go_on<K: Eq + Hash + Drop + Numbered, V: Drop + Numbered, H: BuildHasher>(
-    rt: &impl Wait,
-    entry: OccupiedEntry<'_, K, V, H>,
-) -> Answer {
+fn go_on(rt: &impl Wait, entry: OccupiedEntry<'_, Token, Token, Masked>) -> Answer {
     let gone = seen(entry.key(), entry.get());
     Answer::Gone(gone, shown(entry.remove_and_sync(rt)))
 }
 
 // Does `act` with an entry.
-fn act_on<K: Eq + Hash + Drop + Numbered, V: Drop + Numbered, H: BuildHasher>(
-    rt: &impl Wait,
-    entry: OccupiedEntry<'_, K, V, H>,
-    act: Act,
-) -> Answer {
+fn act_on(rt: &impl Wait, entry: OccupiedEntry<'_, Token, Token, Masked>, act: Act) -> Answer {
     match act {
         Act::Look => look(entry),
         Act::RemoveEntry => {
@@ -173,13 +160,13 @@ fn act_on<K: Eq + Hash + Drop + Numbered, V: Drop + Numbered, H: BuildHasher>(
 }
 
 // Does `act` with the entry that `at` names.
-fn act_in<K: Eq + Hash + Clone + Drop + Numbered, V: Drop + Numbered, H: BuildHasher>(
+fn act_in(
     rt: &impl Wait,
-    index: &HashIndex<K, V, H>,
+    index: &HashIndex<Token, Token, Masked>,
     at: At,
     act: Act,
-    key: &K,
-    value: V,
+    key: &Token,
+    value: Token,
 ) -> Answer {
     let number = key.number();
     let entry = match at {
@@ -197,9 +184,9 @@ fn act_in<K: Eq + Hash + Clone + Drop + Numbered, V: Drop + Numbered, H: BuildHa
 }
 
 // Steps from entry to entry.
-fn step_in<K: Eq + Hash + Drop + Numbered, V: Drop + Numbered, H: BuildHasher>(
+fn step_in(
     rt: &impl Wait,
-    index: &HashIndex<K, V, H>,
+    index: &HashIndex<Token, Token, Masked>,
     most: usize,
     met: &mut Vec<Seen>,
 ) -> Answer {
@@ -216,9 +203,9 @@ fn step_in<K: Eq + Hash + Drop + Numbered, V: Drop + Numbered, H: BuildHasher>(
 }
 
 // Removes pairs by steps from entry to entry.
-fn drain_in<K: Eq + Hash + Drop + Numbered, V: Drop + Numbered, H: BuildHasher>(
+fn drain_in(
     rt: &impl Wait,
-    index: &HashIndex<K, V, H>,
+    index: &HashIndex<Token, Token, Masked>,
     most: usize,
     met: &mut Vec<Seen>,
 ) -> Answer {
@@ -235,11 +222,7 @@ fn drain_in<K: Eq + Hash + Drop + Numbered, V: Drop + Numbered, H: BuildHasher>(
 }
 
 // Reserves `slots` slots and releases them.
-fn reserve_in<K: Eq + Hash + Drop, V: Drop, H: BuildHasher>(
-    rt: &impl Wait,
-    index: &HashIndex<K, V, H>,
-    slots: usize,
-) -> Answer {
+fn reserve_in(rt: &impl Wait, index: &HashIndex<Token, Token, Masked>, slots: usize) -> Answer {
     match index.reserve(rt, slots) {
         Some(held) => {
             let minimum = *index.capacity_range().start();
@@ -253,17 +236,12 @@ fn reserve_in<K: Eq + Hash + Drop, V: Drop, H: BuildHasher>(
     }
 }
 
-impl<
-    K: Eq + Hash + Clone + Drop + Numbered,
-    V: Clone + Default + Drop + Numbered + PartialEq,
-    H: BuildHasher + Drop,
-    R: Wait,
-> Form<K, V> for Held<'_, R, HashIndex<K, V, H>> {
+impl<R: Wait> Form for Held<'_, R, HashIndex<Token, Token, Masked>> {
     fn kind(&self) -> Kind {
         Kind::Index
     }
 
-    fn add(&mut self, way: Way, key: K, value: V) -> Answer {
+    fn add(&mut self, way: Way, key: Token, value: Token) -> Answer {
         match way {
             Way::Insert => match self.shared.insert_sync(self.rt, key, value) {
                 Ok(()) => Answer::Added(None),
@@ -278,26 +256,26 @@ impl<
         }
     }
 
-    fn modify(&mut self, key: K, value: V) -> Answer {
+    fn modify(&mut self, key: Token, value: Token) -> Answer {
         modify_in(self.rt, &self.shared, key, value)
     }
 
-    fn act(&mut self, at: At, act: Act, key: &K, value: V) -> Answer {
+    fn act(&mut self, at: At, act: Act, key: &Token, value: Token) -> Answer {
         act_in(self.rt, &self.shared, at, act, key, value)
     }
 
-    fn remove(&mut self, key: &K) -> Answer {
+    fn remove(&mut self, key: &Token) -> Answer {
         Answer::Yes(self.shared.remove_sync(self.rt, key))
     }
 
-    fn remove_if(&mut self, key: &K) -> Answer {
+    fn remove_if(&mut self, key: &Token) -> Answer {
         let removed = self
             .shared
             .remove_if_sync(self.rt, key, |value| value.number() % 2 == 0);
         Answer::Yes(removed)
     }
 
-    fn read(&self, key: &K) -> Answer {
+    fn read(&self, key: &Token) -> Answer {
         let found = self
             .shared
             .peek_with(self.rt, key, |key, value| seen(key, value));
@@ -317,7 +295,7 @@ impl<
         }
     }
 
-    fn place(&self, key: &K) -> Answer {
+    fn place(&self, key: &Token) -> Answer {
         Answer::Place(self.shared.bucket_index(self.rt, key), true)
     }
 

@@ -6,15 +6,16 @@ use scc_fallible::TryInsertError;
 use scc_map::locked::{Entry, OccupiedEntry, ReplaceResult};
 use scc_shared_map::HashMap;
 use std::alloc::Global;
-use std::hash::{BuildHasher, Hash};
 use std::sync::Wait;
 use test_forms::answers::{Answer, Kind, Rule, raise_and_keep, refused, untried, verdict};
 use test_forms::form::{Act, At, Form, Sizes, Way};
-use test_forms::numbered::{Numbered, Seen, note_pairs, raise_to_even, seen, seen_pair, value_of};
+use test_forms::numbered::{Seen, note_pairs, raise_to_even, seen, seen_pair, value_of};
+use test_forms::token::Token;
+use test_kit::masked::Masked;
 
 // Returns the answer for a way that returns an entry.
-fn entered<K: Eq + Hash + Drop + Numbered, V: Drop + Numbered, H: BuildHasher>(
-    answer: Result<OccupiedEntry<'_, K, V, H>, InsertError<K, V>>,
+fn entered(
+    answer: Result<OccupiedEntry<'_, Token, Token, Masked>, InsertError<Token, Token>>,
 ) -> Answer {
     match answer {
         Ok(entry) => {
@@ -26,12 +27,12 @@ fn entered<K: Eq + Hash + Drop + Numbered, V: Drop + Numbered, H: BuildHasher>(
 }
 
 // Adds the pair through its entry.
-fn enter<K: Eq + Hash + Drop + Numbered, V: Default + Drop + Numbered, H: BuildHasher>(
+fn enter(
     rt: &impl Wait,
-    map: &HashMap<K, V, H>,
+    map: &HashMap<Token, Token, Masked>,
     way: Way,
-    key: K,
-    value: V,
+    key: Token,
+    value: Token,
 ) -> Answer {
     let entry = map.entry_sync(rt, key);
     entered(match way {
@@ -73,12 +74,7 @@ fn enter_or_fail<K: Eq + Hash + Drop + Numbered, V: Drop + Numbered, H: BuildHas
 }
 
 // Adds the pair through its vacant entry.
-fn fill<K: Eq + Hash + Drop + Numbered, V: Drop + Numbered, H: BuildHasher>(
-    rt: &impl Wait,
-    map: &HashMap<K, V, H>,
-    key: K,
-    value: V,
-) -> Answer {
+fn fill(rt: &impl Wait, map: &HashMap<Token, Token, Masked>, key: Token, value: Token) -> Answer {
     match map.entry_sync(rt, key) {
         Entry::Vacant(entry) => entered(entry.insert_entry(value)),
         Entry::Occupied(entry) => {
@@ -89,11 +85,11 @@ fn fill<K: Eq + Hash + Drop + Numbered, V: Drop + Numbered, H: BuildHasher>(
 }
 
 // Replaces an equal key by `key`. A missing key gets `value`, if there is one.
-fn swap<K: Eq + Hash + Drop + Numbered, V: Drop + Numbered, H: BuildHasher>(
+fn swap(
     rt: &impl Wait,
-    map: &HashMap<K, V, H>,
-    key: K,
-    value: Option<V>,
+    map: &HashMap<Token, Token, Masked>,
+    key: Token,
+    value: Option<Token>,
 ) -> Answer {
     match map.replace_sync(rt, key) {
         ReplaceResult::Replaced(entry, old) => {
@@ -108,10 +104,10 @@ fn swap<K: Eq + Hash + Drop + Numbered, V: Drop + Numbered, H: BuildHasher>(
 }
 
 // Sets the value of the key's entry, if the key is there.
-fn modify_in<K: Eq + Hash + Drop + Numbered, V: Drop + Numbered, H: BuildHasher>(
+fn modify_in(
     rt: &impl Wait,
-    map: &HashMap<K, V, H>,
-    key: K,
+    map: &HashMap<Token, Token, Masked>,
+    key: Token,
     number: u64,
 ) -> Answer {
     match map.entry_sync(rt, key).and_modify(|old| old.write(number)) {
@@ -127,9 +123,7 @@ fn modify_in<K: Eq + Hash + Drop + Numbered, V: Drop + Numbered, H: BuildHasher>
 }
 
 // Returns the pair of an entry, if there is one.
-fn shown<K: Eq + Hash + Drop + Numbered, V: Drop + Numbered, H: BuildHasher>(
-    entry: Option<OccupiedEntry<'_, K, V, H>>,
-) -> Option<Seen> {
+fn shown(entry: Option<OccupiedEntry<'_, Token, Token, Masked>>) -> Option<Seen> {
     match entry {
         Some(entry) => {
             let here = seen(entry.key(), entry.get());
@@ -140,10 +134,7 @@ fn shown<K: Eq + Hash + Drop + Numbered, V: Drop + Numbered, H: BuildHasher>(
 }
 
 // Writes the value of an entry if `written` is a number, and reads the entry.
-fn look<K: Eq + Hash + Drop + Numbered, V: Drop + Numbered, H: BuildHasher>(
-    entry: OccupiedEntry<'_, K, V, H>,
-    written: Option<u64>,
-) -> Answer {
+fn look(entry: OccupiedEntry<'_, Token, Token, Masked>, written: Option<u64>) -> Answer {
     let mut entry = entry;
     if let Some(number) = written {
         entry.get_mut().write(number);
@@ -153,28 +144,22 @@ fn look<K: Eq + Hash + Drop + Numbered, V: Drop + Numbered, H: BuildHasher>(
 }
 
 // Sets the value of an entry.
-fn set<K: Eq + Hash + Drop + Numbered, V: Drop + Numbered, H: BuildHasher>(
-    entry: OccupiedEntry<'_, K, V, H>,
-    value: V,
-) -> Answer {
+fn set(entry: OccupiedEntry<'_, Token, Token, Masked>, value: Token) -> Answer {
     let mut entry = entry;
     Answer::Old(Some(entry.insert(value).number()))
 }
 
 // Removes the pair of an entry, and steps to the next entry.
-fn go_on<K: Eq + Hash + Drop + Numbered, V: Drop + Numbered, H: BuildHasher>(
-    rt: &impl Wait,
-    entry: OccupiedEntry<'_, K, V, H>,
-) -> Answer {
+fn go_on(rt: &impl Wait, entry: OccupiedEntry<'_, Token, Token, Masked>) -> Answer {
     let (pair, next) = entry.remove_and_sync(rt);
     let gone = seen(&pair.0, &pair.1);
     Answer::Gone(gone, shown(next))
 }
 
 // Does `act` with an entry.
-fn act_on<K: Eq + Hash + Drop + Numbered, V: Drop + Numbered, H: BuildHasher>(
+fn act_on(
     rt: &impl Wait,
-    entry: OccupiedEntry<'_, K, V, H>,
+    entry: OccupiedEntry<'_, Token, Token, Masked>,
     act: Act,
     number: u64,
 ) -> Answer {
@@ -189,13 +174,13 @@ fn act_on<K: Eq + Hash + Drop + Numbered, V: Drop + Numbered, H: BuildHasher>(
 }
 
 // Does `act` with the entry that `at` names.
-fn act_in<K: Eq + Hash + Drop + Numbered, V: Drop + Numbered, H: BuildHasher>(
+fn act_in(
     rt: &impl Wait,
-    map: &HashMap<K, V, H>,
+    map: &HashMap<Token, Token, Masked>,
     at: At,
     act: Act,
-    key: &K,
-    value: V,
+    key: &Token,
+    value: Token,
 ) -> Answer {
     let number = key.number();
     let entry = match at {
@@ -213,9 +198,9 @@ fn act_in<K: Eq + Hash + Drop + Numbered, V: Drop + Numbered, H: BuildHasher>(
 }
 
 // Steps from entry to entry.
-fn step_in<K: Eq + Hash + Drop + Numbered, V: Drop + Numbered, H: BuildHasher>(
+fn step_in(
     rt: &impl Wait,
-    map: &HashMap<K, V, H>,
+    map: &HashMap<Token, Token, Masked>,
     most: usize,
     met: &mut Vec<Seen>,
 ) -> Answer {
@@ -232,9 +217,9 @@ fn step_in<K: Eq + Hash + Drop + Numbered, V: Drop + Numbered, H: BuildHasher>(
 }
 
 // Removes pairs by steps from entry to entry.
-fn drain_in<K: Eq + Hash + Drop + Numbered, V: Drop + Numbered, H: BuildHasher>(
+fn drain_in(
     rt: &impl Wait,
-    map: &HashMap<K, V, H>,
+    map: &HashMap<Token, Token, Masked>,
     most: usize,
     met: &mut Vec<Seen>,
 ) -> Answer {
@@ -252,11 +237,7 @@ fn drain_in<K: Eq + Hash + Drop + Numbered, V: Drop + Numbered, H: BuildHasher>(
 }
 
 // Reserves `slots` slots and releases them.
-fn reserve_in<K: Eq + Hash + Drop, V: Drop, H: BuildHasher>(
-    rt: &impl Wait,
-    map: &HashMap<K, V, H>,
-    slots: usize,
-) -> Answer {
+fn reserve_in(rt: &impl Wait, map: &HashMap<Token, Token, Masked>, slots: usize) -> Answer {
     match map.reserve(rt, slots) {
         Some(held) => {
             let minimum = *map.capacity_range().start();
@@ -270,17 +251,12 @@ fn reserve_in<K: Eq + Hash + Drop, V: Drop, H: BuildHasher>(
     }
 }
 
-impl<
-    K: Eq + Hash + Clone + Drop + Numbered,
-    V: Clone + Default + Drop + Numbered + PartialEq,
-    H: BuildHasher + Drop,
-    R: Wait,
-> Form<K, V> for Held<'_, R, HashMap<K, V, H>> {
+impl<R: Wait> Form for Held<'_, R, HashMap<Token, Token, Masked>> {
     fn kind(&self) -> Kind {
         Kind::Map
     }
 
-    fn add(&mut self, way: Way, key: K, value: V) -> Answer {
+    fn add(&mut self, way: Way, key: Token, value: Token) -> Answer {
         match way {
             Way::Insert => match self.shared.insert_sync(self.rt, key, value) {
                 Ok(()) => Answer::Added(None),
@@ -299,11 +275,11 @@ impl<
         }
     }
 
-    fn replace(&mut self, key: K) -> Answer {
+    fn replace(&mut self, key: Token) -> Answer {
         swap(self.rt, &self.shared, key, None)
     }
 
-    fn update(&mut self, key: &K, value: V) -> Answer {
+    fn update(&mut self, key: &Token, value: Token) -> Answer {
         Answer::Old(
             self.shared.update_sync(self.rt, key, |_, old| {
                 let number = old.number();
@@ -313,26 +289,26 @@ impl<
         )
     }
 
-    fn modify(&mut self, key: K, value: V) -> Answer {
+    fn modify(&mut self, key: Token, value: Token) -> Answer {
         modify_in(self.rt, &self.shared, key, value.number())
     }
 
-    fn act(&mut self, at: At, act: Act, key: &K, value: V) -> Answer {
+    fn act(&mut self, at: At, act: Act, key: &Token, value: Token) -> Answer {
         act_in(self.rt, &self.shared, at, act, key, value)
     }
 
-    fn remove(&mut self, key: &K) -> Answer {
+    fn remove(&mut self, key: &Token) -> Answer {
         Answer::Found(seen_pair(self.shared.remove_sync(self.rt, key)))
     }
 
-    fn remove_if(&mut self, key: &K) -> Answer {
+    fn remove_if(&mut self, key: &Token) -> Answer {
         let taken = self
             .shared
             .remove_if_sync(self.rt, key, |value| raise_to_even(value));
         Answer::Found(seen_pair(taken))
     }
 
-    fn read(&self, key: &K) -> Answer {
+    fn read(&self, key: &Token) -> Answer {
         let found = self
             .shared
             .read_sync(self.rt, key, |key, value| seen(key, value));
@@ -343,7 +319,7 @@ impl<
         }
     }
 
-    fn place(&self, key: &K) -> Answer {
+    fn place(&self, key: &Token) -> Answer {
         Answer::Place(
             self.shared.bucket_index(self.rt, key),
             self.shared.has_room(self.rt, key),
@@ -356,7 +332,7 @@ impl<
     }
 
     fn take(&mut self, alloc: Global, rule: Rule, met: &mut Vec<Seen>) -> Answer {
-        let mut pairs: Vec<(K, V)> = Vec::new(alloc);
+        let mut pairs: Vec<(Token, Token)> = Vec::new(alloc);
         let ended = self.shared.iter_mut_sync(
             self.rt,
             |key, value| verdict(rule, key, value),

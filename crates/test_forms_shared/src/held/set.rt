@@ -3,16 +3,15 @@
 use crate::held::{Held, walked};
 use scc_shared_set::{HashSet, OccupiedEntry};
 use std::alloc::Global;
-use std::hash::{BuildHasher, Hash};
 use std::sync::Wait;
 use test_forms::answers::{Answer, Kind, Rule, key_verdict, refused_key};
 use test_forms::form::{Act, At, Form, Sizes, Way};
-use test_forms::numbered::{Numbered, Seen, keeps, note_keys, seen_key};
+use test_forms::numbered::{Seen, keeps, note_keys, seen_key};
+use test_forms::token::Token;
+use test_kit::masked::Masked;
 
 // Returns the key of an entry, if there is one.
-fn shown<K: Eq + Hash + Drop + Numbered, H: BuildHasher>(
-    entry: Option<OccupiedEntry<'_, K, H>>,
-) -> Option<Seen> {
+fn shown(entry: Option<OccupiedEntry<'_, Token, Masked>>) -> Option<Seen> {
     match entry {
         Some(entry) => {
             let here = seen_key(entry.get());
@@ -23,11 +22,7 @@ fn shown<K: Eq + Hash + Drop + Numbered, H: BuildHasher>(
 }
 
 // Does `act` with an entry.
-fn act_on<K: Eq + Hash + Drop + Numbered, H: BuildHasher>(
-    rt: &impl Wait,
-    entry: OccupiedEntry<'_, K, H>,
-    act: Act,
-) -> Answer {
+fn act_on(rt: &impl Wait, entry: OccupiedEntry<'_, Token, Masked>, act: Act) -> Answer {
     match act {
         Act::Look => {
             let here = seen_key(entry.get());
@@ -44,13 +39,7 @@ fn act_on<K: Eq + Hash + Drop + Numbered, H: BuildHasher>(
 }
 
 // Does `act` with the entry that `at` names.
-fn act_in<K: Eq + Hash + Drop + Numbered, H: BuildHasher>(
-    rt: &impl Wait,
-    set: &HashSet<K, H>,
-    at: At,
-    act: Act,
-    key: &K,
-) -> Answer {
+fn act_in(rt: &impl Wait, set: &HashSet<Token, Masked>, at: At, act: Act, key: &Token) -> Answer {
     let number = key.number();
     let entry = match at {
         At::Key => return Answer::Absent,
@@ -64,9 +53,9 @@ fn act_in<K: Eq + Hash + Drop + Numbered, H: BuildHasher>(
 }
 
 // Steps from entry to entry.
-fn step_in<K: Eq + Hash + Drop + Numbered, H: BuildHasher>(
+fn step_in(
     rt: &impl Wait,
-    set: &HashSet<K, H>,
+    set: &HashSet<Token, Masked>,
     most: usize,
     met: &mut Vec<Seen>,
 ) -> Answer {
@@ -83,9 +72,9 @@ fn step_in<K: Eq + Hash + Drop + Numbered, H: BuildHasher>(
 }
 
 // Removes keys by steps from entry to entry.
-fn drain_in<K: Eq + Hash + Drop + Numbered, H: BuildHasher>(
+fn drain_in(
     rt: &impl Wait,
-    set: &HashSet<K, H>,
+    set: &HashSet<Token, Masked>,
     most: usize,
     met: &mut Vec<Seen>,
 ) -> Answer {
@@ -103,11 +92,7 @@ fn drain_in<K: Eq + Hash + Drop + Numbered, H: BuildHasher>(
 }
 
 // Reserves `slots` slots and releases them.
-fn reserve_in<K: Eq + Hash + Drop, H: BuildHasher>(
-    rt: &impl Wait,
-    set: &HashSet<K, H>,
-    slots: usize,
-) -> Answer {
+fn reserve_in(rt: &impl Wait, set: &HashSet<Token, Masked>, slots: usize) -> Answer {
     match set.reserve(rt, slots) {
         Some(held) => {
             let minimum = *set.capacity_range().start();
@@ -117,17 +102,12 @@ fn reserve_in<K: Eq + Hash + Drop, H: BuildHasher>(
     }
 }
 
-impl<
-    K: Eq + Hash + Clone + Drop + Numbered,
-    V: Drop + Numbered,
-    H: BuildHasher + Drop,
-    R: Wait,
-> Form<K, V> for Held<'_, R, HashSet<K, H>> {
+impl<R: Wait> Form for Held<'_, R, HashSet<Token, Masked>> {
     fn kind(&self) -> Kind {
         Kind::Set
     }
 
-    fn add(&mut self, way: Way, key: K, _value: V) -> Answer {
+    fn add(&mut self, way: Way, key: Token, _value: Token) -> Answer {
         match way {
             Way::Insert => match self.shared.insert_sync(self.rt, key) {
                 Ok(()) => Answer::Added(None),
@@ -141,29 +121,29 @@ impl<
         }
     }
 
-    fn replace(&mut self, key: K) -> Answer {
+    fn replace(&mut self, key: Token) -> Answer {
         match self.shared.replace_sync(self.rt, key) {
             Ok(old) => Answer::Swapped(old.map(|key| key.mark()), None),
             Err(error) => refused_key(error),
         }
     }
 
-    fn act(&mut self, at: At, act: Act, key: &K, _value: V) -> Answer {
+    fn act(&mut self, at: At, act: Act, key: &Token, _value: Token) -> Answer {
         act_in(self.rt, &self.shared, at, act, key)
     }
 
-    fn remove(&mut self, key: &K) -> Answer {
+    fn remove(&mut self, key: &Token) -> Answer {
         let taken = self.shared.remove_sync(self.rt, key);
         Answer::Found(taken.map(|key| seen_key(&key)))
     }
 
-    fn remove_if(&mut self, key: &K) -> Answer {
+    fn remove_if(&mut self, key: &Token) -> Answer {
         let is_even = key.number() % 2 == 0;
         let taken = self.shared.remove_if_sync(self.rt, key, || is_even);
         Answer::Found(taken.map(|key| seen_key(&key)))
     }
 
-    fn read(&self, key: &K) -> Answer {
+    fn read(&self, key: &Token) -> Answer {
         let found = self.shared.read_sync(self.rt, key, |key| seen_key(key));
         if self.shared.contains_sync(self.rt, key) == found.is_some() {
             Answer::Found(found)
@@ -172,7 +152,7 @@ impl<
         }
     }
 
-    fn place(&self, key: &K) -> Answer {
+    fn place(&self, key: &Token) -> Answer {
         Answer::Place(
             self.shared.bucket_index(self.rt, key),
             self.shared.has_room(self.rt, key),
@@ -184,7 +164,7 @@ impl<
     }
 
     fn take(&mut self, alloc: Global, rule: Rule, met: &mut Vec<Seen>) -> Answer {
-        let mut keys: Vec<K> = Vec::new(alloc);
+        let mut keys: Vec<Token> = Vec::new(alloc);
         let ended = self
             .shared
             .iter_mut_sync(self.rt, |key| key_verdict(rule, key), &mut keys);

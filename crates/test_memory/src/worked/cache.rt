@@ -4,13 +4,10 @@ use scc::InsertError;
 use scc::hash_cache::Owned;
 use std::io::Print;
 use std::process::Abort;
-use test_kit::refusals::Refusal;
+use test_kit::refusals::{Refusal, TRIES};
 use test_kit::zero::Zero;
 
 type Cache = Owned<u64, u64, Zero>;
-
-// The limit of tries of a call. It is greater than the number of requests that are refused in a row.
-const TRIES: u64 = 32;
 
 // Puts a key with its complement as value. Returns the evicted pair, if any. If memory is refused, returns the pair
 // that was to be put, and `None` if an equal key is present.
@@ -75,7 +72,7 @@ fn cache_refused_array_evicts(rt: HostRuntime) {
 // Puts the keys from 32 on until the new array is there, which is at key 33 if one request is refused. Each put must
 // evict the least recent key.
 fn expect_evictions<R: Abort + Print>(rt: &R, refusal: &mut Refusal, cache: &mut Cache) {
-    for least in 0..TRIES {
+    for least in 0..TRIES as u64 {
         let key = least.saturating_add(32);
         let evicted = put(cache, key);
         let is_left = holds(cache, least.saturating_add(1), key.saturating_add(1));

@@ -1,6 +1,6 @@
 use Rattle.std.proofs.Common.{Some}
 use Rattle.scc_recorded.specs.Setups.{request_of}
-use Rattle.scc_vectors_refused.proofs.recorded.open.Given as goal
+use Rattle.test_memory_recorded.proofs.worked.open.Given as goal
 
 abbrev pub ghosts-on_one_stripe-L-Ledger : goal.ghosts-on_one_stripe-L-Ledger
 ghosts-on_one_stripe-L-Ledger g a = record { name = a.receipts.name; parts = a.receipts.parts }

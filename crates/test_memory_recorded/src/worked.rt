@@ -1,11 +1,11 @@
-// Tests of a recorded map whose records and whose finish are refused memory.
+// A worked case: a recorded map whose records and whose finish are refused memory.
 ghost use Rattle.std.specs.Prelude.{◌≡◌, Some};
 ghost use Rattle.scc_recorded.specs.Setups.{request_of};
 
+use crate::calls::shared;
 use crate::expect::{expect, expect_eq};
 use crate::finishing::finished;
-use crate::texts::{TRIES, shared};
-use scc::hash_map::Owned;
+use crate::kinds::Map;
 use scc::recorded::{
     CallError, Finished, MapCall, Pass, Recorded, Reply, Setup, Shared, Site, Step,
 };
@@ -14,10 +14,8 @@ use std::marker::Brand;
 use std::process::Abort;
 use std::sync::Wait;
 use std::sync::ledger::{Blank, Ledger};
-use test_kit::refusals::Refusal;
+use test_kit::refusals::{Refusal, TRIES};
 use test_kit::zero::Zero;
-
-type Map = Owned<u64, u64, Shared<Zero>>;
 
 // Returns the clock of `pass`, and the number of its receipts.
 fn said<L: Ledger>(pass: &Pass<Map, L>) -> (u64, usize) {
@@ -119,7 +117,7 @@ fn on_one_stripe<L: Ledger, M: Site<Shared<Zero>>, R: AllocGlobal + Abort + Prin
             true
         }
         Err(_) => {
-            refusal.meet(rt, "a recorded map");
+            refusal.meet(rt, "a recorded map of one insertion");
             false
         }
     }

@@ -1,11 +1,10 @@
 // A refused finish hands everything back, and is made again until it succeeds.
 use crate::expect::expect_eq;
-use crate::texts::TRIES;
 use scc::recorded::{Calls, Closed, FinishError, Finished, Pass, Site, Unfinished};
 use std::io::Print;
 use std::process::Abort;
 use std::sync::ledger::Ledger;
-use test_kit::refusals::Refusal;
+use test_kit::refusals::{Refusal, TRIES};
 
 // Returns the number of passes, the sum of their clocks, and the number of their receipts.
 fn clocks_of<C: Calls, L: Ledger>(passes: &[Pass<C, L>]) -> (usize, u64, usize) {

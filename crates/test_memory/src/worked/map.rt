@@ -5,13 +5,10 @@ use scc::hash_map::Owned;
 use scc::{InsertError, Verdict};
 use std::io::Print;
 use std::process::Abort;
-use test_kit::refusals::Refusal;
+use test_kit::refusals::{Refusal, TRIES};
 use test_kit::zero::Zero;
 
 type Map = Owned<u64, u64, Zero>;
-
-// The limit of tries of a call. It is greater than the number of requests that are refused in a row.
-const TRIES: u64 = 32;
 
 // Inserts a key with its complement as value. If memory is refused, returns the pair, and `None` if an equal key is
 // present.

@@ -1,4 +1,4 @@
-//! Keys and values that note when they are dropped.
+//! The keys and values of tests: tokens, which are known by a number and may note when they are dropped.
 ghost use Rattle.std.specs.Prelude.{◌≡◌, ◌==◌, IfOk};
 ghost use Rattle.std.proofs.Common.{rules};
 ghost use Rattle.std.specs.Cmp.Rules.{comparing, hashing};
@@ -8,7 +8,6 @@ use std::alloc::{AllocError, Global};
 use std::cell::Cell;
 use std::hash::{Hash, Hasher};
 use std::rc::Rc;
-use test_forms::numbered::Numbered;
 
 /// How often each token was dropped.
 #[derive(Drop)]
@@ -19,7 +18,7 @@ pub struct Book {
 
 impl Book {
     /// Returns a book with room for `room` tokens.
-    pub(crate) fn new(alloc: Global, room: usize) -> Result<Rc<Book>, AllocError> {
+    pub fn new(alloc: Global, room: usize) -> Result<Rc<Book>, AllocError> {
         let mut drops = Vec::new(alloc);
         for _ in 0..room {
             drops.push(Cell::new(0))?;
@@ -33,7 +32,7 @@ impl Book {
 
     /// Returns how many tokens were made and not dropped. Returns `None` if a token was dropped twice, or dropped
     /// without being made.
-    pub(crate) fn alive(&self) -> Option<usize> {
+    pub fn alive(&self) -> Option<usize> {
         let made = self.made.get();
         let mut alive = 0usize;
         for (id, count) in self.drops.iter().enumerate() {
@@ -65,22 +64,55 @@ impl Book {
     }
 }
 
-/// A key or a value with a number, by which alone it is compared. Its clone is another token with the number. The
-/// default token is in no book.
+/// A key or a value with a number, by which alone it is compared. The mark tells equal tokens apart. The clone of a
+/// token that is in a book is another token of the book.
 pub struct Token {
     number: u64,
+    mark: u64,
     place: Option<(usize, Rc<Book>)>,
 }
 
 impl Token {
+    /// Returns a token of `number` with the mark 0, in no book.
+    pub fn of(number: u64) -> Token {
+        Token::marked(number, 0)
+    }
+
+    /// Returns a token of `number` with a mark, in no book.
+    pub fn marked(number: u64, mark: u64) -> Token
+        ensures { result.number ≡ number }
+    {
+        Token {
+            number,
+            mark,
+            place: None,
+        }
+    }
+
+    /// Returns the number.
+    pub fn number(&self) -> u64 {
+        self.number
+    }
+
+    /// Returns the mark.
+    pub fn mark(&self) -> u64 {
+        self.mark
+    }
+
+    /// Sets the number of a value.
+    pub fn write(&mut self, number: u64) {
+        self.number = number;
+    }
+
     /// Returns a new token of `number`, which `book` counts.
-    pub(crate) fn new(book: &Rc<Book>, number: u64) -> Result<Token, AllocError>
+    pub fn new(book: &Rc<Book>, number: u64) -> Result<Token, AllocError>
         ensures { IfOk result (λ t. t.number ≡ number) }
     {
         let owner = book.clone()?;
         let id = owner.next()?;
         Ok(Token {
             number,
+            mark: 0,
             place: Some((id, owner)),
         })
     }
@@ -88,7 +120,11 @@ impl Token {
 
 impl Drop for Token {
     fn drop(self) {
-        let Token { number: _, place } = self;
+        let Token {
+            number: _,
+            mark: _,
+            place,
+        } = self;
         if let Some((id, book)) = place {
             book.note_drop(id);
         }
@@ -101,10 +137,7 @@ impl Clone for Token {
     fn clone(&self) -> Result<Token, AllocError> {
         match &self.place {
             Some(place) => Token::new(&place.1, self.number),
-            None => Ok(Token {
-                number: self.number,
-                place: None,
-            }),
+            None => Ok(Token::marked(self.number, self.mark)),
         }
     }
 }
@@ -113,10 +146,7 @@ impl Default for Token {
     ghost is_default = { λ t. t.number ≡ 0 };
 
     fn default() -> Token {
-        Token {
-            number: 0,
-            place: None,
-        }
+        Token::marked(0, 0)
     }
 }
 
@@ -141,19 +171,5 @@ impl Hash for Token {
 
     fn hash<S: Hasher>(&self, state: &mut S) {
         self.number.hash(state);
-    }
-}
-
-impl Numbered for Token {
-    fn number(&self) -> u64 {
-        self.number
-    }
-
-    fn mark(&self) -> u64 {
-        0
-    }
-
-    fn write(&mut self, number: u64) {
-        self.number = number;
     }
 }
