@@ -1,19 +1,17 @@
-// Tests of the single-threaded cache. Under `Zero` all keys share a bucket; under `Same` the highest bits of a key
+// Tests of the single-threaded cache. Under `ZERO` all keys share a bucket; under `SAME` the highest bits of a key
 // name its bucket.
 use crate::expect::{expect, expect_eq};
 use scc::Verdict;
 use scc::hash_cache::Owned;
 use scc::hash_cache::owned::ReplaceResult;
-use scc_script::same::Same;
 use std::alloc::Global;
-use std::hash::BuildHasher;
 use std::process::Abort;
+use test_kit::masked::{Masked, SAME, ZERO};
 use test_kit::maybe_equal::MaybeEqual;
-use test_kit::zero::Zero;
 
 const HALF: u64 = 1 << 63;
 
-type Numbers<H> = Owned<u64, u64, H>;
+type Numbers = Owned<u64, u64, Masked>;
 
 // A call on a cache, with the result that it must return. Each key is put with itself as value.
 #[derive(Clone, Copy)]
@@ -43,7 +41,7 @@ enum Call {
 }
 
 // Puts `key` with itself as value. Returns the key that the put evicts, if any, or `None` if the put fails.
-fn put<H: BuildHasher>(cache: &mut Numbers<H>, key: u64) -> Option<Option<u64>> {
+fn put(cache: &mut Numbers, key: u64) -> Option<Option<u64>> {
     match cache.put_sync(key, key) {
         Ok(Some(pair)) => Some(Some(pair.0)),
         Ok(None) => Some(None),
@@ -51,7 +49,7 @@ fn put<H: BuildHasher>(cache: &mut Numbers<H>, key: u64) -> Option<Option<u64>> 
     }
 }
 
-fn fill<H: BuildHasher>(cache: &mut Numbers<H>, first: u64, end: u64) -> bool {
+fn fill(cache: &mut Numbers, first: u64, end: u64) -> bool {
     for key in first..end {
         if put(cache, key) != Some(None) {
             return false;
@@ -60,7 +58,7 @@ fn fill<H: BuildHasher>(cache: &mut Numbers<H>, first: u64, end: u64) -> bool {
     true
 }
 
-fn empty<H: BuildHasher>(cache: &mut Numbers<H>, first: u64, end: u64) -> bool {
+fn empty(cache: &mut Numbers, first: u64, end: u64) -> bool {
     for key in first..end {
         if cache.remove_sync(&key) != Some((key, key)) {
             return false;
@@ -69,33 +67,33 @@ fn empty<H: BuildHasher>(cache: &mut Numbers<H>, first: u64, end: u64) -> bool {
     true
 }
 
-fn get<H: BuildHasher>(cache: &mut Numbers<H>, key: u64) -> Option<u64> {
+fn get(cache: &mut Numbers, key: u64) -> Option<u64> {
     match cache.get_sync(&key) {
         Some(entry) => Some(*entry.get()),
         None => None,
     }
 }
 
-fn puts_entry<H: BuildHasher>(cache: &mut Numbers<H>, key: u64, value: u64) -> bool {
+fn puts_entry(cache: &mut Numbers, key: u64, value: u64) -> bool {
     match cache.entry_sync(key).put_entry(value) {
         Ok((evicted, entry)) => evicted.is_none() && *entry.get() == value,
         Err(_) => false,
     }
 }
 
-fn replaces<H: BuildHasher>(cache: &mut Numbers<H>, key: u64) -> bool {
+fn replaces(cache: &mut Numbers, key: u64) -> bool {
     match cache.replace_sync(key) {
         ReplaceResult::Replaced(_, old) => old == key,
         ReplaceResult::NotReplaced(_) => false,
     }
 }
 
-fn read<H: BuildHasher>(cache: &Numbers<H>, key: u64) -> Option<u64> {
+fn read(cache: &Numbers, key: u64) -> Option<u64> {
     cache.read_sync(&key, |_, value| *value)
 }
 
 // Returns whether `call` returns what it must.
-fn holds<H: BuildHasher>(cache: &mut Numbers<H>, call: Call) -> bool {
+fn holds(cache: &mut Numbers, call: Call) -> bool {
     match call {
         Call::Fill(first, end) => fill(cache, first, end),
         Call::Empty(first, end) => empty(cache, first, end),
@@ -112,7 +110,7 @@ fn holds<H: BuildHasher>(cache: &mut Numbers<H>, call: Call) -> bool {
 }
 
 // Returns the number of the first call that doesn't return what it must.
-fn first_other<H: BuildHasher>(cache: &mut Numbers<H>, calls: &[Call]) -> Option<usize> {
+fn first_other(cache: &mut Numbers, calls: &[Call]) -> Option<usize> {
     for (number, call) in calls.iter().enumerate() {
         if !holds(cache, *call) {
             return Some(number);
@@ -122,12 +120,7 @@ fn first_other<H: BuildHasher>(cache: &mut Numbers<H>, calls: &[Call]) -> Option
 }
 
 // Makes `calls` in turn on a cache without an array, of at most `maximum` slots, and checks each result.
-fn expect_calls<H: BuildHasher + Drop, R: AllocGlobal + Abort>(
-    rt: &R,
-    hasher: H,
-    maximum: usize,
-    calls: &[Call],
-) {
+fn expect_calls<R: AllocGlobal + Abort>(rt: &R, hasher: Masked, maximum: usize, calls: &[Call]) {
     match Owned::with_capacity_and_hasher(rt.alloc(), 0, maximum, hasher) {
         Ok(mut cache) => expect_eq(rt, first_other(&mut cache, calls), None),
         Err(_) => expect(rt, false),
@@ -138,7 +131,7 @@ fn expect_calls<H: BuildHasher + Drop, R: AllocGlobal + Abort>(
 fn cache_get_refreshes(rt: HostRuntime) {
     expect_calls(
         &rt,
-        Zero,
+        ZERO,
         64,
         &[
             Call::Fill(0, 32),
@@ -153,7 +146,7 @@ fn cache_get_refreshes(rt: HostRuntime) {
 fn cache_put_entry_refreshes(rt: HostRuntime) {
     expect_calls(
         &rt,
-        Zero,
+        ZERO,
         64,
         &[
             Call::Fill(0, 32),
@@ -176,7 +169,7 @@ fn cache_which_calls_refresh(rt: HostRuntime) {
     ] {
         expect_calls(
             &rt,
-            Zero,
+            ZERO,
             64,
             &[Call::Fill(0, 32), call, Call::Evict(32, evicted)],
         );
@@ -187,7 +180,7 @@ fn cache_which_calls_refresh(rt: HostRuntime) {
 fn cache_doubles_then_evicts(rt: HostRuntime) {
     expect_calls(
         &rt,
-        Zero,
+        ZERO,
         128,
         &[
             Call::Fill(0, 32),
@@ -204,7 +197,7 @@ fn cache_doubles_then_evicts(rt: HostRuntime) {
 fn cache_shrinks_and_evicts_again(rt: HostRuntime) {
     expect_calls(
         &rt,
-        Zero,
+        ZERO,
         128,
         &[
             Call::Fill(0, 32),
@@ -225,7 +218,7 @@ fn cache_shrinks_and_evicts_again(rt: HostRuntime) {
 fn cache_get_relocates_its_target(rt: HostRuntime) {
     expect_calls(
         &rt,
-        Same,
+        SAME,
         128,
         &[
             Call::Fill(0, 32),
@@ -277,7 +270,7 @@ fn cache_try_from_iter_first_wins(rt: HostRuntime) {
     match Owned::<u64, u64>::try_from_iter(rt.alloc(), [(1, 10), (1, 20)]) {
         Ok(cache) => expect_eq(
             &rt,
-            (read(&cache, 1), range_of(&cache)),
+            (cache.read_sync(&1, |_, value| *value), range_of(&cache)),
             (Some(10), (64, 64, 64)),
         ),
         Err(_) => expect(&rt, false),
@@ -361,7 +354,7 @@ fn cache_iter_mut_keep_stop_at_first(rt: HostRuntime) {
     expect_stop(&rt, Verdict::KeepStop, [0, 0, 1, 2]);
 }
 
-type Marked = Owned<MaybeEqual, u64, Zero>;
+type Marked = Owned<MaybeEqual, u64, Masked>;
 
 // Puts the keys (i, 100 + i) below `end`, each with the value i. Returns whether each went in without an eviction.
 fn put_marked(cache: &mut Marked, end: u64) -> bool {
@@ -407,7 +400,7 @@ fn are_replaced(cache: &Marked, end: u64) -> bool {
 
 #[test]
 fn cache_replace_under_one_hash_keeps_values(rt: HostRuntime) {
-    match Owned::with_capacity_and_hasher(rt.alloc(), 0, 64, Zero) {
+    match Owned::with_capacity_and_hasher(rt.alloc(), 0, 64, ZERO) {
         Ok(mut cache) => {
             let held = [
                 put_marked(&mut cache, 32),
@@ -422,7 +415,7 @@ fn cache_replace_under_one_hash_keeps_values(rt: HostRuntime) {
 
 // Puts the keys 1 and 2 into both caches in different order, and then 3 into `first`. Returns whether the puts evicted
 // nothing, and whether each cache equals the other, before and after the last put.
-fn compare(first: &mut Numbers<Zero>, second: &mut Numbers<Zero>) -> [bool; 6] {
+fn compare(first: &mut Numbers, second: &mut Numbers) -> [bool; 6] {
     let filled = fill(first, 1, 3) && fill(second, 2, 3) && fill(second, 1, 2);
     let before = [first == second, second == first];
     let filled_again = fill(first, 3, 4);
@@ -438,8 +431,8 @@ fn compare(first: &mut Numbers<Zero>, second: &mut Numbers<Zero>) -> [bool; 6] {
 
 #[test]
 fn cache_equality_ignores_recency(rt: HostRuntime) {
-    match Owned::with_capacity_and_hasher(rt.alloc(), 0, 64, Zero) {
-        Ok(mut first) => match Owned::with_capacity_and_hasher(rt.alloc(), 0, 64, Zero) {
+    match Owned::with_capacity_and_hasher(rt.alloc(), 0, 64, ZERO) {
+        Ok(mut first) => match Owned::with_capacity_and_hasher(rt.alloc(), 0, 64, ZERO) {
             Ok(mut second) => expect_eq(
                 &rt,
                 compare(&mut first, &mut second),

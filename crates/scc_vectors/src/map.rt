@@ -1,22 +1,20 @@
-// Tests of the single-threaded map. Under `Zero` all keys share a bucket; under `Same` the highest bits of a key name
+// Tests of the single-threaded map. Under `ZERO` all keys share a bucket; under `SAME` the highest bits of a key name
 // its bucket.
 use crate::expect::{expect, expect_eq};
 use crate::reserving::{foreign_and_own_tokens, grows_and_gives_back, sizes_without_array};
 use scc::hash_map::Owned;
 use scc::hash_map::owned::ReplaceResult;
 use scc::{InsertError, Verdict};
-use scc_script::same::Same;
 use std::alloc::Global;
-use std::hash::BuildHasher;
 use std::process::Abort;
+use test_kit::masked::{Masked, SAME, ZERO};
 use test_kit::maybe_equal::MaybeEqual;
-use test_kit::zero::Zero;
 
 const HALF: u64 = 1 << 63;
 
 const GREATEST: usize = 1 << 63;
 
-type Numbers<H> = Owned<u64, u64, H>;
+type Numbers = Owned<u64, u64, Masked>;
 
 // A call on a map, with the result that it must return.
 #[derive(Clone, Copy)]
@@ -56,7 +54,7 @@ enum Call {
     Reserve(usize, usize, usize),
 }
 
-fn fill<H: BuildHasher>(map: &mut Numbers<H>, first: u64, end: u64) -> bool {
+fn fill(map: &mut Numbers, first: u64, end: u64) -> bool {
     for key in first..end {
         if map.insert_sync(key, key).is_err() {
             return false;
@@ -65,7 +63,7 @@ fn fill<H: BuildHasher>(map: &mut Numbers<H>, first: u64, end: u64) -> bool {
     true
 }
 
-fn empty<H: BuildHasher>(map: &mut Numbers<H>, first: u64, end: u64) -> bool {
+fn empty(map: &mut Numbers, first: u64, end: u64) -> bool {
     for key in first..end {
         if map.remove_sync(&key) != Some((key, key)) {
             return false;
@@ -74,14 +72,14 @@ fn empty<H: BuildHasher>(map: &mut Numbers<H>, first: u64, end: u64) -> bool {
     true
 }
 
-fn comes_back<H: BuildHasher>(map: &mut Numbers<H>, key: u64, value: u64) -> bool {
+fn comes_back(map: &mut Numbers, key: u64, value: u64) -> bool {
     match map.insert_sync(key, value) {
         Err(InsertError::Exists(pair)) => pair == (key, value),
         _ => false,
     }
 }
 
-fn updates<H: BuildHasher>(map: &mut Numbers<H>, key: u64, to: u64) -> bool {
+fn updates(map: &mut Numbers, key: u64, to: u64) -> bool {
     let updated = map.update_sync(&key, |_, value| {
         *value = to;
         *value
@@ -89,18 +87,18 @@ fn updates<H: BuildHasher>(map: &mut Numbers<H>, key: u64, to: u64) -> bool {
     updated == Some(to)
 }
 
-fn write_twos<H: BuildHasher>(map: &mut Numbers<H>) {
+fn write_twos(map: &mut Numbers) {
     map.retain_sync(|_, value| {
         *value = 2;
         true
     });
 }
 
-fn read<H: BuildHasher>(map: &Numbers<H>, key: u64) -> Option<u64> {
+fn read(map: &Numbers, key: u64) -> Option<u64> {
     map.read_sync(&key, |_, value| *value)
 }
 
-fn reads_below<H: BuildHasher>(map: &Numbers<H>, end: u64) -> bool {
+fn reads_below(map: &Numbers, end: u64) -> bool {
     for key in 0..end {
         if read(map, key) != Some(key) {
             return false;
@@ -109,11 +107,11 @@ fn reads_below<H: BuildHasher>(map: &Numbers<H>, end: u64) -> bool {
     true
 }
 
-fn waiting<H: BuildHasher>(map: &Numbers<H>) -> (usize, usize) {
+fn waiting(map: &Numbers) -> (usize, usize) {
     (map.capacity(), map.pending())
 }
 
-fn reserves<H: BuildHasher>(map: &mut Numbers<H>, slots: usize, then: (usize, usize)) -> bool {
+fn reserves(map: &mut Numbers, slots: usize, then: (usize, usize)) -> bool {
     match map.reserve(slots) {
         Some(token) => waiting(map) == then && map.release(token).is_ok(),
         None => false,
@@ -121,7 +119,7 @@ fn reserves<H: BuildHasher>(map: &mut Numbers<H>, slots: usize, then: (usize, us
 }
 
 // Returns whether `call` returns what it must.
-fn holds<H: BuildHasher>(map: &mut Numbers<H>, call: Call) -> bool {
+fn holds(map: &mut Numbers, call: Call) -> bool {
     match call {
         Call::Fill(first, end) => fill(map, first, end),
         Call::Empty(first, end) => empty(map, first, end),
@@ -137,7 +135,7 @@ fn holds<H: BuildHasher>(map: &mut Numbers<H>, call: Call) -> bool {
 }
 
 // Returns whether `call`, a call on all pairs, returns what it must.
-fn holds_of_all<H: BuildHasher>(map: &mut Numbers<H>, call: Call) -> bool {
+fn holds_of_all(map: &mut Numbers, call: Call) -> bool {
     match call {
         Call::WriteTwos => {
             write_twos(map);
@@ -156,7 +154,7 @@ fn holds_of_all<H: BuildHasher>(map: &mut Numbers<H>, call: Call) -> bool {
 }
 
 // Returns the number of the first call that doesn't return what it must.
-fn first_other<H: BuildHasher>(map: &mut Numbers<H>, calls: &[Call]) -> Option<usize> {
+fn first_other(map: &mut Numbers, calls: &[Call]) -> Option<usize> {
     for (number, call) in calls.iter().enumerate() {
         if !holds(map, *call) {
             return Some(number);
@@ -166,15 +164,14 @@ fn first_other<H: BuildHasher>(map: &mut Numbers<H>, calls: &[Call]) -> Option<u
 }
 
 // Makes `calls` in turn on a map with `hasher`, and checks each result.
-fn expect_under<H: BuildHasher + Drop, R: AllocGlobal + Abort>(rt: &R, hasher: H, calls: &[Call]) {
+fn expect_under<R: AllocGlobal + Abort>(rt: &R, hasher: Masked, calls: &[Call]) {
     let mut map = Owned::with_hasher(rt.alloc(), hasher);
     expect_eq(rt, first_other(&mut map, calls), None);
 }
 
-// Makes `calls` in turn on a map with the default hasher, and checks each result.
+// Makes `calls` in turn on a map, and checks each result.
 fn expect_calls<R: AllocGlobal + Abort>(rt: &R, calls: &[Call]) {
-    let mut map = Owned::new(rt.alloc());
-    expect_eq(rt, first_other(&mut map, calls), None);
+    expect_under(rt, SAME, calls);
 }
 
 #[test]
@@ -196,7 +193,7 @@ fn map_insert_upsert_update_read_remove(rt: HostRuntime) {
 fn map_has_room_until_its_bucket_is_full(rt: HostRuntime) {
     expect_under(
         &rt,
-        Zero,
+        ZERO,
         &[
             Call::Room(0, false),
             Call::Fill(0, 31),
@@ -212,7 +209,7 @@ fn map_has_room_until_its_bucket_is_full(rt: HostRuntime) {
 }
 
 // Removes the first pair and each pair that follows. Returns the number of pairs and the sum of their values.
-fn take_each(map: &mut Numbers<Zero>) -> (u64, u64) {
+fn take_each(map: &mut Numbers) -> (u64, u64) {
     let (mut pairs, mut sum) = (0u64, 0u64);
     let mut here = map.begin_sync();
     for _ in 0..64 {
@@ -232,7 +229,7 @@ fn take_each(map: &mut Numbers<Zero>) -> (u64, u64) {
 
 #[test]
 fn map_remove_and_next_never_resizes(rt: HostRuntime) {
-    let mut map = Owned::with_hasher(rt.alloc(), Zero);
+    let mut map = Owned::with_hasher(rt.alloc(), ZERO);
     let filled = first_other(&mut map, &[Call::Fill(0, 40), Call::Sizes(40, 128)]);
     let taken = take_each(&mut map);
     let left = [Call::Sizes(0, 128), Call::Clear, Call::Sizes(0, 64)];
@@ -263,7 +260,7 @@ fn map_retain_writes_iter_stops(rt: HostRuntime) {
 fn map_grows_in_one_bucket_and_shrinks(rt: HostRuntime) {
     expect_under(
         &rt,
-        Zero,
+        ZERO,
         &[
             Call::Fill(0, 32),
             Call::Sizes(32, 64),
@@ -283,7 +280,7 @@ fn map_grows_in_one_bucket_and_shrinks(rt: HostRuntime) {
 fn map_doubles_at_half_its_capacity(rt: HostRuntime) {
     expect_under(
         &rt,
-        Zero,
+        ZERO,
         &[
             Call::Fill(0, 32),
             Call::Sizes(32, 64),
@@ -301,7 +298,7 @@ fn map_doubles_at_half_its_capacity(rt: HostRuntime) {
 fn map_relocates_two_targets_an_insertion(rt: HostRuntime) {
     expect_under(
         &rt,
-        Same,
+        SAME,
         &[
             Call::Fill(0, 32),
             Call::Insert(HALF, 7),
@@ -322,7 +319,7 @@ fn map_relocates_two_targets_an_insertion(rt: HostRuntime) {
 fn map_pending_falls_by_two(rt: HostRuntime) {
     expect_under(
         &rt,
-        Zero,
+        ZERO,
         &[
             Call::Fill(0, 65),
             Call::Sizes(65, 256),
@@ -341,7 +338,7 @@ fn map_pending_falls_by_two(rt: HostRuntime) {
 fn map_reserve_and_release_leave_all_pending(rt: HostRuntime) {
     expect_under(
         &rt,
-        Zero,
+        ZERO,
         &[
             Call::Fill(0, 33),
             Call::Sizes(33, 128),
@@ -408,16 +405,16 @@ fn map_false_remove_if_keeps_what_it_wrote(rt: HostRuntime) {
     expect_eq(&rt, answers, [None, Some((1, 1))]);
 }
 
-type Marked<H> = Owned<MaybeEqual, u64, H>;
+type Marked = Owned<MaybeEqual, u64, Masked>;
 
 // Returns the number and the mark of the stored key, and its value.
-fn marked<H: BuildHasher>(map: &Marked<H>, number: u64) -> Option<(u64, u64, u64)> {
+fn marked(map: &Marked, number: u64) -> Option<(u64, u64, u64)> {
     map.read_sync(&MaybeEqual(number, 0), |key, value| (key.0, key.1, *value))
 }
 
 // Replaces a key. Returns the mark of the old key, the mark of the new key and the value, or `None` if the key was
 // missing.
-fn replace<H: BuildHasher>(map: &mut Marked<H>, number: u64, mark: u64) -> Option<(u64, u64, u64)> {
+fn replace(map: &mut Marked, number: u64, mark: u64) -> Option<(u64, u64, u64)> {
     match map.replace_sync(MaybeEqual(number, mark)) {
         ReplaceResult::Replaced(entry, old) => Some((old.1, entry.key().1, *entry.get())),
         ReplaceResult::NotReplaced(_) => None,
@@ -426,9 +423,7 @@ fn replace<H: BuildHasher>(map: &mut Marked<H>, number: u64, mark: u64) -> Optio
 
 // Sets a value twice, each time by a key with another mark. Returns the former value each time, and the stored key
 // with its value.
-fn upsert_twice<H: BuildHasher>(
-    map: &mut Marked<H>,
-) -> ([Option<Option<u64>>; 2], Option<(u64, u64, u64)>) {
+fn upsert_twice(map: &mut Marked) -> ([Option<Option<u64>>; 2], Option<(u64, u64, u64)>) {
     let old = [
         map.upsert_sync(MaybeEqual(11, 7), 17).ok(),
         map.upsert_sync(MaybeEqual(11, 11), 18).ok(),
@@ -438,7 +433,7 @@ fn upsert_twice<H: BuildHasher>(
 
 #[test]
 fn map_upsert_keeps_key_replace_swaps_it(rt: HostRuntime) {
-    let mut map: Owned<MaybeEqual, u64> = Owned::new(rt.alloc());
+    let mut map = Owned::with_hasher(rt.alloc(), SAME);
     let upserted = upsert_twice(&mut map);
     let swapped = (replace(&mut map, 11, 11), marked(&map, 11));
     expect_eq(
@@ -452,11 +447,7 @@ fn map_upsert_keeps_key_replace_swaps_it(rt: HostRuntime) {
 }
 
 // Sets the value of a key through its entry. Returns the number and the mark of the stored key, and its value.
-fn set_through_entry<H: BuildHasher>(
-    map: &mut Marked<H>,
-    key: MaybeEqual,
-    value: u64,
-) -> Option<(u64, u64, u64)> {
+fn set_through_entry(map: &mut Marked, key: MaybeEqual, value: u64) -> Option<(u64, u64, u64)> {
     match map.entry_sync(key).insert_entry(value) {
         Ok(entry) => Some((entry.key().0, entry.key().1, *entry.get())),
         Err(_) => None,
@@ -465,7 +456,7 @@ fn set_through_entry<H: BuildHasher>(
 
 #[test]
 fn map_insert_entry_keeps_the_stored_key(rt: HostRuntime) {
-    let mut map: Owned<MaybeEqual, u64> = Owned::new(rt.alloc());
+    let mut map = Owned::with_hasher(rt.alloc(), SAME);
     let is_inserted = map.insert_sync(MaybeEqual(11, 7), 17).is_ok();
     let set = set_through_entry(&mut map, MaybeEqual(11, 11), 18);
     expect_eq(
@@ -476,7 +467,7 @@ fn map_insert_entry_keeps_the_stored_key(rt: HostRuntime) {
 }
 
 // Inserts the keys (i, 100 + i) below `end`, each with the value i, and returns whether each went in.
-fn insert_marked(map: &mut Marked<Zero>, end: u64) -> bool {
+fn insert_marked(map: &mut Marked, end: u64) -> bool {
     for i in 0..end {
         let key = MaybeEqual(i, i.saturating_add(100));
         if map.insert_sync(key, i).is_err() {
@@ -487,7 +478,7 @@ fn insert_marked(map: &mut Marked<Zero>, end: u64) -> bool {
 }
 
 // Replaces each key below `end` by (i, 200 + i), and returns whether each replacement succeeded.
-fn replace_marked(map: &mut Marked<Zero>, end: u64) -> bool {
+fn replace_marked(map: &mut Marked, end: u64) -> bool {
     for i in 0..end {
         let (old, new) = (i.saturating_add(100), i.saturating_add(200));
         if replace(map, i, new) != Some((old, new, i)) {
@@ -498,7 +489,7 @@ fn replace_marked(map: &mut Marked<Zero>, end: u64) -> bool {
 }
 
 // Returns whether each key below `end` is stored as (i, 200 + i) with its value.
-fn are_replaced(map: &Marked<Zero>, end: u64) -> bool {
+fn are_replaced(map: &Marked, end: u64) -> bool {
     for i in 0..end {
         if marked(map, i) != Some((i, i.saturating_add(200), i)) {
             return false;
@@ -509,7 +500,7 @@ fn are_replaced(map: &Marked<Zero>, end: u64) -> bool {
 
 #[test]
 fn replace_under_one_hash_keeps_values(rt: HostRuntime) {
-    let mut map = Owned::with_hasher(rt.alloc(), Zero);
+    let mut map = Owned::with_hasher(rt.alloc(), ZERO);
     let held = [
         insert_marked(&mut map, 40),
         replace_marked(&mut map, 40),
@@ -520,7 +511,7 @@ fn replace_under_one_hash_keeps_values(rt: HostRuntime) {
 
 #[test]
 fn map_try_from_iter_last_wins(rt: HostRuntime) {
-    match Owned::<u64, u64>::try_from_iter(rt.alloc(), [(1, 10), (1, 20)]) {
+    match Numbers::try_from_iter(rt.alloc(), [(1, 10), (1, 20)]) {
         Ok(map) => expect_eq(
             &rt,
             (read(&map, 1), map.len(), map.capacity()),
@@ -726,7 +717,7 @@ fn map_refuses_a_foreign_token(rt: HostRuntime) {
 
 // Clones `map`, and returns whether the clone equals it, the clone's length, its capacity and both ends of its range;
 // and whether the first 24 keys can be removed from the clone, and its length and capacity then.
-fn shrink_clone(map: &Numbers<Zero>) -> Option<(bool, [usize; 4], bool, [usize; 2])> {
+fn shrink_clone(map: &Numbers) -> Option<(bool, [usize; 4], bool, [usize; 2])> {
     match map.try_clone() {
         Ok(mut copy) => {
             let is_equal = copy == *map;
@@ -741,7 +732,7 @@ fn shrink_clone(map: &Numbers<Zero>) -> Option<(bool, [usize; 4], bool, [usize; 
 
 #[test]
 fn map_clone_has_its_capacity_as_minimum(rt: HostRuntime) {
-    let mut map = Owned::with_hasher(rt.alloc(), Zero);
+    let mut map = Owned::with_hasher(rt.alloc(), ZERO);
     let filled = (fill(&mut map, 0, 40), map.len(), map.capacity());
     let seen = shrink_clone(&map);
     let wanted = (true, [40, 128, 128, GREATEST], true, [16, 128]);
@@ -760,7 +751,7 @@ fn place_without_array(alloc: Global) -> usize {
 
 // Returns the capacity of a map with room for 1024 pairs, and the buckets of two keys in it.
 fn places(alloc: Global) -> Option<(usize, usize, usize)> {
-    match Numbers::with_capacity_and_hasher(alloc, 1024, Same) {
+    match Numbers::with_capacity_and_hasher(alloc, 1024, SAME) {
         Ok(map) => Some((
             map.capacity(),
             map.bucket_index(&HALF),

@@ -3,20 +3,15 @@ use crate::expect::{expect, expect_eq};
 use crate::reserving::{foreign_and_own_tokens, grows_and_gives_back, sizes_without_array};
 use scc::Verdict;
 use scc::hash_set::Owned;
-use std::hash::BuildHasher;
 use std::process::Abort;
+use test_kit::masked::{Masked, SAME, ZERO};
 use test_kit::maybe_equal::MaybeEqual;
-use test_kit::zero::Zero;
 
 const GREATEST: usize = 1 << 63;
 
 // Replaces a key. Returns the mark of the old key, with `None` inside if the key was missing, or `None` if the call
 // fails.
-fn replace<H: BuildHasher>(
-    set: &mut Owned<MaybeEqual, H>,
-    number: u64,
-    mark: u64,
-) -> Option<Option<u64>> {
+fn replace(set: &mut Owned<MaybeEqual, Masked>, number: u64, mark: u64) -> Option<Option<u64>> {
     match set.replace_sync(MaybeEqual(number, mark)) {
         Ok(Some(old)) => Some(Some(old.1)),
         Ok(None) => Some(None),
@@ -25,13 +20,13 @@ fn replace<H: BuildHasher>(
 }
 
 // Returns the mark of the stored key.
-fn mark_of<H: BuildHasher>(set: &Owned<MaybeEqual, H>, number: u64) -> Option<u64> {
+fn mark_of(set: &Owned<MaybeEqual, Masked>, number: u64) -> Option<u64> {
     set.read_sync(&MaybeEqual(number, 0), |key| key.1)
 }
 
 #[test]
 fn set_replace_inserts_then_swaps(rt: HostRuntime) {
-    let mut set: Owned<MaybeEqual> = Owned::new(rt.alloc());
+    let mut set = Owned::with_hasher(rt.alloc(), SAME);
     let replaced = [replace(&mut set, 11, 7), replace(&mut set, 11, 11)];
     expect_eq(
         &rt,
@@ -121,7 +116,7 @@ fn set_iter_mut_keep_stop_at_first(rt: HostRuntime) {
 
 // Replaces each key below 40 by one whose mark is the number plus `above`. Returns whether each key had the mark
 // number plus `old`, or was missing if `old` is `None`.
-fn replace_all(set: &mut Owned<MaybeEqual, Zero>, above: u64, old: Option<u64>) -> bool {
+fn replace_all(set: &mut Owned<MaybeEqual, Masked>, above: u64, old: Option<u64>) -> bool {
     for i in 0..40u64 {
         let wanted = match old {
             Some(mark) => Some(i.saturating_add(mark)),
@@ -135,7 +130,7 @@ fn replace_all(set: &mut Owned<MaybeEqual, Zero>, above: u64, old: Option<u64>) 
 }
 
 // Returns whether each key below 40 is stored with the mark number plus `above`.
-fn have_marks(set: &Owned<MaybeEqual, Zero>, above: u64) -> bool {
+fn have_marks(set: &Owned<MaybeEqual, Masked>, above: u64) -> bool {
     for i in 0..40u64 {
         if mark_of(set, i) != Some(i.saturating_add(above)) {
             return false;
@@ -146,7 +141,7 @@ fn have_marks(set: &Owned<MaybeEqual, Zero>, above: u64) -> bool {
 
 #[test]
 fn set_replace_under_one_hash_keeps_values(rt: HostRuntime) {
-    let mut set = Owned::with_hasher(rt.alloc(), Zero);
+    let mut set = Owned::with_hasher(rt.alloc(), ZERO);
     let held = [
         replace_all(&mut set, 100, None),
         replace_all(&mut set, 200, Some(100)),
