@@ -74,7 +74,7 @@ pub fn refused(error: InsertError<Token, Token>) -> Answer {
 }
 
 /// Returns the answer for an insertion that failed, or whose value wasn't made.
-pub fn untried<K: Numbered + Drop, V: Numbered + Drop>(error: TryInsertError<K, V, u64>) -> Answer {
+pub fn untried(error: TryInsertError<Token, Token, u64>) -> Answer {
     match error {
         TryInsertError::Failed(number) => Answer::Failed(number),
         TryInsertError::Memory(pair) => Answer::Refused(Some(seen(&pair.0, &pair.1))),

@@ -190,7 +190,7 @@ fn expect_insertions<R: AllocGlobal + Abort + Print + Wait>(
 struct Failing;
 
 impl Job for Failing {
-    fn run<F: Form<u64, u64>, R: AllocGlobal + Abort + Print + Wait>(
+    fn run<F: Form, R: AllocGlobal + Abort + Print + Wait>(
         &self,
         rt: &R,
         refusal: &mut Refusal,
@@ -199,12 +199,20 @@ impl Job for Failing {
     ) {
         let mut looks = Looks::new(rt, refusal);
         looks.before.see(rt, form);
-        expect_eq(rt, form.add(Way::OrFail, 7, 1), Answer::Failed(7));
+        expect_eq(
+            rt,
+            form.add(Way::OrFail, Token::of(7), Token::of(1)),
+            Answer::Failed(7),
+        );
         looks.after.see(rt, form);
         looks.before.expect_same(rt, &looks.after, false);
         expect_added(rt, refusal, of, &mut looks, form, Way::OrTryInsertWith, 0);
         let pair = pair_of(form.kind(), 0, value_of(Way::OrTryInsertWith, 0));
-        expect_eq(rt, form.add(Way::OrFail, 0, 1), Answer::Entry(None, pair));
+        expect_eq(
+            rt,
+            form.add(Way::OrFail, Token::of(0), Token::of(1)),
+            Answer::Entry(None, pair),
+        );
         expect_keys(rt, form, Way::OrTryInsertWith, 0, 1);
     }
 }

@@ -50,12 +50,18 @@ fn entered(cache: &mut Owned<Token, Token, Masked>, way: Way, key: Token, value:
 }
 
 // Puts the pair through its entry, with a closure that makes the value or fails.
-fn enter_or_fail<'a, K: Eq + Hash + Drop + Numbered, V: Drop + Numbered, H: BuildHasher + Drop>(
-    cache: &'a mut Owned<K, V, H>,
+fn enter_or_fail<'a>(
+    cache: &'a mut Owned<Token, Token, Masked>,
     way: Way,
-    key: K,
-    value: V,
-) -> Result<(EvictedEntry<K, V>, OccupiedEntry<'a, K, V, H>), TryInsertError<K, V, u64>> {
+    key: Token,
+    value: Token,
+) -> Result<
+    (
+        EvictedEntry<Token, Token>,
+        OccupiedEntry<'a, Token, Token, Masked>,
+    ),
+    TryInsertError<Token, Token, u64>,
+> {
     let entry = cache.entry_sync(key);
     match way {
         Way::OrTryInsertWith => entry.or_try_put_with(|| Ok(value)),
@@ -65,11 +71,11 @@ fn enter_or_fail<'a, K: Eq + Hash + Drop + Numbered, V: Drop + Numbered, H: Buil
 }
 
 // Returns the answer for a way whose closure may fail.
-fn entered_or_failed<K: Eq + Hash + Drop + Numbered, V: Drop + Numbered, H: BuildHasher + Drop>(
-    cache: &mut Owned<K, V, H>,
+fn entered_or_failed(
+    cache: &mut Owned<Token, Token, Masked>,
     way: Way,
-    key: K,
-    value: V,
+    key: Token,
+    value: Token,
 ) -> Answer {
     match enter_or_fail(cache, way, key, value) {
         Ok(placed) => {

@@ -37,12 +37,12 @@ fn entered(map: &mut Owned<Token, Token, Masked>, way: Way, key: Token, value: T
 }
 
 // Adds the pair through its entry, with a closure that makes the value or fails.
-fn enter_or_fail<'a, K: Eq + Hash + Drop + Numbered, V: Drop + Numbered, H: BuildHasher + Drop>(
-    map: &'a mut Owned<K, V, H>,
+fn enter_or_fail<'a>(
+    map: &'a mut Owned<Token, Token, Masked>,
     way: Way,
-    key: K,
-    value: V,
-) -> Result<OccupiedEntry<'a, K, V, H>, TryInsertError<K, V, u64>> {
+    key: Token,
+    value: Token,
+) -> Result<OccupiedEntry<'a, Token, Token, Masked>, TryInsertError<Token, Token, u64>> {
     let entry = map.entry_sync(key);
     match way {
         Way::OrTryInsertWith => entry.or_try_insert_with(|| Ok(value)),
@@ -52,11 +52,11 @@ fn enter_or_fail<'a, K: Eq + Hash + Drop + Numbered, V: Drop + Numbered, H: Buil
 }
 
 // Returns the answer for a way whose closure may fail.
-fn entered_or_failed<K: Eq + Hash + Drop + Numbered, V: Drop + Numbered, H: BuildHasher + Drop>(
-    map: &mut Owned<K, V, H>,
+fn entered_or_failed(
+    map: &mut Owned<Token, Token, Masked>,
     way: Way,
-    key: K,
-    value: V,
+    key: Token,
+    value: Token,
 ) -> Answer {
     match enter_or_fail(map, way, key, value) {
         Ok(entry) => Answer::Entry(None, seen(entry.key(), entry.get())),

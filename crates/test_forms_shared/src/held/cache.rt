@@ -52,8 +52,14 @@ fn enter(
 }
 
 // Returns the answer for a way whose closure may fail.
-fn entered_or_failed<K: Eq + Hash + Drop + Numbered, V: Drop + Numbered, H: BuildHasher>(
-    answer: Result<(EvictedEntry<K, V>, OccupiedEntry<'_, K, V, H>), TryInsertError<K, V, u64>>,
+fn entered_or_failed(
+    answer: Result<
+        (
+            EvictedEntry<Token, Token>,
+            OccupiedEntry<'_, Token, Token, Masked>,
+        ),
+        TryInsertError<Token, Token, u64>,
+    >,
 ) -> Answer {
     match answer {
         Ok((evicted, entry)) => {
@@ -65,12 +71,12 @@ fn entered_or_failed<K: Eq + Hash + Drop + Numbered, V: Drop + Numbered, H: Buil
 }
 
 // Puts the pair through its entry, with a closure that makes the value or fails.
-fn enter_or_fail<K: Eq + Hash + Drop + Numbered, V: Drop + Numbered, H: BuildHasher>(
+fn enter_or_fail(
     rt: &impl Wait,
-    cache: &HashCache<K, V, H>,
+    cache: &HashCache<Token, Token, Masked>,
     way: Way,
-    key: K,
-    value: V,
+    key: Token,
+    value: Token,
 ) -> Answer {
     let entry = cache.entry_sync(rt, key);
     entered_or_failed(match way {

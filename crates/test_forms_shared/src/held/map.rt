@@ -45,8 +45,8 @@ fn enter(
 }
 
 // Returns the answer for a way whose closure may fail.
-fn entered_or_failed<K: Eq + Hash + Drop + Numbered, V: Drop + Numbered, H: BuildHasher>(
-    answer: Result<OccupiedEntry<'_, K, V, H>, TryInsertError<K, V, u64>>,
+fn entered_or_failed(
+    answer: Result<OccupiedEntry<'_, Token, Token, Masked>, TryInsertError<Token, Token, u64>>,
 ) -> Answer {
     match answer {
         Ok(entry) => {
@@ -58,12 +58,12 @@ fn entered_or_failed<K: Eq + Hash + Drop + Numbered, V: Drop + Numbered, H: Buil
 }
 
 // Adds the pair through its entry, with a closure that makes the value or fails.
-fn enter_or_fail<K: Eq + Hash + Drop + Numbered, V: Drop + Numbered, H: BuildHasher>(
+fn enter_or_fail(
     rt: &impl Wait,
-    map: &HashMap<K, V, H>,
+    map: &HashMap<Token, Token, Masked>,
     way: Way,
-    key: K,
-    value: V,
+    key: Token,
+    value: Token,
 ) -> Answer {
     let entry = map.entry_sync(rt, key);
     entered_or_failed(match way {
