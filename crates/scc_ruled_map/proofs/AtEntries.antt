@@ -18,7 +18,7 @@ use Rattle.scc_table.proofs.WalkReached.{passes-at}
 use Rattle.scc_table.proofs.AtPlaces.{entry_of-is, put-there, written-there}
 use Rattle.scc_common.specs.declared.errors.InsertError.{InsertError}
 use Rattle.scc_common.specs.declared.errors.InsertError.TheVariants.{Memory}
-use Rattle.scc_ruled_map.specs.Entries.{Occupied, Vacant, entry_key, occupied_pair, OrInserts, OrInsertsSome, Refuses, RefusesSome}
+use Rattle.scc_ruled_map.specs.Entries.{Occupied, Vacant, entry_key, occupied_pair, OrInserts, OrInsertsSome}
 use Rattle.scc_ruled_map.specs.declared.entries.Entry.{Entry}
 use Rattle.scc_ruled_map.specs.declared.entries.OccupiedEntry.{OccupiedEntry}
 
@@ -60,10 +60,10 @@ module _ {K V R H T : Type 0} {g : eq.Ghosts K} {h : hash.Ghosts K} {r : rule.Gh
   inserts-this e (Err x) i f = tt
 
   -- the same of what a refusal returns
-  pub refuses-some : {A : Type 0} {P Q : K → V → Type 0} (e : Entry K V R H T g h r b w) (y : Result A (InsertError K V)) → IfErr y (RefusesSome e P) → ((k : K) (v : V) → P k v → Q k v) → IfErr y (RefusesSome e Q)
+  pub refuses-some : {A : Type 0} {P Q : V → Type 0} (e : Entry K V R H T g h r b w) (y : Result A (InsertError K V)) → IfErr y (λ z. (v : V) × P v × (z ≡ Memory (entry_key e, v))) → ((v : V) → P v → Q v) → IfErr y (λ z. (v : V) × Q v × (z ≡ Memory (entry_key e, v)))
   refuses-some e (Ok a) i f = tt
-  refuses-some e (Err x) i f = (i.0, f (entry_key e) i.0 i.1, i.2)
+  refuses-some e (Err z) i f = (i.0, f i.0 i.1, i.2)
 
-  pub refuses-this : {A : Type 0} {P : K → V → Type 0} {x : V} (e : Entry K V R H T g h r b w) (y : Result A (InsertError K V)) → IfErr y (RefusesSome e P) → ((k : K) (v : V) → P k v → v ≡ x) → IfErr y (Refuses e x)
+  pub refuses-this : {A : Type 0} {P : V → Type 0} {x : V} (e : Entry K V R H T g h r b w) (y : Result A (InsertError K V)) → IfErr y (λ z. (v : V) × P v × (z ≡ Memory (entry_key e, v))) → ((v : V) → P v → v ≡ x) → IfErr y (λ z. z ≡ Memory (entry_key e, x))
   refuses-this e (Ok a) i f = tt
-  refuses-this e (Err z) i f = subst (λ v. z ≡ Memory (entry_key e, v)) (f (entry_key e) i.0 i.1) i.2
+  refuses-this e (Err z) i f = subst (λ v. z ≡ Memory (entry_key e, v)) (f i.0 i.1) i.2

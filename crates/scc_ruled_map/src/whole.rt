@@ -1,16 +1,13 @@
-//! Calls on a whole map: comparing, cloning, making a map of items. They look at the stripes one after another.
-ghost use Rattle.std.specs.Prelude.{◌≡◌, ◌<◌, List, length, IfOk};
-ghost use Rattle.std.specs.Iterator.{Drains, IsFinite};
-ghost use Rattle.scc_stripes.specs.Sizes.{IsBitsAsked};
-ghost use Rattle.scc_stripes.specs.Stripes.{stripe_bits, stripe_count};
-ghost use Rattle.scc_rules.specs.Rules.{ClonesKeep, AllKeep};
-ghost use Rattle.scc_ruled_map.specs.Stripes.{hasher_of, stripes_of};
+//! Calls on a whole map: comparing, cloning. They look at the stripes one after another.
+ghost use Rattle.std.specs.Prelude.{◌≡◌, ◌<◌, IfOk};
+ghost use Rattle.scc_stripes.specs.Stripes.{stripe_count};
+ghost use Rattle.scc_rules.specs.Rules.{ClonesKeep};
+ghost use Rattle.scc_ruled_map.specs.Stripes.{hasher_of};
 
 use super::RuledMap;
 use super::unlocked::Unlocked;
 use scc_common::MakeError;
 use scc_rules::Rule;
-use std::alloc::Global;
 use std::cell::Cell;
 use std::hash::{BuildHasher, Hash};
 use std::sync::Wait;
@@ -97,39 +94,5 @@ impl<K: Eq + Hash + Clone + Drop, V: Clone + Drop, R: Rule<K, V>, H: BuildHasher
             }
         }
         made.lock(self.alloc)
-    }
-}
-
-impl<K: Eq + Hash + Drop, V: Drop, R: Rule<K, V>, H: BuildHasher + Default + Drop> RuledMap<
-    K,
-    V,
-    R,
-    H,
-> {
-    /// Returns a map of `items`, upserted in their order, with a capacity for all of them. Fails if memory is refused;
-    /// then the items are dropped. The iterator must end, and each item must keep the rule.
-    pub fn try_from_iter<I: IntoIterator<Item = (K, V)>>(
-        rt: &impl Wait,
-        alloc: Global,
-        items: I,
-    ) -> Result<Self, MakeError>
-        requires ends { (it : I.IntoIter) → I.into_iter_gives items it
-            → I.IntoIter.can_next it × IsFinite (I.IntoIter.remaining it) }
-        requires kept { (it : I.IntoIter) (xs : List (K × V)) → I.into_iter_gives items it
-            → Drains I.IntoIter.next_gives it xs → AllKeep R.holds xs }
-        ensures stripes { IfOk result (λ m. (it : I.IntoIter) × (xs : List (K × V)) × I.into_iter_gives items it
-            × Drains I.IntoIter.next_gives it xs × IsBitsAsked (length xs) 1024 (stripe_bits (stripes_of m))) }
-        ensures hasher { IfOk result (λ m. H.is_default (hasher_of m)) }
-    {
-        let Ok(pairs) = Vec::from_iter(alloc, items) else {
-            return Err(MakeError);
-        };
-        let made = RuledMap::with_capacity_and_hasher(alloc, pairs.len(), H::default())?;
-        for (k, v) in pairs {
-            if made.upsert_sync(rt, k, v).is_err() {
-                return Err(MakeError);
-            }
-        }
-        Ok(made)
     }
 }

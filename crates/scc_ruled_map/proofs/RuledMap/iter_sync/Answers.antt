@@ -1,4 +1,5 @@
-use Rattle.std.proofs.Common.{[], arith}
+use Rattle.std.proofs.Common.{[], arith, sym, subst}
+use Rattle.scc_rules.specs.Rules.{KeepsAll}
 use Rattle.scc_common.specs.Walks.{ended}
 use Rattle.scc_common.proofs.WalkLemmas.{walk-append}
 use Rattle.scc_rules.proofs.Lists.{all-append}
@@ -11,3 +12,15 @@ loop-stripe-init g c = record { takes = c.requires; seen = ([], tt, ended, walke
 
 pub iter_lent-requires : goal.iter_lent-requires
 iter_lent-requires g c = c.loop-stripe.invariant.takes _ (rw (← c.look-map.ensures.same) at c.look-map.ensures.kept)
+
+pub returns-then-not-iter_lent : goal.returns-then-not-iter_lent
+returns-then-not-iter_lent g c =
+    let s = c.loop-stripe.invariant.seen in
+    let kept = subst (KeepsAll g.R.Rule.holds) (sym c.look-map.ensures.same) c.look-map.ensures.kept in
+    record { calls = (_, _, all-append (λ (p : g.row.K.Denot × g.row.V.Denot). g.R.Rule.holds p.0 p.1) s.0 _ s.1 kept, walk-append s.2 c.if-not-iter_lent.ensures, walked-short g.K.PartialEq.eq (λ p. p.0) _ _ _ (omega arith) (walked-next g.K.PartialEq.eq (λ p. p.0) _ _ _ s.3 c.len.ensures.unique)) }
+
+pub loop-stripe-preserved : goal.loop-stripe-preserved
+loop-stripe-preserved g c =
+    let s = c.loop-stripe.invariant.seen in
+    let kept = subst (KeepsAll g.R.Rule.holds) (sym c.look-map.ensures.same) c.look-map.ensures.kept in
+    record { takes = takes-after g.F.FnMut g.R.Rule.holds kept c.loop-stripe.invariant.takes c.if-not-iter_lent.ensures; seen = (_, all-append (λ (p : g.row.K.Denot × g.row.V.Denot). g.R.Rule.holds p.0 p.1) s.0 _ s.1 kept, walk-append s.2 c.if-not-iter_lent.ensures, walked-next g.K.PartialEq.eq (λ p. p.0) _ _ _ s.3 c.len.ensures.unique) }

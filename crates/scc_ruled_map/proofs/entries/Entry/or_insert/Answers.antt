@@ -6,6 +6,6 @@ returns g c =
     let done = c.or_insert_with_key.ensures in
     record {
       entry = inserts-this c.args.self c.or_insert_with_key.result done.entry (λ k v put. put.1);
-      refused = refuses-this c.args.self c.or_insert_with_key.result done.refused (λ k v put. put.1);
+      refused = refuses-this c.args.self c.or_insert_with_key.result done.refused (λ v put. put.1);
       vacant = done.vacant;
     }

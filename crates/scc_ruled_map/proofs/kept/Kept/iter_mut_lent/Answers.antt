@@ -15,4 +15,4 @@ returns-clause-calls g c =
     let x = c.iter_mut_lent.ensures.step in
     let before = kept-permuted g.R.Rule.holds c.self.inside.map x.0 x.3 c.self.invariant in
     let after = taken-keep g.R.Rule.holds g.F.FnMut c.requires.keeps x.4 before in
-    (x.0, x.1, x.2, x.3, x.4, x.5, before, after.0, after.1)
+    rw (← c.self.view_is) (x.0, x.1, x.2, x.3, x.4, x.5, before, after.0, after.1)

@@ -14,4 +14,4 @@ pub returns-clause-calls : goal.returns-clause-calls
 returns-clause-calls g c =
     let x = c.retain_lent.ensures.step in
     let before = kept-permuted g.R.Rule.holds c.self.inside.map x.0 x.2 c.self.invariant in
-    (x.0, x.1, x.2, x.3, before, retained-keep g.R.Rule.holds g.F.FnMut c.requires.keeps x.3 before)
+    rw (← c.self.view_is) (x.0, x.1, x.2, x.3, before, retained-keep g.R.Rule.holds g.F.FnMut c.requires.keeps x.3 before)
