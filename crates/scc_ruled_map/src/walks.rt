@@ -2,12 +2,12 @@
 ghost use Rattle.scc_ruled_map.specs.Stripes.{stripes_of};
 ghost use Rattle.scc_stripes.specs.Stripes.{stripe_count};
 ghost use Rattle.scc_stripes.specs.Walks.{AreOfStripes};
-ghost use Rattle.std.specs.Prelude.{◌≡◌, ◌≤◌, ◌++◌, List, length, true, ⊤, OnErr};
+ghost use Rattle.std.specs.Prelude.{◌≡◌, ◌≤◌, ◌++◌, List, length, true, OnErr};
 ghost use Rattle.std.specs.Vec.{vec_len, vec_capacity};
 ghost use Rattle.scc_common.specs.Walks.{CalledOn, Walks};
-ghost use Rattle.scc_common.specs.PairWalks.{CalledToWrite, GoesOn, Retains, Takes};
+ghost use Rattle.scc_common.specs.PairWalks.{CalledToWrite, Retains, Takes};
 ghost use Rattle.scc_rules.specs.Rules.{AllKeep};
-ghost use Rattle.scc_rules.specs.Walks.{KeepsEach, KeepsEachAlways, TakesKept, TakesKeptToWrite};
+ghost use Rattle.scc_rules.specs.Walks.{KeepsEach, KeepsEachAlways, TakesEach, TakesEachToWrite};
 
 use super::RuledMap;
 use scc_common::{Verdict, WalkError};
@@ -20,7 +20,7 @@ impl<K: Eq + Hash, V, R: Rule<K, V>, H: BuildHasher> RuledMap<K, V, R, H> {
     /// Calls `f` on the pairs, stripe after stripe, until `f` returns false. Returns false if `f` did, else true. One
     /// stripe is locked at a time, for reading.
     pub fn iter_sync<F: FnMut(&K, &V) -> bool>(&self, rt: &impl Wait, mut f: F) -> bool
-        requires { TakesKept R.holds F.FnMut true f }
+        requires { TakesEach R.holds F.FnMut }
         ensures calls { (es : List (K × V)) × (last : F) × AllKeep R.holds es
             × Walks (CalledOn F.FnMut) f es result last
             × AreOfStripes K.eq (λ p. p.0) (stripe_count (stripes_of self.now)) es }
@@ -42,7 +42,7 @@ impl<K: Eq + Hash, V, R: Rule<K, V>, H: BuildHasher> RuledMap<K, V, R, H> {
     where
         K: Drop,
         V: Drop,
-        requires callable { TakesKeptToWrite R.holds F.FnMut (λ answer. ⊤) f }
+        requires callable { TakesEachToWrite R.holds F.FnMut }
         requires keeps { KeepsEach R.holds F.FnMut true }
         ensures calls { (es : List (K × V)) × (stay : List (K × V)) × (last : F) × AllKeep R.holds es
             × AllKeep R.holds stay × Retains (CalledToWrite F.FnMut) f es stay last
@@ -66,7 +66,7 @@ impl<K: Eq + Hash, V, R: Rule<K, V>, H: BuildHasher> RuledMap<K, V, R, H> {
         f: F,
         taken: &mut Vec<(K, V)>,
     ) -> Result<bool, WalkError>
-        requires callable { TakesKeptToWrite R.holds F.FnMut GoesOn f }
+        requires callable { TakesEachToWrite R.holds F.FnMut }
         requires keeps { KeepsEachAlways R.holds F.FnMut }
         ensures calls { (es : List (K × V)) × (stay : List (K × V)) × (more : List (K × V)) × (last : F)
             × AllKeep R.holds es × AllKeep R.holds stay × AllKeep R.holds more
@@ -85,7 +85,7 @@ impl<K: Eq + Hash, V, R: Rule<K, V>, H: BuildHasher> RuledMap<K, V, R, H> {
         mut f: F,
         taken: &mut L,
     ) -> Result<bool, WalkError>
-        requires callable { TakesKeptToWrite R.holds F.FnMut GoesOn f }
+        requires callable { TakesEachToWrite R.holds F.FnMut }
         requires keeps { KeepsEachAlways R.holds F.FnMut }
         ensures calls { (es : List (K × V)) × (stay : List (K × V)) × (more : List (K × V)) × (last : F)
             × AllKeep R.holds es × AllKeep R.holds stay × AllKeep R.holds more

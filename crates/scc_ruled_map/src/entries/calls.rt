@@ -4,7 +4,7 @@ ghost use Rattle.scc_common.specs.Walks.{CalledOn};
 ghost use Rattle.scc_ruled_map.specs.Entries.{entry_seat, occupied_pair, occupied_seat, replaced_seat, IsEntryOf, Replaces};
 ghost use Rattle.scc_ruled_map.specs.Stripes.{stripes_of};
 ghost use Rattle.scc_rules.specs.Rules.{AllKeep, IsKept, IsKeptAt};
-ghost use Rattle.scc_rules.specs.Walks.{TakesKept};
+ghost use Rattle.scc_rules.specs.Walks.{TakesEach};
 ghost use Rattle.scc_stripes.specs.Seats.{IsSeatIn, IsSeatOfKey, seat_stripe};
 ghost use Rattle.std.specs.Prelude.{List, true, false, IfSome};
 
@@ -72,7 +72,7 @@ impl<K: Eq + Hash, V, R: Rule<K, V>, H: BuildHasher> RuledMap<K, V, R, H> {
         rt: &impl Wait,
         mut p: P,
     ) -> Option<OccupiedEntry<'_, K, V, R, H>>
-        requires { TakesKept R.holds P.FnMut false p }
+        requires { TakesEach R.holds P.FnMut }
         ensures kept { IfSome result (λ o. IsKept R.holds (occupied_pair o)) }
         ensures first { IfSome result (λ o. (es : List (K × V)) × (q : P) × (last : P) × AllKeep R.holds es
             × Declines (CalledOn P.FnMut) p es q × CalledOn P.FnMut q (occupied_pair o) true last) }

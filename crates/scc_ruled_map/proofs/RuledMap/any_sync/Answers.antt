@@ -1,12 +1,12 @@
 use Rattle.std.proofs.Common.{[]}
 use Rattle.scc_common.specs.PairWalks.{ended}
 use Rattle.scc_rules.proofs.Lists.{all-append}
-use Rattle.scc_rules.proofs.Walks.{takes-past}
+use Rattle.scc_rules.proofs.Walks.{callable-kept, takes-past}
 use Rattle.scc_table.proofs.Joined.{declines-join}
 use Rattle.scc_ruled_map.proofs.RuledMap.any_sync.Goals as goal
 
 pub loop-stripe-init : goal.loop-stripe-init
-loop-stripe-init g c = record { takes = c.requires; seen = ([], tt, ended) }
+loop-stripe-init g c = record { takes = callable-kept g.R.Rule.holds g.P.FnMut _ c.requires _; seen = ([], tt, ended) }
 
 pub loop-stripe-preserved : goal.loop-stripe-preserved
 loop-stripe-preserved g c =

@@ -1,13 +1,13 @@
 use Rattle.std.proofs.Common.{arith, rules, [], ◌++◌, ◌∙◌, ap, sym, append-nil, append_assoc}
 use Rattle.scc_common.specs.PairWalks.{ended}
 use Rattle.scc_rules.proofs.Lists.{all-append}
-use Rattle.scc_rules.proofs.Walks.{takes-taken}
+use Rattle.scc_rules.proofs.Walks.{callable-kept_to_write, takes-taken}
 use Rattle.scc_stripes.proofs.Walks.{walked-none, walked-permuted, walked-short}
 use Rattle.scc_table.proofs.Joined.{takes-join}
 use Rattle.scc_ruled_map.proofs.RuledMap.iter_mut_into.Goals as goal
 
 pub loop-stripe-init : goal.loop-stripe-init
-loop-stripe-init g c = record { takes = c.requires.callable; seen = ([], [], [], tt, tt, tt, ended, sym (append-nil _), walked-none g.K.PartialEq.eq (λ p. p.0)); room = search rules }
+loop-stripe-init g c = record { takes = callable-kept_to_write g.R.Rule.holds g.F.FnMut _ c.requires.callable _; seen = ([], [], [], tt, tt, tt, ended, sym (append-nil _), walked-none g.K.PartialEq.eq (λ p. p.0)); room = search rules }
 
 pub returns-in-Ok-false-clause-calls : goal.returns-in-Ok-false-clause-calls
 returns-in-Ok-false-clause-calls g c =

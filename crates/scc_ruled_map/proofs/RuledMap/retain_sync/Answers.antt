@@ -1,13 +1,13 @@
 use Rattle.std.proofs.Common.{[]}
 use Rattle.scc_common.specs.PairWalks.{ended}
 use Rattle.scc_rules.proofs.Lists.{all-append}
-use Rattle.scc_rules.proofs.Walks.{takes-retained}
+use Rattle.scc_rules.proofs.Walks.{callable-kept_to_write, takes-retained}
 use Rattle.scc_stripes.proofs.Walks.{walked-none, walked-permuted}
 use Rattle.scc_table.proofs.Joined.{retains-join}
 use Rattle.scc_ruled_map.proofs.RuledMap.retain_sync.Goals as goal
 
 pub loop-stripe-init : goal.loop-stripe-init
-loop-stripe-init g c = record { takes = c.requires.callable; seen = ([], [], tt, tt, ended, walked-none g.K.PartialEq.eq (λ p. p.0)) }
+loop-stripe-init g c = record { takes = callable-kept_to_write g.R.Rule.holds g.F.FnMut _ c.requires.callable _; seen = ([], [], tt, tt, ended, walked-none g.K.PartialEq.eq (λ p. p.0)) }
 
 pub loop-stripe-preserved : goal.loop-stripe-preserved
 loop-stripe-preserved g c =
