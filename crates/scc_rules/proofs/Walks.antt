@@ -1,5 +1,5 @@
 -- A walk over pairs that keep a rule, by a closure that takes and keeps them.
-use Rattle.std.proofs.Common.{Bool, true, false, List, [], ◌∷◌, ◌++◌, Result, Ok}
+use Rattle.std.proofs.Common.{Bool, true, false, List, [], ◌∷◌, ◌++◌, Result, Ok, sym, subst}
 use Rattle.std.specs.Prelude.{⊤}
 use Rattle.std.specs.Borrow.{Bor, MutBor}
 use Rattle.std.specs.Fn.{Mut}
@@ -11,8 +11,8 @@ use Rattle.scc_common.specs.declared.errors.WalkError.{WalkError}
 use Rattle.scc_common.specs.declared.verdict.Verdict.{Verdict}
 use Rattle.scc_common.specs.declared.verdict.Verdict.TheVariants.{Keep, Take}
 use Rattle.scc_rules.specs.Rules.{AllKeep}
-use Rattle.scc_rules.specs.Walks.{KeepsEach, KeepsEachAlways, TakesKept, TakesKeptToWrite}
-use Rattle.scc_rules.proofs.Lists.{all-append}
+use Rattle.scc_rules.specs.Walks.{KeepsEach, KeepsEachAlways, TakesEach, TakesEachToWrite, TakesKept, TakesKeptToWrite}
+use Rattle.scc_rules.proofs.Lists.{all-append, all-middle}
 
 module _ {F K V : Type 0} (g : Mut F (Bor K × (Bor V × Unit {0})) Bool) where
   -- after a walk that found none of es, the closure may be called on the pairs that come next
@@ -61,3 +61,19 @@ module _ {F K V : Type 0} (holds : K → V → Type 0) where
     taken-keep keeps (pairs.took {f = f} {f' = f'} {p = p} {w = w} t rest) h = let r = taken-keep keeps rest h.1 in (r.0, (keeps f f' p _ w h.0 t, r.1))
     taken-keep keeps (pairs.kept_last {f = f} {f' = f'} {p = p} {w = w} t) h = ((keeps f f' p _ w h.0 t, h.1), tt)
     taken-keep keeps (pairs.took_last {f = f} {f' = f'} {p = p} {w = w} t) h = (h.1, (keeps f f' p _ w h.0 t, tt))
+
+-- a closure that takes each pair that keeps the rule may be called on such pairs in turn
+module _ {F K V : Type 0} (holds : K → V → Type 0) where
+  pub callable-kept : (g : Mut F (Bor K × (Bor V × Unit {0})) Bool) (on : Bool) → TakesEach holds g → (f : F) → TakesKept holds g on f
+  callable-kept g on takes f es h = record {
+    at = λ before after p f' e folds key value shows.
+        let own : holds p.0 p.1 = all-middle (λ (p : K × V). holds p.0 p.1) before after p (subst (AllKeep holds) e h) in
+        takes f' key value (subst (λ (p : K × V). holds p.0 p.1) (sym shows) own);
+  }
+
+  pub callable-kept_to_write : {A : Type 0} (g : Mut F (Bor K × (MutBor V × Unit {0})) (A × (MutBor V × Unit {0}))) (On : A → Type 0) → TakesEachToWrite holds g → (f : F) → TakesKeptToWrite holds g On f
+  callable-kept_to_write g On takes f es h = record {
+    at = λ before after p f' e folds key value shows.
+        let own : holds p.0 p.1 = all-middle (λ (p : K × V). holds p.0 p.1) before after p (subst (AllKeep holds) e h) in
+        takes f' key value (subst (λ (p : K × V). holds p.0 p.1) (sym shows) own);
+  }

@@ -11,7 +11,15 @@ module _ {F K V A : Type 0} (holds : K → V → Type 0) where
   abbrev pub TakesKept : Mut F (Bor K × (Bor V × Unit {0})) A → A → F → Type 0
   TakesKept g on f = (es : List (K × V)) → AllKeep holds es → CallableWhile g on f es
 
+  -- f, whatever calls did to it, may be called on each pair that keeps the rule
+  abbrev pub TakesEach : Mut F (Bor K × (Bor V × Unit {0})) A → Type 0
+  TakesEach g = (s : F) (a : Bor K) (b : Bor V) → holds a.now b.now → g.pre s (a, (b, tt))
+
   module _ (g : Mut F (Bor K × (MutBor V × Unit {0})) (A × (MutBor V × Unit {0}))) where
+    -- f, whatever calls did to it, may be called on each pair that keeps the rule, with its value to write to
+    abbrev pub TakesEachToWrite : Type 0
+    TakesEachToWrite = (s : F) (a : Bor K) (b : MutBor V) → holds a.now b.now → g.pre s (a, (b, tt))
+
     -- f may be called in turn on any pairs that keep the rule, each with its value to write to, as long as On holds of
     -- each result
     abbrev pub TakesKeptToWrite : (A → Type 0) → F → Type 0

@@ -1,0 +1,3 @@
+mod AtEntries
+mod KeptPairs
+mod KeptPlaces

@@ -1,0 +1,13 @@
+use Rattle.std.proofs.Common.{◌≡◌, ◌≤◌, ◌++◌, List, Ok, true}
+use Rattle.scc_common.specs.PairWalks.{CalledToWrite, GoesOn, Takes}
+use Rattle.scc_rules.specs.Rules.{AllKeep}
+use Rattle.scc_rules.specs.Walks.{TakesKeptToWrite}
+use Rattle.scc_stripes.specs.Walks.{AreOfStripes}
+use Rattle.scc_ruled_map.proofs.RuledMap.iter_mut_into.Given as goal
+
+abbrev pub invariant-loop-stripe : goal.invariant-loop-stripe
+invariant-loop-stripe g l = record {
+  takes : TakesKeptToWrite g.R.Rule.holds g.F.FnMut GoesOn l.f;
+  seen : (es : List (g.row.K.Denot × g.row.V.Denot)) × (stay : List (g.row.K.Denot × g.row.V.Denot)) × (more : List (g.row.K.Denot × g.row.V.Denot)) × AllKeep g.R.Rule.holds es × AllKeep g.R.Rule.holds stay × AllKeep g.R.Rule.holds more × Takes (CalledToWrite g.F.FnMut) l.fn.f es stay more (Ok true) l.f × (g.L.Sink.pairs l.taken ≡ g.L.Sink.pairs l.fn.taken ++ more) × AreOfStripes g.K.PartialEq.eq (λ p. p.0) l.stripe es;
+  room : g.L.Sink.capacity l.fn.taken ≤ g.L.Sink.capacity l.taken;
+}

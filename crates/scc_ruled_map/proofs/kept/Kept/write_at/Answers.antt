@@ -1,0 +1,21 @@
+use Rattle.std.proofs.Common.{◌≡◌, Some, sym, subst}
+use Rattle.std.specs.List.{slice_get}
+use Rattle.scc_common.specs.Contents.{entries}
+use Rattle.scc_common.specs.Pairs.{with_pair_value}
+use Rattle.scc_table.specs.Placed.{entry_of}
+use Rattle.scc_table.specs.Places.{IsPlace, index_of}
+use Rattle.scc_table.proofs.AtPlaces.{entry_of-get}
+use Rattle.scc_ruled_map.proofs.KeptPlaces.{kept-got, kept-written}
+use Rattle.scc_ruled_map.proofs.kept.Kept.write_at.Goals as goal
+
+pub invariant_of-self : goal.invariant_of-self
+invariant_of-self g c =
+    let m = c.self.inside.map in
+    let within : IsPlace m c.args.place = subst (λ n. IsPlace n c.args.place) (sym c.self.view_is) c.requires.within in
+    let kept : (p : g.row.K.Denot × g.row.V.Denot) → slice_get (entries m) (index_of m c.args.place) ≡ Some p → g.R.Rule.holds p.0 c.args.value = subst (λ n. (p : g.row.K.Denot × g.row.V.Denot) → slice_get (entries n) (index_of n c.args.place) ≡ Some p → g.R.Rule.holds p.0 c.args.value) (sym c.self.view_is) c.requires.kept in
+    kept-written g.R.Rule.holds m c.args.place c.write_at.new.self with_pair_value within c.args.value c.write_at.ensures.new (kept (entry_of m c.args.place within) (entry_of-get m c.args.place within)) c.self.invariant
+
+pub returns-clause-old : goal.returns-clause-old
+returns-clause-old g c =
+    let v = c.write_at.ensures.old in
+    rw (← c.self.view_is) (v.0, v.1, v.2, kept-got g.R.Rule.holds c.self.inside.map c.args.place v.0 v.1 c.self.invariant)

@@ -1,0 +1,125 @@
+-- The words of the contracts of entries of a locked stripe.
+pub use Rattle.scc_ruled_map.specs.declared.entries.Entry.TheVariants.{Occupied, Vacant}
+pub use Rattle.scc_ruled_map.specs.declared.entries.ReplaceResult.TheVariants.{Replaced, NotReplaced}
+use Rattle.std.specs.Prelude.{◌≡◌, Bool, true, List, Result, IfOk, IfErr, ⊤}
+use Rattle.std.specs.Borrow.{MutBor}
+use Rattle.std.specs.Fn.{Once, FnOnceTakesAtMut, FnOnceReturnsAtMut}
+use Rattle.std.specs.Result.{OnErr}
+use Rattle.std.specs.Sync.RwLock.{write_guard_value}
+use Rattle.std.specs.declared.cmp.PartialEq as eq
+use Rattle.std.specs.declared.hash.Hash as hash
+use Rattle.std.specs.declared.hash.Hasher as hasher
+use Rattle.std.specs.declared.hash.BuildHasher as builder
+use Rattle.scc_common.specs.Contents.{Contents}
+use Rattle.scc_common.specs.declared.errors.InsertError.{InsertError}
+use Rattle.scc_common.specs.declared.errors.InsertError.TheVariants.{Memory}
+use Rattle.scc_rules.specs.Rules.{IsKeptAt}
+use Rattle.scc_rules.specs.declared.Rule as rule
+use Rattle.scc_stripes.specs.declared.seats.Seat.{Seat}
+use Rattle.scc_table.specs.Placed.{entry_of, front_of}
+use Rattle.scc_ruled_map.specs.declared.entries.OccupiedEntry.{OccupiedEntry}
+use Rattle.scc_ruled_map.specs.declared.entries.VacantEntry.{VacantEntry}
+use Rattle.scc_ruled_map.specs.declared.entries.Entry.{Entry}
+use Rattle.scc_ruled_map.specs.declared.entries.ReplaceResult.{ReplaceResult}
+
+module _ {K V R H T : Type 0} {g : eq.Ghosts K} {h : hash.Ghosts K} {r : rule.Ghosts R K V} {b : builder.Ghosts H T} {w : hasher.Ghosts T} where
+  -- the pair of an occupied entry
+  abbrev pub occupied_pair : OccupiedEntry K V R H T g h r b w → K × V
+  occupied_pair o = entry_of (write_guard_value o.guard) o.place o.within
+
+  -- the pairs before an occupied entry in the list of its stripe
+  abbrev pub occupied_front : OccupiedEntry K V R H T g h r b w → List (K × V)
+  occupied_front o = front_of (write_guard_value o.guard) o.place
+
+  -- the seat of an occupied entry
+  abbrev pub occupied_seat : OccupiedEntry K V R H T g h r b w → Seat (Contents (K × V) H) H
+  occupied_seat o = o.seat
+
+  -- the key of a vacant entry
+  abbrev pub vacant_key : VacantEntry K V R H T g h r b w → K
+  vacant_key e = e.key
+
+  -- the seat of a vacant entry
+  abbrev pub vacant_seat : VacantEntry K V R H T g h r b w → Seat (Contents (K × V) H) H
+  vacant_seat e = e.seat
+
+  -- the seat of an entry
+  abbrev pub entry_seat : Entry K V R H T g h r b w → Seat (Contents (K × V) H) H
+  entry_seat (Occupied o) = o.seat
+  entry_seat (Vacant e) = e.seat
+
+  -- the seat of the result of a replacement
+  abbrev pub replaced_seat : ReplaceResult K V R H T g h r b w → Seat (Contents (K × V) H) H
+  replaced_seat (Replaced o k) = o.seat
+  replaced_seat (NotReplaced e) = e.seat
+
+  -- the stored key of an occupied entry, or the key of a vacant entry
+  abbrev pub entry_key : Entry K V R H T g h r b w → K
+  entry_key (Occupied o) = (occupied_pair o).0
+  entry_key (Vacant e) = e.key
+
+  -- the stripe lacks the key of the entry
+  abbrev pub IsVacant : Entry K V R H T g h r b w → Type 0
+  IsVacant (Occupied o) = ⊥
+  IsVacant (Vacant e) = ⊤
+
+  module _ (same : K → K → Bool) (holds : K → V → Type 0) (k : K) where
+    -- the entry is the entry of k: occupied by a pair whose key equals k and which keeps the rule, or vacant with k
+    abbrev pub IsEntryOf : Entry K V R H T g h r b w → Type 0
+    IsEntryOf (Occupied o) = IsKeptAt same holds k (occupied_pair o)
+    IsEntryOf (Vacant e) = e.key ≡ k
+
+    -- k is put in the place of an equal key, and keeps the rule with the value; or the entry is vacant with k
+    abbrev pub Replaces : ReplaceResult K V R H T g h r b w → Type 0
+    Replaces (Replaced o old) = (same k old ≡ true) × ((occupied_pair o).0 ≡ k) × holds k (occupied_pair o).1 × holds old (occupied_pair o).1
+    Replaces (NotReplaced e) = e.key ≡ k
+
+  -- o is the entry; if the entry was vacant, a value for which P holds was inserted
+  abbrev pub OrInsertsSome : Entry K V R H T g h r b w → (K → V → Type 0) → OccupiedEntry K V R H T g h r b w → Type 0
+  OrInsertsSome (Occupied p) P o = o ≡ p
+  OrInsertsSome (Vacant e) P o = (v : V) × P e.key v × (occupied_pair o ≡ (e.key, v)) × (o.seat ≡ e.seat)
+
+  -- o is the entry; if the entry was vacant, v was inserted
+  abbrev pub OrInserts : Entry K V R H T g h r b w → V → OccupiedEntry K V R H T g h r b w → Type 0
+  OrInserts (Occupied p) v o = o ≡ p
+  OrInserts (Vacant e) v o = (occupied_pair o ≡ (e.key, v)) × (o.seat ≡ e.seat)
+
+  -- o has the key of the entry with v as its value
+  abbrev pub SetsEntry : Entry K V R H T g h r b w → V → OccupiedEntry K V R H T g h r b w → Type 0
+  SetsEntry e v o = (occupied_pair o ≡ (entry_key e, v)) × (o.seat ≡ entry_seat e)
+
+  -- memory was refused: the key comes back with v
+  abbrev pub Refuses : Entry K V R H T g h r b w → V → InsertError K V → Type 0
+  Refuses e v y = y ≡ Memory (entry_key e, v)
+
+  -- memory was refused: the key comes back with a value for which P holds
+  abbrev pub RefusesSome : Entry K V R H T g h r b w → (K → V → Type 0) → InsertError K V → Type 0
+  RefusesSome e P y = (v : V) × P (entry_key e) v × (y ≡ Memory (entry_key e, v))
+
+  -- the contract of an insertion through the entry e, which returns `result`: P holds of the returned entry, Q of the
+  -- error
+  pub record InsertsThrough (e : Entry K V R H T g h r b w) (P : OccupiedEntry K V R H T g h r b w → Type 0) (Q : InsertError K V → Type 0) (result : Result (OccupiedEntry K V R H T g h r b w) (InsertError K V)) : Type 0 where
+    -- if it succeeds, P holds of the returned entry
+    pub entry : IfOk result P
+    -- if memory is refused, the key comes back with the value
+    pub refused : IfErr result Q
+    -- only a vacant entry is refused memory
+    pub vacant : OnErr result (IsVacant e)
+
+  module _ {F : Type 0} (holds : K → V → Type 0) (f : Once F (MutBor V × Unit {0}) (Unit {0} × (MutBor V × Unit {0}))) (x : F) where
+    -- f may be called on the value, which keeps the rule
+    abbrev pub TakesEntry : Entry K V R H T g h r b w → Type 0
+    TakesEntry (Occupied o) = holds (occupied_pair o).0 (occupied_pair o).1 → FnOnceTakesAtMut f x (occupied_pair o).1
+    TakesEntry (Vacant e) = ⊤
+
+    -- what f leaves keeps the rule
+    abbrev pub KeepsEntry : Entry K V R H T g h r b w → Type 0
+    KeepsEntry (Occupied o) = (v : V) → holds (occupied_pair o).0 (occupied_pair o).1 → FnOnceReturnsAtMut f x (occupied_pair o).1 tt v → holds (occupied_pair o).0 v
+    KeepsEntry (Vacant e) = ⊤
+
+  module _ {F : Type 0} (f : Once F (MutBor V × Unit {0}) (Unit {0} × (MutBor V × Unit {0}))) (x : F) where
+    -- the entry after f was called on its value
+    abbrev pub Modifies : Entry K V R H T g h r b w → Entry K V R H T g h r b w → Type 0
+    Modifies (Occupied o) (Occupied p) = (v : V) × FnOnceReturnsAtMut f x (occupied_pair o).1 tt v × (occupied_pair p ≡ ((occupied_pair o).0, v)) × (p.seat ≡ o.seat)
+    Modifies (Vacant e) (Vacant p) = p ≡ e
+    Modifies e p = ⊥

@@ -1,0 +1,122 @@
+//! How an entry is made from the guard of its stripe.
+ghost use Rattle.scc_common.specs.Contents.{entries};
+ghost use Rattle.scc_common.specs.PairWalks.{Declines, PassesAt};
+ghost use Rattle.scc_common.specs.Walks.{CalledOn};
+ghost use Rattle.scc_ruled_map.specs.Entries.{entry_seat, occupied_front, occupied_pair, occupied_seat, replaced_seat, IsEntryOf, Replaces};
+ghost use Rattle.scc_rules.specs.Rules.{AllKeep, IsKept, IsKeptAt};
+ghost use Rattle.scc_rules.specs.Walks.{TakesKept};
+ghost use Rattle.std.specs.Prelude.{◌≡◌, List, false, IfErr, IfOk, IfSome};
+
+use super::{Entry, OccupiedEntry, ReplaceResult, VacantEntry};
+use crate::Kept;
+use scc_rules::Rule;
+use scc_stripes::Seat;
+use std::hash::{BuildHasher, Hash};
+use std::sync::RwLockWriteGuard;
+
+impl<'a, K: Eq + Hash, V, R: Rule<K, V>, H: BuildHasher> Entry<'a, K, V, R, H> {
+    /// Returns the entry of `k` in the map of `guard`: occupied at the stored pair, or vacant with `k`.
+    pub(crate) fn of(
+        guard: RwLockWriteGuard<'a, Kept<K, V, R, H>>,
+        k: K,
+        seat: Seat<'a, Kept<K, V, R, H>, H>,
+    ) -> Self
+    where
+        K: Drop,
+        ensures entry { IsEntryOf K.eq R.holds k result }
+        ensures seat { entry_seat result ≡ seat.entry }
+    {
+        let hash = guard.look().hash_of(&k);
+        match guard.look().place_of(hash, &k) {
+            Some(place) => Entry::Occupied(OccupiedEntry { guard, place, seat }),
+            None => Entry::Vacant(VacantEntry {
+                guard,
+                key: k,
+                hash,
+                seat,
+            }),
+        }
+    }
+}
+
+impl<'a, K: Eq + Hash, V, R: Rule<K, V>, H: BuildHasher> OccupiedEntry<'a, K, V, R, H> {
+    /// Returns the occupied entry of `k` in the map of `guard`, or `None` if no key equals `k`.
+    pub(crate) fn of(
+        guard: RwLockWriteGuard<'a, Kept<K, V, R, H>>,
+        k: &K,
+        seat: Seat<'a, Kept<K, V, R, H>, H>,
+    ) -> Option<Self>
+        ensures entry { IfSome result (λ o. IsKeptAt K.eq R.holds k.now (occupied_pair o)) }
+        ensures seat { IfSome result (λ o. occupied_seat o ≡ seat.entry) }
+    {
+        let hash = guard.look().hash_of(k);
+        match guard.look().place_of(hash, k) {
+            Some(place) => Some(OccupiedEntry { guard, place, seat }),
+            None => None,
+        }
+    }
+
+    /// Returns the first entry of the map of `guard`. If the map is empty, drops the guard and returns the seat.
+    pub(crate) fn first(
+        guard: RwLockWriteGuard<'a, Kept<K, V, R, H>>,
+        seat: Seat<'a, Kept<K, V, R, H>, H>,
+    ) -> Result<Self, Seat<'a, Kept<K, V, R, H>, H>>
+        ensures kept { IfOk result (λ o. IsKept R.holds (occupied_pair o)) }
+        ensures seat { IfOk result (λ o. occupied_seat o ≡ seat.entry) }
+        ensures empty { IfErr result (λ s. s ≡ seat.entry) }
+    {
+        match guard.look().first_place() {
+            Some(place) => Ok(OccupiedEntry { guard, place, seat }),
+            None => Err(seat),
+        }
+    }
+
+    /// Returns the first entry of the map of `guard` on whose pair `p` returns true. If there is none, drops the guard
+    /// and returns the seat.
+    pub(crate) fn passing<P: FnMut(&K, &V) -> bool>(
+        guard: RwLockWriteGuard<'a, Kept<K, V, R, H>>,
+        p: &mut P,
+        seat: Seat<'a, Kept<K, V, R, H>, H>,
+    ) -> Result<Self, Seat<'a, Kept<K, V, R, H>, H>>
+        requires { TakesKept R.holds P.FnMut false p.old }
+        ensures kept { IfOk result (λ o. IsKept R.holds (occupied_pair o)) }
+        ensures seat { IfOk result (λ o. occupied_seat o ≡ seat.entry) }
+        ensures first { IfOk result (λ o. PassesAt (CalledOn P.FnMut) p.old (occupied_front o) (occupied_pair o)
+            × AllKeep R.holds (occupied_front o)) }
+        ensures none { IfErr result (λ s. (es : List (K × V)) × AllKeep R.holds es
+            × Declines (CalledOn P.FnMut) p.old es p.new) }
+    {
+        match guard.look().first_passing(p) {
+            Some(place) => Ok(OccupiedEntry { guard, place, seat }),
+            None => Err(seat),
+        }
+    }
+}
+
+impl<'a, K: Eq + Hash, V, R: Rule<K, V>, H: BuildHasher> ReplaceResult<'a, K, V, R, H> {
+    /// Puts `k` in the place of the key that equals it, and returns the entry with the old key. If no key equals `k`,
+    /// returns the vacant entry of `k`.
+    pub(crate) fn of(
+        guard: RwLockWriteGuard<'a, Kept<K, V, R, H>>,
+        k: K,
+        seat: Seat<'a, Kept<K, V, R, H>, H>,
+    ) -> Self
+        ensures step { Replaces K.eq R.holds k result }
+        ensures seat { replaced_seat result ≡ seat.entry }
+    {
+        let mut guard = guard;
+        let hash = guard.look().hash_of(&k);
+        match guard.look().place_of(hash, &k) {
+            Some(place) => {
+                let old = guard.replace_key_at(place, k);
+                ReplaceResult::Replaced(OccupiedEntry { guard, place, seat }, old)
+            }
+            None => ReplaceResult::NotReplaced(VacantEntry {
+                guard,
+                key: k,
+                hash,
+                seat,
+            }),
+        }
+    }
+}
