@@ -26,6 +26,7 @@ pub mod recent_counts;
 pub mod request_cache;
 pub mod requests;
 pub mod routing;
+pub mod ruled;
 pub mod session_store;
 pub mod sessions;
 pub mod shared_interner;
