@@ -50,19 +50,16 @@ pub enum What {
 }
 
 /// The calls that remove at most one pair.
-pub const GENTLE: [What; 40] = [
+pub const GENTLE: [What; 37] = [
     What::Add(Way::Insert),
     What::Add(Way::Upsert),
     What::Add(Way::Replace),
     What::Add(Way::OrInsert),
     What::Add(Way::OrInsertWith),
     What::Add(Way::OrInsertWithKey),
-    What::Add(Way::OrTryInsertWith),
-    What::Add(Way::OrTryInsertWithKey),
     What::Add(Way::OrDefault),
     What::Add(Way::InsertEntry),
     What::Add(Way::Vacant),
-    What::Add(Way::OrFail),
     What::Replace,
     What::Update,
     What::Modify,
@@ -111,9 +108,9 @@ pub const LOOKS: [What; 8] = [
 /// The number of slots that a test reserves.
 pub const SLOTS: usize = 300;
 
-/// Returns the way to add with the number `number` modulo 11.
+/// Returns one of the first nine ways to add, by `number` modulo 9.
 pub fn way_of(number: u64) -> Way {
-    match usize::try_from(number % 11) {
+    match usize::try_from(number % 9) {
         Ok(place) => match WAYS.get(place) {
             Some(way) => *way,
             None => Way::Insert,

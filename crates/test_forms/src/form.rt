@@ -43,11 +43,11 @@ pub const WAYS: [Way; 11] = [
     Way::OrInsert,
     Way::OrInsertWith,
     Way::OrInsertWithKey,
-    Way::OrTryInsertWith,
-    Way::OrTryInsertWithKey,
     Way::OrDefault,
     Way::InsertEntry,
     Way::Vacant,
+    Way::OrTryInsertWith,
+    Way::OrTryInsertWithKey,
 ];
 
 impl Way {

@@ -97,7 +97,7 @@ impl Draws {
         let choice = next(&mut self.seed) % 4;
         let is_turn = self.is_turn();
         let is_new = if is_turn {
-            self.made / 2 / 40 % 2 > 0
+            self.made / 2 / 37 % 2 > 0
         } else if fills {
             choice > 0
         } else {
