@@ -15,6 +15,9 @@ use std::thread::{Threads, join};
 
 type Numbers = RuledMap<u64, u64, Anything>;
 
+/// More steps than a map of these tests has pairs.
+const STEPS: u64 = 1000;
+
 /// A call, with the answer that it has to give.
 enum Call {
     Insert(u64, u64, bool),
@@ -113,7 +116,10 @@ fn stepped<R: Wait>(rt: &R, map: &Numbers) -> (usize, u64) {
     let mut count = 0usize;
     let mut sum = 0u64;
     let mut at = map.begin_sync(rt);
-    while let Some(entry) = at {
+    for _ in 0..STEPS {
+        let Some(entry) = at else {
+            break;
+        };
         count = count.saturating_add(1);
         sum = sum.wrapping_add(*entry.get());
         at = entry.next_sync(rt);
@@ -144,10 +150,12 @@ fn steps_of_a_ruled_map_meet_each_pair(rt: HostRuntime) -> Result<(), Fail> {
 fn removed<R: Wait>(rt: &R, map: &Numbers) -> usize {
     let mut count = 0usize;
     let mut at = map.any_sync(rt, |_, _| true);
-    while let Some(entry) = at {
-        let (_, next) = entry.remove_and_sync(rt);
+    for _ in 0..STEPS {
+        let Some(entry) = at else {
+            break;
+        };
         count = count.saturating_add(1);
-        at = next;
+        at = entry.remove_and_sync(rt).1;
     }
     count
 }
