@@ -32,9 +32,6 @@ fn make_call<P: Printed, L: Ledger, M: Site<P::Hasher>, R: Wait>(
         pass.old.log.receipts.items pass.new.log.receipts.items }
     ensures number { pass.new.log.number ≡ pass.old.log.number }
 {
-    P::equal_calls();
-    P::equal_replies();
-    P::exact_calls();
     if let Some(_key) = P::key(&call) {
         recorded.call(rt, pass, call).is_ok()
     } else if call == P::clear_call() {

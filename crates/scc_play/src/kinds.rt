@@ -2,6 +2,7 @@
 //! the threads of each kind are started here.
 ghost use Rattle.std.specs.Prelude.{◌≡◌, IfOk, Some};
 ghost use Rattle.scc_recorded.specs.Setups.{request_of};
+ghost use Rattle.scc_calls.specs.Copies.{AreSame};
 ghost use Rattle.scc_script.specs.Grammar.{IsCrew, IsDivision};
 ghost use Rattle.scc_play.specs.Ended.{IfPlayed};
 ghost use Rattle.scc_play.specs.Kinds.{MapPlayed, SetPlayed, IndexPlayed, CachePlayed, MapPlayedFor, SetPlayedFor, IndexPlayedFor, CachePlayedFor};
@@ -14,7 +15,7 @@ use scc_calls::{CacheCall, IndexCall, MapCall, SetCall};
 use scc_common::Shared;
 use scc_index::Owned as OwnedIndex;
 use scc_map::Owned as OwnedMap;
-use scc_print::printed::are_exact;
+use scc_print::printed::Printed;
 use scc_recorded::{Recorded, Setup, Site};
 use scc_script::line::WorkerCall;
 use scc_script::same::Same;
@@ -25,6 +26,12 @@ use std::marker::Brand;
 use std::sync::ledger::{Blank, Ledger};
 use std::sync::{Arc, Wait};
 use std::thread::Threads;
+
+// States that calls that compare as equal are the same, and that replies that compare as equal are the same.
+fn are_exact<P: Printed>()
+    ensures calls { AreSame P.Call.eq }
+    ensures replies { AreSame P.Reply.eq }
+{}
 
 // Returns one owner of a script's hasher. Fails if memory is refused.
 fn shared(alloc: Global) -> Result<Shared<Same>, AllocError> {

@@ -29,7 +29,6 @@ pub(crate) fn calls_of<P: Printed>(
 fn are_all_of<P: Printed>(call: &P::Call, receipts: &[Receipt<P::Call, P::Reply>]) -> bool
     ensures { result ≡ true → AllByRecursion (λ r. r.call ≡ call.now) receipts.now }
 {
-    P::exact_calls();
     for receipt in receipts {
         if receipt.call != *call {
             return false;

@@ -130,8 +130,6 @@ where
         (stripe_of P.Hasher.BuildHasher P.Hasher.Hasher.Hasher P.Key.Hash.hash_input r.hasher) r workers stripes
         calls.now text) ∥₁)) }
 {
-    P::exact_calls();
-    P::exact_replies();
     let listed = told_by_all::<P, L>(alloc, stripes, calls, passes.as_slice())?;
     let finished = match closed.finish(passes) {
         Ok(finished) => finished,

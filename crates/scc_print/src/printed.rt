@@ -2,7 +2,7 @@
 ghost use Rattle.std.specs.Prelude.{◌≡◌, ℕ, List, ◌++◌, OnOk, true};
 ghost use Rattle.std.specs.List.Sorted.{IsPermutation};
 ghost use Rattle.std.specs.String.{string_bytes};
-ghost use Rattle.scc_calls.specs.Copies.{AreSame, ClonesEqual};
+ghost use Rattle.scc_calls.specs.Copies.{ClonesEqual};
 
 mod caches;
 mod indexes;
@@ -52,28 +52,15 @@ pub trait Printed: WholeCalls {
     fn same_reply(reply: &Self::Reply) -> Self::Reply
         ensures { result ≡ reply.now };
 
-    /// States that a clone of a call equals the call.
-    fn equal_calls()
-        ensures { ClonesEqual Self.Call.is_clone Self.Call.eq };
+    // A clone of a call equals the call.
+    ghost equal_calls: { ClonesEqual Self.Call.is_clone Self.Call.eq };
 
-    /// States that a clone of a reply equals the reply.
-    fn equal_replies()
-        ensures { ClonesEqual Self.Reply.is_clone Self.Reply.eq };
+    // A clone of a reply equals the reply.
+    ghost equal_replies: { ClonesEqual Self.Reply.is_clone Self.Reply.eq };
 
-    /// States that calls that compare as equal are the same.
-    fn exact_calls()
-        ensures { (a b : Self.Call) → Self.Call.eq a b ≡ true → a ≡ b };
+    // Calls that compare as equal are the same.
+    ghost exact_calls: { (a b : Self.Call) → Self.Call.eq a b ≡ true → a ≡ b };
 
-    /// States that replies that compare as equal are the same.
-    fn exact_replies()
-        ensures { (a b : Self.Reply) → Self.Reply.eq a b ≡ true → a ≡ b };
-}
-
-/// States that calls that compare as equal are the same, and that replies that compare as equal are the same.
-pub fn are_exact<P: Printed>()
-    ensures calls { AreSame P.Call.eq }
-    ensures replies { AreSame P.Reply.eq }
-{
-    P::exact_calls();
-    P::exact_replies();
+    // Replies that compare as equal are the same.
+    ghost exact_replies: { (a b : Self.Reply) → Self.Reply.eq a b ≡ true → a ≡ b };
 }

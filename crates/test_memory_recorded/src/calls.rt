@@ -45,8 +45,6 @@ fn make_call<C: Tried, L: Ledger, M: Site<C::Hasher>, R: Wait>(
     pass: &mut Pass<C, L>,
     number: u64,
 ) -> Option<Result<bool, CallError>> {
-    C::equal_calls();
-    C::equal_replies();
     let (call, wanted) = C::call_of(number);
     if let Some(_key) = C::key(&call) {
         match recorded.call(rt, pass, call) {
@@ -91,8 +89,6 @@ fn expect_length<C: Tried, L: Ledger, M: Site<C::Hasher>, R: Abort + Print + Wai
     pass: &mut Pass<C, L>,
     count: usize,
 ) {
-    C::equal_calls();
-    C::equal_replies();
     for _ in 0..TRIES {
         let before = pass.receipts().len();
         let answer = recorded.len(rt, pass);
@@ -120,8 +116,6 @@ fn expect_clearing<C: Tried, L: Ledger, M: Site<C::Hasher>, R: Abort + Print + W
     recorded: &Recorded<C, L, M>,
     pass: &mut Pass<C, L>,
 ) {
-    C::equal_calls();
-    C::equal_replies();
     for _ in 0..TRIES {
         let before = pass.receipts().len();
         let answer = recorded.clear(rt, pass);

@@ -58,11 +58,11 @@ pub(crate) trait Tried: WholeCalls + Drop {
     // Reports what was refused.
     fn meet<R: Print>(rt: &R, refusal: &mut Refusal, what: What);
 
-    fn equal_calls()
-        ensures { ClonesEqual Self.Call.is_clone Self.Call.eq };
+    // A clone of a call equals the call.
+    ghost equal_calls: { ClonesEqual Self.Call.is_clone Self.Call.eq };
 
-    fn equal_replies()
-        ensures { ClonesEqual Self.Reply.is_clone Self.Reply.eq };
+    // A clone of a reply equals the reply.
+    ghost equal_replies: { ClonesEqual Self.Reply.is_clone Self.Reply.eq };
 }
 
 impl Tried for Map {
@@ -104,9 +104,11 @@ impl Tried for Map {
         }
     }
 
-    fn equal_calls() {}
+    ghost use Rattle.std.proofs.Common.{rules};
 
-    fn equal_replies() {}
+    ghost equal_calls = { λ a b h. Prim.search rules };
+
+    ghost equal_replies = { λ a b h. Prim.search rules };
 }
 
 impl Tried for Set {
@@ -148,9 +150,11 @@ impl Tried for Set {
         }
     }
 
-    fn equal_calls() {}
+    ghost use Rattle.std.proofs.Common.{rules};
 
-    fn equal_replies() {}
+    ghost equal_calls = { λ a b h. Prim.search rules };
+
+    ghost equal_replies = { λ a b h. Prim.search rules };
 }
 
 impl Tried for Index {
@@ -192,9 +196,11 @@ impl Tried for Index {
         }
     }
 
-    fn equal_calls() {}
+    ghost use Rattle.std.proofs.Common.{rules};
 
-    fn equal_replies() {}
+    ghost equal_calls = { λ a b h. Prim.search rules };
+
+    ghost equal_replies = { λ a b h. Prim.search rules };
 }
 
 impl Tried for Cache {
@@ -236,7 +242,9 @@ impl Tried for Cache {
         }
     }
 
-    fn equal_calls() {}
+    ghost use Rattle.std.proofs.Common.{rules};
 
-    fn equal_replies() {}
+    ghost equal_calls = { λ a b h. Prim.search rules };
+
+    ghost equal_replies = { λ a b h. Prim.search rules };
 }

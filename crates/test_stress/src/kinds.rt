@@ -104,9 +104,11 @@ impl Turns for Map {
         false
     }
 
-    fn equal_calls() {}
+    ghost use Rattle.std.proofs.Common.{rules};
 
-    fn equal_replies() {}
+    ghost equal_calls = { λ a b h. Prim.search rules };
+
+    ghost equal_replies = { λ a b h. Prim.search rules };
 }
 
 impl Turns for Set {
@@ -167,9 +169,11 @@ impl Turns for Set {
         false
     }
 
-    fn equal_calls() {}
+    ghost use Rattle.std.proofs.Common.{rules};
 
-    fn equal_replies() {}
+    ghost equal_calls = { λ a b h. Prim.search rules };
+
+    ghost equal_replies = { λ a b h. Prim.search rules };
 }
 
 impl Turns for Index {
@@ -231,9 +235,11 @@ impl Turns for Index {
         false
     }
 
-    fn equal_calls() {}
+    ghost use Rattle.std.proofs.Common.{rules};
 
-    fn equal_replies() {}
+    ghost equal_calls = { λ a b h. Prim.search rules };
+
+    ghost equal_replies = { λ a b h. Prim.search rules };
 }
 
 // A put of another worker may evict a worker's key, so no reply of a cache is known in advance.
@@ -300,7 +306,9 @@ impl Turns for Cache {
         true
     }
 
-    fn equal_calls() {}
+    ghost use Rattle.std.proofs.Common.{rules};
 
-    fn equal_replies() {}
+    ghost equal_calls = { λ a b h. Prim.search rules };
+
+    ghost equal_replies = { λ a b h. Prim.search rules };
 }

@@ -42,11 +42,11 @@ pub(crate) trait Turns: Calls + Drop {
     // Returns whether a walk meets pairs bucket by bucket, each bucket's by recency.
     fn is_ordered() -> bool;
 
-    fn equal_calls()
-        ensures { ClonesEqual Self.Call.is_clone Self.Call.eq };
+    // A clone of a call equals the call.
+    ghost equal_calls: { ClonesEqual Self.Call.is_clone Self.Call.eq };
 
-    fn equal_replies()
-        ensures { ClonesEqual Self.Reply.is_clone Self.Reply.eq };
+    // A clone of a reply equals the reply.
+    ghost equal_replies: { ClonesEqual Self.Reply.is_clone Self.Reply.eq };
 }
 
 // Returns a key of the worker's own. A worker's keys lie in different buckets, and each serves eight turns.
@@ -121,9 +121,7 @@ impl<C: Turns, L: Ledger, M: Site<C::Hasher>, R: Wait> Work for Caller<'_, C, L,
         let Some(_key) = C::key(&copy) else {
             return false;
         };
-        C::equal_calls();
-        C::equal_replies();
-        match self.recorded.call(self.rt, &mut self.pass, copy) {
+                match self.recorded.call(self.rt, &mut self.pass, copy) {
             Ok(reply) => {
                 self.as_alone = self.as_alone && matches_alone(alone, &reply);
                 true

@@ -26,8 +26,6 @@ fn answers<C: Streamed, L: Ledger, M: Site<C::Hasher>, R: Wait>(
     call: C::Call,
     wanted: &C::Reply,
 ) -> bool {
-    C::equal_calls();
-    C::equal_replies();
     if let Some(_key) = C::key(&call) {
         return match recorded.call(rt, pass, call) {
             Ok(reply) => reply == *wanted,
@@ -140,7 +138,6 @@ fn has_sizes<A, B>(history: &[Step<A, B>], sizes: &[usize]) -> bool {
 
 // Returns whether two containers reply to `call` alike.
 fn answer_alike<C: Streamed>(one: &mut C, other: &mut C, call: &C::Call) -> bool {
-    C::equal_replies();
     match (one.call(C::same_call(call)), other.call(C::same_call(call))) {
         (Ok(first), Ok(second)) => first == second,
         _ => false,
@@ -183,8 +180,6 @@ where
         return Err(AllocError);
     };
     let mut alone = made;
-    C::equal_calls();
-    C::equal_replies();
     match run(&mut alone, calls, replies) {
         Ok(()) => Ok(alone),
         Err(_refused) => Err(AllocError),

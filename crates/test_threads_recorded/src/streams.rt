@@ -156,7 +156,6 @@ impl Came {
 
 // Makes one call, and returns whether it evicted a pair, or `None` if it was refused.
 fn make<C: Streamed>(container: &mut C, call: &C::Call) -> Option<bool> {
-    C::equal_replies();
     match container.call(C::same_call(call)) {
         Ok(reply) => Some(C::is_eviction(&reply)),
         Err(_) => None,

@@ -12,6 +12,7 @@ use std::hash::BuildHasher;
 impl<H: BuildHasher> Printed for Owned<u64, u64, H> {
     type Item = (u64, u64);
 
+    ghost use Rattle.std.proofs.Common.{rules};
     ghost use Rattle.scc_common.specs.Contents.{entries};
     ghost use Rattle.scc_print.specs.Output.{content_line, reply_line};
     ghost use Rattle.scc_calls.specs.declared.replies.Reply.TheVariants.{Count};
@@ -23,6 +24,14 @@ impl<H: BuildHasher> Printed for Owned<u64, u64, H> {
     ghost item_line = { content_line };
 
     ghost count_reply = { Count };
+
+    ghost equal_calls = { λ a b h. Prim.search rules };
+
+    ghost equal_replies = { λ a b h. Prim.search rules };
+
+    ghost exact_calls = { λ a b h. Prim.search rules };
+
+    ghost exact_replies = { λ a b h. Prim.search rules };
 
     fn take_items(&mut self, items: &mut Vec<(u64, u64)>) -> Result<(), AllocError> {
         items.reserve(self.len())?;
@@ -52,12 +61,4 @@ impl<H: BuildHasher> Printed for Owned<u64, u64, H> {
     fn same_reply(reply: &Reply<u64, u64>) -> Reply<u64, u64> {
         *reply
     }
-
-    fn equal_calls() {}
-
-    fn equal_replies() {}
-
-    fn exact_calls() {}
-
-    fn exact_replies() {}
 }

@@ -21,7 +21,7 @@ returns-in-Some-2-clause-played g c =
     let many : length hs ≡ c.args.stripes = omega (arith, ap length e.parts.1, b, closed.stripes.ok.0, c.requires.stripes.0) in
     let empty : length f.opened.items ≡ c.args.stripes = omega (arith, ap length e.parts.2, d, closed.stripes.ok.0, c.requires.stripes.0) in
     let crew : length c.args.passes.items ≡ c.args.workers = omega (arith, p, run.complete.0, c.requires.workers) in
-    assembled _ _ _ _ c.exact_calls.ensures c.exact_replies.ensures g.P.Calls.setting (λ q. q.log.number) (λ q. q.log.receipts.items) (λ v. v.items)
+    assembled _ _ _ _ g.met.P.Printed.exact_calls g.met.P.Printed.exact_replies g.P.Calls.setting (λ q. q.log.number) (λ q. q.log.receipts.items) (λ v. v.items)
     g.M.Site.chosen c.args.workers c.args.stripes c.args.calls.now closed.hasher f.parts.items hs f.opened.items f.order.items c.args.passes.items c.in-Some.told.items (string_bytes c.in-Some-2.text) (length hs)
     many many empty crew run.alike run.replays run.routed run.merges run.order.0 run.stamps run.receipts zeros known tells shows
 
