@@ -1,7 +1,7 @@
 -- The words of the contracts of entries of a locked stripe.
 pub use Rattle.scc_ruled_map.specs.declared.entries.Entry.TheVariants.{Occupied, Vacant}
 pub use Rattle.scc_ruled_map.specs.declared.entries.ReplaceResult.TheVariants.{Replaced, NotReplaced}
-use Rattle.std.specs.Prelude.{◌≡◌, Bool, true, List, Result, IfOk, IfErr, ⊤}
+use Rattle.std.specs.Prelude.{◌≡◌, Bool, true, List, [], Result, IfOk, IfErr, ⊤}
 use Rattle.std.specs.Borrow.{MutBor}
 use Rattle.std.specs.Fn.{Once, FnOnceTakesAtMut, FnOnceReturnsAtMut}
 use Rattle.std.specs.Result.{OnErr}
@@ -16,7 +16,7 @@ use Rattle.scc_common.specs.declared.errors.InsertError.TheVariants.{Memory}
 use Rattle.scc_rules.specs.Rules.{IsKeptAt}
 use Rattle.scc_rules.specs.declared.Rule as rule
 use Rattle.scc_stripes.specs.declared.seats.Seat.{Seat}
-use Rattle.scc_table.specs.Placed.{entry_of, front_of}
+use Rattle.scc_table.specs.Placed.{entry_of, front_of, back_of, IsNextAt, IsNextPastRemovedAt, SplitsAt}
 use Rattle.scc_ruled_map.specs.declared.entries.OccupiedEntry.{OccupiedEntry}
 use Rattle.scc_ruled_map.specs.declared.entries.VacantEntry.{VacantEntry}
 use Rattle.scc_ruled_map.specs.declared.entries.Entry.{Entry}
@@ -30,6 +30,30 @@ module _ {K V R H T : Type 0} {g : eq.Ghosts K} {h : hash.Ghosts K} {r : rule.Gh
   -- the pairs before an occupied entry in the list of its stripe
   abbrev pub occupied_front : OccupiedEntry K V R H T g h r b w → List (K × V)
   occupied_front o = front_of (write_guard_value o.guard) o.place
+
+  -- the pairs after an occupied entry in the list of its stripe
+  abbrev pub occupied_back : OccupiedEntry K V R H T g h r b w → List (K × V)
+  occupied_back o = back_of (write_guard_value o.guard) o.place
+
+  -- the map of the stripe that an occupied entry holds
+  abbrev pub occupied_map : OccupiedEntry K V R H T g h r b w → Contents (K × V) H
+  occupied_map o = write_guard_value o.guard
+
+  -- the list of its stripe is the pairs before an occupied entry, its pair, and the pairs after it
+  abbrev pub Stands : OccupiedEntry K V R H T g h r b w → Type 0
+  Stands o = SplitsAt (write_guard_value o.guard) o.place o.within
+
+  -- an occupied entry is the first of its stripe
+  abbrev pub IsFirst : OccupiedEntry K V R H T g h r b w → Type 0
+  IsFirst o = Stands o × (occupied_front o ≡ [])
+
+  -- p stands next after o in the list, which is unchanged
+  abbrev pub IsNext : OccupiedEntry K V R H T g h r b w → OccupiedEntry K V R H T g h r b w → Type 0
+  IsNext o p = IsNextAt (write_guard_value o.guard) o.place o.within (write_guard_value p.guard) p.place p.within
+
+  -- the pair of o is removed, the others stay in their order, and p stands at the pair that stood next after it
+  abbrev pub IsNextPastRemoved : OccupiedEntry K V R H T g h r b w → OccupiedEntry K V R H T g h r b w → Type 0
+  IsNextPastRemoved o p = IsNextPastRemovedAt (write_guard_value o.guard) o.place (write_guard_value p.guard) p.place p.within
 
   -- the seat of an occupied entry
   abbrev pub occupied_seat : OccupiedEntry K V R H T g h r b w → Seat (Contents (K × V) H) H

@@ -1,12 +1,14 @@
 //! The calls that return an entry. An entry holds the lock of its stripe.
-ghost use Rattle.scc_common.specs.PairWalks.{Declines};
+ghost use Rattle.scc_common.specs.PairWalks.{Declines, PassesAt};
+ghost use Rattle.scc_common.specs.Pairs.{IsUnique};
 ghost use Rattle.scc_common.specs.Walks.{CalledOn};
-ghost use Rattle.scc_ruled_map.specs.Entries.{entry_seat, occupied_pair, occupied_seat, replaced_seat, IsEntryOf, Replaces};
+ghost use Rattle.scc_ruled_map.specs.Entries.{entry_seat, occupied_front, occupied_map, occupied_pair, occupied_seat, replaced_seat, IsEntryOf, IsFirst, Replaces, Stands};
 ghost use Rattle.scc_ruled_map.specs.Stripes.{stripes_of};
 ghost use Rattle.scc_rules.specs.Rules.{AllKeep, IsKept, IsKeptAt};
 ghost use Rattle.scc_rules.specs.Walks.{TakesEach};
 ghost use Rattle.scc_stripes.specs.Seats.{IsSeatIn, IsSeatOfKey, seat_stripe};
-ghost use Rattle.std.specs.Prelude.{List, true, false, IfSome};
+ghost use Rattle.scc_stripes.specs.Walks.{AreOfStripes};
+ghost use Rattle.std.specs.Prelude.{List, IfSome};
 
 use super::walk::first_later;
 use super::{Entry, OccupiedEntry, ReplaceResult};
@@ -54,7 +56,9 @@ impl<K: Eq + Hash, V, R: Rule<K, V>, H: BuildHasher> RuledMap<K, V, R, H> {
 
     /// Returns the first entry of the first stripe that has an entry, or `None` if no stripe has one.
     pub fn begin_sync(&self, rt: &impl Wait) -> Option<OccupiedEntry<'_, K, V, R, H>>
+        ensures first { IfSome result IsFirst }
         ensures kept { IfSome result (λ o. IsKept R.holds (occupied_pair o)) }
+        ensures unique { IfSome result (λ o. IsUnique K.eq (occupied_map o)) }
         ensures seat { IfSome result (λ o. IsSeatIn (stripes_of self.now) (seat_stripe (occupied_seat o))
             (occupied_seat o)) }
     {
@@ -73,9 +77,13 @@ impl<K: Eq + Hash, V, R: Rule<K, V>, H: BuildHasher> RuledMap<K, V, R, H> {
         mut p: P,
     ) -> Option<OccupiedEntry<'_, K, V, R, H>>
         requires { TakesEach R.holds P.FnMut }
+        ensures here { IfSome result Stands }
         ensures kept { IfSome result (λ o. IsKept R.holds (occupied_pair o)) }
-        ensures first { IfSome result (λ o. (es : List (K × V)) × (q : P) × (last : P) × AllKeep R.holds es
-            × Declines (CalledOn P.FnMut) p es q × CalledOn P.FnMut q (occupied_pair o) true last) }
+        ensures unique { IfSome result (λ o. IsUnique K.eq (occupied_map o)) }
+        ensures first { IfSome result (λ o. (es : List (K × V)) × (q : P) × AllKeep R.holds es
+            × AllKeep R.holds (occupied_front o) × Declines (CalledOn P.FnMut) p es q
+            × PassesAt (CalledOn P.FnMut) q (occupied_front o) (occupied_pair o)
+            × AreOfStripes K.eq (λ p. p.0) (seat_stripe (occupied_seat o)) es) }
         ensures seat { IfSome result (λ o. IsSeatIn (stripes_of self.now) (seat_stripe (occupied_seat o))
             (occupied_seat o)) }
     {

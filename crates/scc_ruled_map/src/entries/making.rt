@@ -1,11 +1,13 @@
 //! How an entry is made from the guard of its stripe.
 ghost use Rattle.scc_common.specs.Contents.{entries};
 ghost use Rattle.scc_common.specs.PairWalks.{Declines, PassesAt};
+ghost use Rattle.scc_common.specs.Pairs.{IsUnique};
 ghost use Rattle.scc_common.specs.Walks.{CalledOn};
-ghost use Rattle.scc_ruled_map.specs.Entries.{entry_seat, occupied_front, occupied_pair, occupied_seat, replaced_seat, IsEntryOf, Replaces};
+ghost use Rattle.scc_ruled_map.specs.Entries.{entry_seat, occupied_front, occupied_map, occupied_pair, occupied_seat, replaced_seat, IsEntryOf, IsFirst, Replaces, Stands};
 ghost use Rattle.scc_rules.specs.Rules.{AllKeep, IsKept, IsKeptAt};
 ghost use Rattle.scc_rules.specs.Walks.{TakesKept};
-ghost use Rattle.std.specs.Prelude.{◌≡◌, List, false, IfErr, IfOk, IfSome};
+ghost use Rattle.std.specs.Prelude.{◌≡◌, false, IfErr, IfOk, IfSome};
+ghost use Rattle.std.specs.Sync.RwLock.{write_guard_value};
 
 use super::{Entry, OccupiedEntry, ReplaceResult, VacantEntry};
 use crate::Kept;
@@ -61,10 +63,13 @@ impl<'a, K: Eq + Hash, V, R: Rule<K, V>, H: BuildHasher> OccupiedEntry<'a, K, V,
         guard: RwLockWriteGuard<'a, Kept<K, V, R, H>>,
         seat: Seat<'a, Kept<K, V, R, H>, H>,
     ) -> Result<Self, Seat<'a, Kept<K, V, R, H>, H>>
+        ensures first { IfOk result IsFirst }
         ensures kept { IfOk result (λ o. IsKept R.holds (occupied_pair o)) }
         ensures seat { IfOk result (λ o. occupied_seat o ≡ seat.entry) }
+        ensures unique { IfOk result (λ o. IsUnique K.eq (occupied_map o)) }
         ensures empty { IfErr result (λ s. s ≡ seat.entry) }
     {
+        let _ = guard.look().len();
         match guard.look().first_place() {
             Some(place) => Ok(OccupiedEntry { guard, place, seat }),
             None => Err(seat),
@@ -79,13 +84,17 @@ impl<'a, K: Eq + Hash, V, R: Rule<K, V>, H: BuildHasher> OccupiedEntry<'a, K, V,
         seat: Seat<'a, Kept<K, V, R, H>, H>,
     ) -> Result<Self, Seat<'a, Kept<K, V, R, H>, H>>
         requires { TakesKept R.holds P.FnMut false p.old }
+        ensures here { IfOk result Stands }
         ensures kept { IfOk result (λ o. IsKept R.holds (occupied_pair o)) }
         ensures seat { IfOk result (λ o. occupied_seat o ≡ seat.entry) }
+        ensures unique { IsUnique K.eq (write_guard_value guard.entry) }
+        ensures same { IfOk result (λ o. occupied_map o ≡ write_guard_value guard.entry) }
         ensures first { IfOk result (λ o. PassesAt (CalledOn P.FnMut) p.old (occupied_front o) (occupied_pair o)
             × AllKeep R.holds (occupied_front o)) }
-        ensures none { IfErr result (λ s. (es : List (K × V)) × AllKeep R.holds es
-            × Declines (CalledOn P.FnMut) p.old es p.new) }
+        ensures none { IfErr result (λ s. AllKeep R.holds (entries (write_guard_value guard.entry))
+            × Declines (CalledOn P.FnMut) p.old (entries (write_guard_value guard.entry)) p.new) }
     {
+        let _ = guard.look().len();
         match guard.look().first_passing(p) {
             Some(place) => Ok(OccupiedEntry { guard, place, seat }),
             None => Err(seat),

@@ -1,9 +1,10 @@
 //! From entry to entry, inside a stripe and on to later stripes. The lock of a stripe is released before the next one
 //! is taken.
-ghost use Rattle.scc_ruled_map.specs.Entries.{occupied_pair, occupied_seat};
+ghost use Rattle.scc_common.specs.Pairs.{IsUnique};
+ghost use Rattle.scc_ruled_map.specs.Entries.{occupied_back, occupied_map, occupied_pair, occupied_seat, IsFirst, IsNext, IsNextPastRemoved};
 ghost use Rattle.scc_rules.specs.Rules.{IsKept};
 ghost use Rattle.scc_stripes.specs.Seats.{IsLaterSeat};
-ghost use Rattle.std.specs.Prelude.{◌≡◌, ◌⊎◌, IfSome};
+ghost use Rattle.std.specs.Prelude.{◌≡◌, [], IfSome, IsSomeAnd};
 
 use super::OccupiedEntry;
 use crate::Kept;
@@ -18,8 +19,10 @@ pub(crate) fn first_later<'a, K: Eq + Hash, V, R: Rule<K, V>, H: BuildHasher>(
     rt: &impl Wait,
     seat: Seat<'a, Kept<K, V, R, H>, H>,
 ) -> Option<OccupiedEntry<'a, K, V, R, H>>
+    ensures first { IfSome result IsFirst }
     ensures kept { IfSome result (λ n. IsKept R.holds (occupied_pair n)) }
     ensures seat { IfSome result (λ n. IsLaterSeat seat.entry (occupied_seat n)) }
+    ensures unique { IfSome result (λ n. IsUnique K.eq (occupied_map n)) }
 {
     let mut seat = seat;
     for _ in 0..16u8 {
@@ -36,11 +39,17 @@ impl<'a, K: Eq + Hash, V, R: Rule<K, V>, H: BuildHasher> OccupiedEntry<'a, K, V,
     /// Returns the entry that stands next in the stripe's list. If this entry is the last of its stripe, returns the
     /// first entry of a later stripe, or `None`.
     pub fn next_sync(self, rt: &impl Wait) -> Option<OccupiedEntry<'a, K, V, R, H>>
+        ensures next { (occupied_back self.entry ≡ [] → ⊥) → IsSomeAnd result (IsNext self.entry) }
+        ensures later { occupied_back self.entry ≡ [] → IfSome result IsFirst }
         ensures kept { IfSome result (λ n. IsKept R.holds (occupied_pair n)) }
-        ensures seat { IfSome result (λ n. (occupied_seat n ≡ occupied_seat self.entry)
-            ⊎ IsLaterSeat (occupied_seat self.entry) (occupied_seat n)) }
+        ensures stays { (occupied_back self.entry ≡ [] → ⊥)
+            → IfSome result (λ n. occupied_seat n ≡ occupied_seat self.entry) }
+        ensures goes_on { occupied_back self.entry ≡ []
+            → IfSome result (λ n. IsLaterSeat (occupied_seat self.entry) (occupied_seat n)) }
+        ensures unique { IfSome result (λ n. IsUnique K.eq (occupied_map n)) }
     {
         let OccupiedEntry { guard, place, seat } = self;
+        let _ = guard.look().len();
         match guard.look().next_place(place) {
             Some(place) => Some(OccupiedEntry { guard, place, seat }),
             None => {
@@ -55,9 +64,14 @@ impl<'a, K: Eq + Hash, V, R: Rule<K, V>, H: BuildHasher> OccupiedEntry<'a, K, V,
     pub fn remove_and_sync(self, rt: &impl Wait) -> ((K, V), Option<OccupiedEntry<'a, K, V, R, H>>)
         ensures pair { result.0 ≡ occupied_pair self.entry }
         ensures kept { IsKept R.holds result.0 }
-        ensures next { IfSome result.1 (λ n. IsKept R.holds (occupied_pair n)) }
-        ensures seat { IfSome result.1 (λ n. (occupied_seat n ≡ occupied_seat self.entry)
-            ⊎ IsLaterSeat (occupied_seat self.entry) (occupied_seat n)) }
+        ensures next { (occupied_back self.entry ≡ [] → ⊥) → IsSomeAnd result.1 (IsNextPastRemoved self.entry) }
+        ensures later { occupied_back self.entry ≡ [] → IfSome result.1 IsFirst }
+        ensures next_kept { IfSome result.1 (λ n. IsKept R.holds (occupied_pair n)) }
+        ensures stays { (occupied_back self.entry ≡ [] → ⊥)
+            → IfSome result.1 (λ n. occupied_seat n ≡ occupied_seat self.entry) }
+        ensures goes_on { occupied_back self.entry ≡ []
+            → IfSome result.1 (λ n. IsLaterSeat (occupied_seat self.entry) (occupied_seat n)) }
+        ensures unique { IfSome result.1 (λ n. IsUnique K.eq (occupied_map n)) }
     {
         let OccupiedEntry {
             mut guard,
