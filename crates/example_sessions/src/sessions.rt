@@ -92,6 +92,6 @@ pub fn touch<R: Wait>(rt: &R, sessions: &Sessions, token: u64, time: u64) -> Opt
 pub fn expire<R: Wait>(rt: &R, sessions: &Sessions, token: u64, now: u64) -> Option<Session>
     ensures { IfSome result (λ session. (session.token ≡ token) × (session.span.end ≤ now)) }
 {
-    let (_token, session) = sessions.remove_if_sync(rt, &token, |session| session.span.end <= now)?;
-    Some(session)
+    let expired = sessions.remove_if_sync(rt, &token, |session| session.span.end <= now)?;
+    Some(expired.1)
 }
