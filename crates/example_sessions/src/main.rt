@@ -28,14 +28,14 @@ fn print_step<R: Threads + Sync + Wait + Print>(
 ) -> io::Result<()> {
     let met = match step {
         Step::Count => sessions.len(rt) as u64,
-        Step::Open(number, session) => {
+        Step::Open(number, span) => {
             let opened = draw_tokens(alloc, tokens.len(), number)?;
             let met = make_step(
                 rt,
                 alloc,
                 sessions,
                 opened.as_slice(),
-                Step::Open(number, session),
+                Step::Open(number, span),
             )?;
             for token in opened {
                 tokens.push(token).map_err(AllocError::from)?;

@@ -1,12 +1,12 @@
 //! Steps that are read from lines.
 
-use crate::sessions::Session;
+use crate::sessions::Span;
 
 /// What all workers do at once.
 #[derive(Clone, Copy, Drop)]
 pub enum Step {
     /// `open N BEGIN END`: opens N sessions from BEGIN to END.
-    Open(usize, Session),
+    Open(usize, Span),
     /// `touch TIME`: lets each session end at TIME or later.
     Touch(u64),
     /// `lengths`: adds up the lengths of all sessions.
@@ -29,7 +29,7 @@ pub fn parse_step(line: &str) -> Option<Step> {
         "open" => {
             let many = words.next()?.parse::<usize>().ok()?;
             let begin = number(words.next())?;
-            Step::Open(many, Session::new(begin, number(words.next())?)?)
+            Step::Open(many, Span::new(begin, number(words.next())?)?)
         }
         "touch" => Step::Touch(number(words.next())?),
         "expire" => Step::Expire(number(words.next())?),

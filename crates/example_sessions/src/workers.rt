@@ -1,5 +1,5 @@
 //! Workers that make a step on the sessions of the tokens that are theirs.
-use crate::sessions::{Sessions, expire, length, touch};
+use crate::sessions::{Session, Sessions, expire, length, touch};
 use crate::steps::Step;
 use scc::InsertError;
 use std::alloc::{AllocError, Global};
@@ -27,7 +27,7 @@ pub fn draw_tokens(alloc: Global, seed: usize, number: usize) -> Result<Vec<u64>
 // met one.
 fn make_one<R: Wait>(rt: &R, sessions: &Sessions, token: u64, step: Step) -> io::Result<u64> {
     let met = match step {
-        Step::Open(_, session) => match sessions.insert_sync(rt, token, session) {
+        Step::Open(_, span) => match sessions.insert_sync(rt, token, Session { token, span }) {
             Ok(()) => true,
             Err(InsertError::Exists(_)) => false,
             Err(error) => return Err(io::Error::from(error)),

@@ -1,5 +1,5 @@
-//! Concurrent hash containers, under their public paths: each container's module, a memo, recorded containers with
-//! calls as values, workers on threads, and what they share.
+//! Concurrent hash containers, under their public paths: each container's module, with its form under a rule, a memo,
+//! recorded containers with calls as values, workers on threads, and what they share.
 #![tactic(auto)]
 
 pub mod hash_cache;
@@ -13,8 +13,9 @@ pub mod stripes;
 
 pub use hash_cache::HashCache;
 pub use hash_index::HashIndex;
-pub use hash_map::HashMap;
+pub use hash_map::{HashMap, RuledMap};
 pub use hash_set::HashSet;
 pub use scc_common::{InsertError, KeyError, MakeError, Verdict, WalkError};
 pub use scc_fallible::TryInsertError;
+pub use scc_rules::{Anything, Rule};
 pub use scc_table::Reservation;

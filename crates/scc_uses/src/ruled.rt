@@ -1,6 +1,7 @@
 //! Callers of maps under a rule: squares, sessions that have their token, and a caller that knows no rule.
 ghost use Rattle.std.specs.Prelude.{◌≡◌, ◌≤◌, ◌<◌, ◌*◌, ◌^◌, IfSome};
 
+use scc_common::Verdict;
 use scc_ruled_map::{Entry, RuledMap};
 use scc_rules::Rule;
 use std::hash::{BuildHasher, Hash};
@@ -34,6 +35,25 @@ pub fn square_of<W: Wait>(rt: &W, squares: &Squares, k: u64) -> u64
             ensures { result ≡ k.now * k.now }
         { *k * *k },
     )
+}
+
+/// Stores the square of `k`, unless it is there. Returns whether it was stored.
+pub fn noted<W: Wait>(rt: &W, squares: &Squares, k: u64) -> bool
+    requires { k < 2 ^ 32 }
+{
+    squares.insert_sync(rt, k, k * k).is_ok()
+}
+
+/// Returns the square of `k` through its entry, which is filled first if it is vacant. Returns `None` if memory is
+/// refused.
+pub fn squared<W: Wait>(rt: &W, squares: &Squares, k: u64) -> Option<u64>
+    requires { k < 2 ^ 32 }
+    ensures { IfSome result (λ v. v ≡ k * k) }
+{
+    match squares.entry_sync(rt, k).or_insert(k * k) {
+        Ok(entry) => Some(*entry.get()),
+        Err(_) => None,
+    }
 }
 
 /// A session, with the token that it stands under.
@@ -80,6 +100,53 @@ pub fn opened<W: Wait>(
     }
 }
 
+/// Returns the session of `token`.
+pub fn found<W: Wait>(rt: &W, sessions: &TokenSessions, token: u64) -> Option<TokenSession>
+    ensures { IfSome result (λ s. (s.token ≡ token) × (s.begin ≤ s.end)) }
+{
+    sessions.read_sync(rt, &token, |_, s| *s)
+}
+
+/// Lets the session of `token` end at `now` unless it ends later, and returns how long it lasts.
+pub fn prolonged<W: Wait>(rt: &W, sessions: &TokenSessions, token: u64, now: u64) -> Option<u64> {
+    sessions.update_sync(rt, &token, |_, s| {
+        s.end = now.max(s.end);
+        s.end - s.begin
+    })
+}
+
+/// Puts `session` in the place of the session of its token, and returns the old one.
+pub fn exchanged<W: Wait>(
+    rt: &W,
+    sessions: &TokenSessions,
+    session: TokenSession,
+) -> Option<TokenSession>
+    requires { session.begin ≤ session.end }
+    ensures { IfSome result (λ s. (s.token ≡ session.token) × (s.begin ≤ s.end)) }
+{
+    let mut entry = sessions.get_sync(rt, &session.token)?;
+    Some(entry.insert(session))
+}
+
+/// Removes the session of `token` if it has ended by `now`, and returns it. If it goes on, it begins anew at `now`.
+pub fn ended<W: Wait>(
+    rt: &W,
+    sessions: &TokenSessions,
+    token: u64,
+    now: u64,
+) -> Option<TokenSession>
+    ensures { IfSome result (λ s. (s.token ≡ token) × (s.end ≤ now)) }
+{
+    let (_, session) = sessions.remove_if_sync(rt, &token, |s| {
+        let is_over = s.end <= now;
+        if !is_over {
+            s.begin = now;
+        }
+        is_over
+    })?;
+    Some(session)
+}
+
 /// Lets the session end at `now` unless it ends later. Returns how long it lasts: no session ends before it begins.
 pub fn renewed<W: Wait>(rt: &W, sessions: &TokenSessions, token: u64, now: u64) -> Option<u64> {
     let mut entry = sessions.get_sync(rt, &token)?;
@@ -91,6 +158,54 @@ pub fn renewed<W: Wait>(rt: &W, sessions: &TokenSessions, token: u64, now: u64) 
 /// Returns whether every session that the walk met lasts less than `limit`.
 pub fn are_short<W: Wait>(rt: &W, sessions: &TokenSessions, limit: u64) -> bool {
     sessions.iter_sync(rt, |_, s| s.end - s.begin < limit)
+}
+
+/// Removes the first session that the walk meets and that lasts `limit` or longer, and returns it with its token.
+pub fn long_removed<W: Wait>(
+    rt: &W,
+    sessions: &TokenSessions,
+    limit: u64,
+) -> Option<(u64, TokenSession)>
+    ensures { IfSome result (λ p. (p.1.token ≡ p.0) × (p.1.begin ≤ p.1.end)) }
+{
+    let entry = sessions.any_sync(rt, |_, s| s.end - s.begin >= limit)?;
+    Some(entry.remove_entry())
+}
+
+/// Returns how long the first `most` sessions last together, from entry to entry.
+pub fn lasted<W: Wait>(rt: &W, sessions: &TokenSessions, most: usize) -> u64 {
+    let mut sum = 0u64;
+    let mut at = sessions.begin_sync(rt);
+    for _ in 0..most {
+        let Some(entry) = at else {
+            break;
+        };
+        sum = sum.saturating_add(entry.get().end - entry.get().begin);
+        at = entry.next_sync(rt);
+    }
+    sum
+}
+
+/// Moves the sessions that have ended by `now` into `over`, and lets the others begin at `now` or later. Returns whether
+/// memory sufficed for all.
+pub fn all_ended<W: Wait>(
+    rt: &W,
+    sessions: &TokenSessions,
+    now: u64,
+    over: &mut Vec<(u64, TokenSession)>,
+) -> bool {
+    let walked = sessions.iter_mut_sync(
+        rt,
+        |_, s| {
+            if s.end <= now {
+                return Verdict::Take;
+            }
+            s.begin = s.begin.max(now);
+            Verdict::Keep
+        },
+        over,
+    );
+    walked.is_ok()
 }
 
 /// Removes the sessions that ended before `now`, and lets the others end at `now` or later.
