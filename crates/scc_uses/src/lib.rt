@@ -27,6 +27,8 @@ pub mod request_cache;
 pub mod requests;
 pub mod routing;
 pub mod ruled;
+pub mod ruled_index;
+pub mod ruled_set;
 pub mod session_store;
 pub mod sessions;
 pub mod shared_interner;

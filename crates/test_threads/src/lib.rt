@@ -23,6 +23,10 @@ mod map_stripes;
 #[cfg(test)]
 mod ruled;
 #[cfg(test)]
+mod ruled_index;
+#[cfg(test)]
+mod ruled_set;
+#[cfg(test)]
 mod stripes;
 #[cfg(test)]
 mod versions;

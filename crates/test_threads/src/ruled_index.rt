@@ -1,0 +1,154 @@
+// Indexes under a rule: each call does what the plain index's call does, walks and snapshots meet each pair once, and a
+// version that a thread keeps stays what it is.
+use crate::expect::{expect, expect_eq};
+use scc_common::MakeError;
+use scc_ruled_index::RuledIndex;
+use scc_rules::Anything;
+use scc_uses::ruled_index::{Ways, hops_for_neighbours, lead_there, offer, way_to, withdraw};
+use std::alloc::Global;
+use std::process::Abort;
+use std::sync::Wait;
+use std::test::Fail;
+use std::thread::{Threads, join};
+
+type Numbers = RuledIndex<u64, u64, Anything>;
+
+/// A call, with the answer that it has to give.
+enum Call {
+    Insert(u64, u64, bool),
+    Peek(u64, Option<u64>),
+    RemoveIf(u64, u64, bool),
+    Remove(u64, bool),
+    Len(usize),
+}
+
+const CALLS: [Call; 13] = [
+    Call::Peek(1, None),
+    Call::Insert(1, 10, true),
+    Call::Insert(1, 11, false),
+    Call::Peek(1, Some(10)),
+    Call::Insert(2, 20, true),
+    Call::RemoveIf(2, 21, false),
+    Call::Len(2),
+    Call::RemoveIf(2, 20, true),
+    Call::RemoveIf(2, 20, false),
+    Call::Peek(2, None),
+    Call::Remove(1, true),
+    Call::Remove(1, false),
+    Call::Len(0),
+];
+
+// Returns the value of the version of `key`.
+fn peeked<R: Wait>(rt: &R, index: &Numbers, key: u64) -> Option<u64> {
+    match index.peek(rt, &key) {
+        Ok(Some(version)) => Some(*version.value()),
+        _ => None,
+    }
+}
+
+// Makes the call, and returns whether the answer is right.
+fn is_right<R: Wait>(rt: &R, index: &Numbers, call: &Call) -> bool {
+    match call {
+        Call::Insert(key, value, is_new) => index.insert_sync(rt, *key, *value).is_ok() == *is_new,
+        Call::Peek(key, value) => {
+            index.contains(rt, key) == value.is_some()
+                && peeked(rt, index, *key) == *value
+                && index.read_sync(rt, key, |_, v| *v) == *value
+        }
+        Call::RemoveIf(key, value, is_removed) => {
+            index.remove_if_sync(rt, key, |v| *v == *value) == *is_removed
+        }
+        Call::Remove(key, is_removed) => index.remove_sync(rt, key) == *is_removed,
+        Call::Len(len) => index.len(rt) == *len,
+    }
+}
+
+#[test]
+fn ruled_index_answers_as_the_plain_index(rt: HostRuntime) -> Result<(), Fail> {
+    let index: Numbers = RuledIndex::new(rt.alloc())?;
+    for (number, call) in CALLS.iter().enumerate() {
+        expect_eq(&rt, (number, is_right(&rt, &index, call)), (number, true));
+    }
+    Ok(())
+}
+
+// Returns an index of the numbers below `n` in many stripes, each with its double.
+fn doubles<R: Wait>(rt: &R, alloc: Global, n: u64) -> Result<Numbers, MakeError> {
+    let index: Numbers = RuledIndex::new(alloc)?;
+    for key in 0..n {
+        if index
+            .insert_sync(rt, key << 55 | key, key.wrapping_mul(2))
+            .is_err()
+        {
+            return Err(MakeError);
+        }
+    }
+    Ok(index)
+}
+
+// Returns how many versions a snapshot has, and the sum of their values.
+fn counted<R: Wait>(rt: &R, index: &Numbers) -> Result<(usize, u64), MakeError> {
+    let mut count = 0usize;
+    let mut sum = 0u64;
+    for version in index.iter(rt)? {
+        count = count.saturating_add(1);
+        sum = sum.wrapping_add(*version.value());
+    }
+    Ok((count, sum))
+}
+
+#[test]
+fn snapshots_of_a_ruled_index_have_each_pair(rt: HostRuntime) -> Result<(), Fail> {
+    let index = doubles(&rt, rt.alloc(), 200)?;
+    expect_eq(&rt, counted(&rt, &index)?, (200, 39_800));
+    let mut sum = 0u64;
+    let went_on = index.iter_sync(&rt, |_, v| {
+        sum = sum.wrapping_add(*v);
+        true
+    });
+    expect_eq(&rt, (went_on, sum), (true, 39_800));
+    index.retain_sync(&rt, |_, v| *v % 4 == 0);
+    expect_eq(&rt, counted(&rt, &index)?, (100, 19_800));
+    let copy = index.try_clone(&rt)?;
+    expect(&rt, index.eq_sync(&rt, &copy));
+    copy.clear_sync(&rt);
+    expect(&rt, copy.is_empty(&rt) && !index.eq_sync(&rt, &copy));
+    Ok(())
+}
+
+// Offers ways to a hundred addresses, and returns how many were taken.
+fn offered<R: Wait>(rt: &R, ways: &Ways, neighbour: u32) -> u32 {
+    let mut taken = 0u32;
+    for address in 0..100u32 {
+        if offer(rt, ways, address, neighbour, 3) {
+            taken = taken.wrapping_add(1);
+        }
+    }
+    taken
+}
+
+fn both_offered<R: Threads + Wait + Sync>(rt: &R, ways: &Ways) -> u32 {
+    let (first, second) = join(rt, || offered(rt, ways, 1), || offered(rt, ways, 2));
+    first.wrapping_add(second)
+}
+
+#[test]
+fn threads_share_ways(rt: HostRuntime) -> Result<(), Fail> {
+    let ways: Ways = RuledIndex::new(rt.alloc())?;
+    expect_eq(&rt, both_offered(&rt, &ways), 100);
+    expect(
+        &rt,
+        !offer(&rt, &ways, 7, 3, 4) && !offer(&rt, &ways, 100, 3, 17),
+    );
+    let kept = way_to(&rt, &ways, 7)?;
+    expect_eq(&rt, hops_for_neighbours(&rt, &ways, 7), Some(4));
+    expect(&rt, lead_there(&rt, &ways)?);
+    withdraw(&rt, &ways, 1);
+    withdraw(&rt, &ways, 2);
+    expect(&rt, ways.is_empty(&rt) && way_to(&rt, &ways, 7)?.is_none());
+    match kept {
+        Some(version) => expect_eq(&rt, version.value().address, 7),
+        None => expect(&rt, false),
+    }
+    Ok(())
+}
