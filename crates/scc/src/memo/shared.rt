@@ -1,0 +1,2 @@
+//! A memo that threads share, and one of a function that may fail.
+pub use scc_shared_memo::{Memo, Pure, TryMemo, TryPure, ValueOf};
