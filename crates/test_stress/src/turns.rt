@@ -121,7 +121,7 @@ impl<C: Turns, L: Ledger, M: Site<C::Hasher>, R: Wait> Work for Caller<'_, C, L,
         let Some(_key) = C::key(&copy) else {
             return false;
         };
-                match self.recorded.call(self.rt, &mut self.pass, copy) {
+        match self.recorded.call(self.rt, &mut self.pass, copy) {
             Ok(reply) => {
                 self.as_alone = self.as_alone && matches_alone(alone, &reply);
                 true
