@@ -2,9 +2,10 @@
 #![tactic(auto)]
 
 ghost use Rattle.std.specs.Prelude.{◌≡◌, ◌*◌, ◌↔◌, true, length, Option, IsSome, IsTrue, MatchOption};
-ghost use Rattle.scc_common.specs.Contents.{bucket_count, entries, key_hash};
+ghost use Rattle.scc_common.specs.Contents.{bucket_count, entries, key_hash, settings_of};
 ghost use Rattle.scc_cache.specs.CacheSteps.{IsAbsent, IsPresent, Removes};
 ghost use Rattle.scc_cache.specs.Caches.{IsCacheState};
+ghost use Rattle.scc_cache.specs.Making.{IsNewCache};
 ghost use Rattle.scc_cache.specs.Relocations.{RelocatesNoneWithin};
 ghost use Rattle.scc_memo.specs.Making.{MakesEmpty};
 ghost use Rattle.scc_memo.specs.Memos.{HasValues, Remembers};
@@ -13,7 +14,7 @@ use scc_cache::Owned;
 use scc_cache::borrowed::Entry;
 use scc_common::MakeError;
 use std::alloc::Global;
-use std::hash::{BuildHasher, Hash};
+use std::hash::{BuildHasher, BuildHasherDefault, FoldHasher, Hash};
 use std::marker::Model;
 
 /// A function that has one value for each key, and the same value for equal keys.
@@ -36,7 +37,7 @@ pub trait Pure {
 /// A pure function with a cache of its values. A contract sees the function and the cache. Every pair of the cache is
 /// a key with the function's value of it.
 #[derive(Drop)]
-pub struct Memo<P: Pure, H: BuildHasher> {
+pub struct Memo<P: Pure, H: BuildHasher = BuildHasherDefault<FoldHasher>> {
     function: P,
     cache: Owned<P::Key, P::Value, H>,
 }
@@ -54,7 +55,42 @@ impl<P: Pure, H: BuildHasher> Model for Memo<P, H> {
     ghost invariant = { λ m. HasValues (P.value m.function) m.cache.contents };
 }
 
+impl<P: Pure> Memo<P> {
+    /// Returns a memo of `function` without values or an array, with a maximum of 256 slots. Allocates nothing.
+    pub fn new(alloc: Global, function: P) -> Self
+        ensures function { result.function ≡ function }
+        ensures cache { IsNewCache (settings_of result.cache.contents).hasher result.cache }
+    {
+        Memo::with_hasher(alloc, function, BuildHasherDefault::new())
+    }
+
+    /// Returns a memo of `function` without values, by the rules of `with_capacity_and_hasher`.
+    pub fn with_capacity(
+        alloc: Global,
+        function: P,
+        minimum: usize,
+        maximum: usize,
+    ) -> Result<Self, MakeError>
+    where
+        P: Drop,
+        ensures { (hasher : BuildHasherDefault FoldHasher) × MakesEmpty function hasher minimum maximum result }
+    {
+        Memo::with_capacity_and_hasher(alloc, function, minimum, maximum, BuildHasherDefault::new())
+    }
+}
+
 impl<P: Pure, H: BuildHasher> Memo<P, H> {
+    /// Returns a memo of `function` without values or an array, with a maximum of 256 slots. Allocates nothing.
+    pub fn with_hasher(alloc: Global, function: P, hasher: H) -> Self
+        ensures function { result.function ≡ function }
+        ensures cache { IsNewCache hasher result.cache }
+    {
+        Memo {
+            function,
+            cache: Owned::with_hasher(alloc, hasher),
+        }
+    }
+
     /// Returns a memo of `function` with an empty cache. `minimum` and `maximum` are numbers of slots, as in the
     /// cache's `with_capacity_and_hasher`. Fails if memory is refused.
     pub fn with_capacity_and_hasher(

@@ -1,0 +1,4 @@
+mod CachePairs
+mod CacheWalks
+mod Resized
+mod SizesLemmas

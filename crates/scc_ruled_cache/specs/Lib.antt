@@ -1,0 +1,3 @@
+pub mod Evictions
+pub mod SharedSizes
+pub mod Stripes

@@ -1,0 +1,14 @@
+-- The stripes of a cache under a rule, and its hasher.
+use Rattle.scc_cache.specs.Caches.{Cached}
+use Rattle.scc_stripes.specs.declared.Striped.{Striped}
+use Rattle.scc_stripes.specs.Stripes.{stripes_hasher}
+use Rattle.scc_ruled_cache.specs.declared.RuledCache.{RuledCache}
+
+module _ {K V R H T : Type 0} where
+  -- the stripes of the cache
+  abbrev pub stripes_of : RuledCache K V R H T → Striped (Cached (K × V) H) H
+  stripes_of c = c.stripes
+
+  -- the hasher of the cache, which all its stripes share
+  abbrev pub hasher_of : RuledCache K V R H T → H
+  hasher_of c = stripes_hasher c.stripes
