@@ -1,0 +1,2 @@
+mod KeptPairs
+mod KeptWalks

@@ -1,0 +1,14 @@
+use Rattle.std.proofs.Common.{sym, subst}
+use Rattle.scc_rules.specs.Rules.{KeepsAll}
+use Rattle.scc_rules.proofs.Lists.{all-append}
+use Rattle.scc_stripes.proofs.Walks.{walked-next}
+use Rattle.scc_ruled_index.proofs.RuledIndex.iter.Goals as goal
+
+pub loop-stripe-preserved : goal.loop-stripe-preserved
+loop-stripe-preserved g c =
+    let s = c.loop-stripe.invariant in
+    let kept = subst (KeepsAll g.R.Rule.holds) (sym c.look-index.ensures.same) c.look-index.ensures.kept in
+    rw c.in-Ok.ensures.all record {
+      kept = all-append (λ (p : g.row.K.Denot × g.row.V.Denot). g.R.Rule.holds p.0 p.1) _ _ s.kept kept;
+      stripes = walked-next g.K.PartialEq.eq (λ p. p.0) _ _ _ s.stripes c.len.ensures.unique;
+    }

@@ -1,0 +1,26 @@
+use Rattle.std.proofs.Common.{[], arith, sym, subst}
+use Rattle.scc_rules.specs.Rules.{KeepsAll}
+use Rattle.scc_common.specs.Walks.{ended}
+use Rattle.scc_common.proofs.WalkLemmas.{walk-append}
+use Rattle.scc_rules.proofs.Lists.{all-append}
+use Rattle.scc_rules.proofs.Walks.{callable-kept}
+use Rattle.scc_stripes.proofs.Walks.{walked-next, walked-none, walked-short}
+use Rattle.scc_ruled_index.proofs.RuledIndex.iter_sync.Goals as goal
+
+pub loop-stripe-init : goal.loop-stripe-init
+loop-stripe-init g c = ([], tt, ended, walked-none g.K.PartialEq.eq (λ p. p.0))
+
+pub iter_lent-requires : goal.iter_lent-requires
+iter_lent-requires g c = callable-kept g.R.Rule.holds g.F.FnMut _ c.requires c.loop-stripe.f _ (rw (← c.look-index.ensures.same) at c.look-index.ensures.kept)
+
+pub returns-then-not-iter_lent : goal.returns-then-not-iter_lent
+returns-then-not-iter_lent g c =
+    let s = c.loop-stripe.invariant in
+    let kept = subst (KeepsAll g.R.Rule.holds) (sym c.look-index.ensures.same) c.look-index.ensures.kept in
+    record { calls = (_, _, all-append (λ (p : g.row.K.Denot × g.row.V.Denot). g.R.Rule.holds p.0 p.1) s.0 _ s.1 kept, walk-append s.2 c.if-not-iter_lent.ensures, walked-short g.K.PartialEq.eq (λ p. p.0) _ _ _ (omega arith) (walked-next g.K.PartialEq.eq (λ p. p.0) _ _ _ s.3 c.len.ensures.unique)) }
+
+pub loop-stripe-preserved : goal.loop-stripe-preserved
+loop-stripe-preserved g c =
+    let s = c.loop-stripe.invariant in
+    let kept = subst (KeepsAll g.R.Rule.holds) (sym c.look-index.ensures.same) c.look-index.ensures.kept in
+    (_, all-append (λ (p : g.row.K.Denot × g.row.V.Denot). g.R.Rule.holds p.0 p.1) s.0 _ s.1 kept, walk-append s.2 c.if-not-iter_lent.ensures, walked-next g.K.PartialEq.eq (λ p. p.0) _ _ _ s.3 c.len.ensures.unique)

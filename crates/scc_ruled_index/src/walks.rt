@@ -1,0 +1,89 @@
+//! Walks over all stripes, one after another. A walk lends its closure to each stripe in turn.
+ghost use Rattle.scc_common.specs.Walks.{CalledOn, Walks};
+ghost use Rattle.scc_index.specs.IndexWalks.{Retains};
+ghost use Rattle.scc_ruled_index.specs.Stripes.{stripes_of};
+ghost use Rattle.scc_rules.specs.Rules.{AllKeep};
+ghost use Rattle.scc_rules.specs.Walks.{TakesEach};
+ghost use Rattle.scc_stripes.specs.Stripes.{stripe_count};
+ghost use Rattle.scc_stripes.specs.Walks.{AreOfStripes};
+ghost use Rattle.std.specs.Prelude.{IfOk, List};
+
+use super::{RuledIndex, RuledIter};
+use scc_common::MakeError;
+use scc_rules::Rule;
+use std::hash::{BuildHasher, Hash};
+use std::sync::Wait;
+
+impl<K: Eq + Hash, V, R: Rule<K, V>, H: BuildHasher> RuledIndex<K, V, R, H> {
+    /// Calls `f` on the pairs, stripe after stripe, until `f` returns false. Returns false if `f` did, else true. One
+    /// stripe is locked at a time, for reading.
+    pub fn iter_sync<F: FnMut(&K, &V) -> bool>(&self, rt: &impl Wait, mut f: F) -> bool
+        requires { TakesEach R.holds F.FnMut }
+        ensures calls { (es : List (K × V)) × (last : F) × AllKeep R.holds es
+            × Walks (CalledOn F.FnMut) f es result last
+            × AreOfStripes K.eq (λ p. p.0) (stripe_count (stripes_of self.now)) es }
+    {
+        for stripe in 0..self.stripes.stripes() {
+            let guard = self.stripes.read(rt, stripe);
+            let index = guard.look();
+            let _ = index.len();
+            if !index.iter_lent(&mut f) {
+                return false;
+            }
+        }
+        true
+    }
+
+    /// Calls `f` on the pairs, stripe after stripe, and removes the version of each pair on which `f` returns false.
+    /// Then the array of the stripe may shrink. Whoever keeps a removed version still has it.
+    pub fn retain_sync<F: FnMut(&K, &V) -> bool>(&self, rt: &impl Wait, mut f: F)
+    where
+        K: Drop,
+        V: Drop,
+        requires { TakesEach R.holds F.FnMut }
+        ensures calls { (es : List (K × V)) × (stay : List (K × V)) × (last : F) × AllKeep R.holds es
+            × AllKeep R.holds stay × Retains (CalledOn F.FnMut) f es stay last
+            × AreOfStripes K.eq (λ p. p.0) (stripe_count (stripes_of self.now)) es }
+    {
+        for stripe in 0..self.stripes.stripes() {
+            let mut guard = self.stripes.write(rt, stripe);
+            guard.retain_lent(&mut f);
+            self.stripes.follow(&mut *guard);
+        }
+    }
+
+    /// Removes the versions of each stripe in turn. Whoever keeps a removed version still has it.
+    pub fn clear_sync(&self, rt: &impl Wait)
+    where
+        K: Drop,
+        V: Drop,
+    {
+        for stripe in 0..self.stripes.stripes() {
+            let mut guard = self.stripes.write(rt, stripe);
+            guard.clear_sync();
+            self.stripes.follow(&mut *guard);
+        }
+    }
+
+    /// Returns a snapshot of the versions of each stripe as it is looked at. One stripe is locked at a time, for
+    /// reading. Fails if memory is refused, or if a version has 2^63 - 1 owners.
+    pub fn iter(&self, rt: &impl Wait) -> Result<RuledIter<K, V, R>, MakeError>
+    where
+        K: Drop,
+        V: Drop,
+        ensures kept { IfOk result (AllKeep R.holds) }
+        ensures stripes { IfOk result (AreOfStripes K.eq (λ p. p.0) (stripe_count (stripes_of self.now))) }
+    {
+        let mut versions = Vec::new(self.alloc);
+        for stripe in 0..self.stripes.stripes() {
+            let guard = self.stripes.read(rt, stripe);
+            let index = guard.look();
+            let _ = index.len();
+            match index.iter_into(&mut versions) {
+                Ok(()) => {}
+                Err(e) => return Err(e),
+            }
+        }
+        Ok(RuledIter::of(versions))
+    }
+}

@@ -1,0 +1,3 @@
+pub mod KeyRules
+pub mod SetEntries
+pub mod Stripes
