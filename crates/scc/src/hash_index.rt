@@ -1,5 +1,9 @@
-//! The hash index: `HashIndex`, which threads share, and `Owned`, for one owner.
+//! The hash index: `HashIndex`, which threads share, `Owned`, for one owner, and `RuledIndex`, which keeps a rule.
+
+pub mod ruled;
+
 pub use scc_common::Version;
 pub use scc_index::locked::{Entry, OccupiedEntry, VacantEntry};
 pub use scc_index::{Iter, Owned, borrowed as owned};
+pub use scc_ruled_index::RuledIndex;
 pub use scc_shared_index::{HashIndex, Reserve};

@@ -1,3 +1,7 @@
-//! The hash set: `HashSet`, which threads share, and `Owned`, for one owner.
+//! The hash set: `HashSet`, which threads share, `Owned`, for one owner, and `RuledSet`, which keeps a rule.
+
+pub mod ruled;
+
+pub use scc_ruled_set::RuledSet;
 pub use scc_set::{Owned, entry as owned};
 pub use scc_shared_set::{HashSet, OccupiedEntry, Reserve};

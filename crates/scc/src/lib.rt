@@ -11,10 +11,10 @@ pub mod memo;
 pub mod recorded;
 pub mod stripes;
 
-pub use hash_cache::HashCache;
-pub use hash_index::HashIndex;
+pub use hash_cache::{HashCache, RuledCache};
+pub use hash_index::{HashIndex, RuledIndex};
 pub use hash_map::{HashMap, RuledMap};
-pub use hash_set::HashSet;
+pub use hash_set::{HashSet, RuledSet};
 pub use scc_common::{InsertError, KeyError, MakeError, Verdict, WalkError};
 pub use scc_fallible::TryInsertError;
 pub use scc_rules::{Anything, Rule};
