@@ -34,8 +34,7 @@ pub struct Tally {
 fn known<R: Wait>(rt: &R, answers: &Answers, request: u64) -> Option<u64>
     ensures { IfSome result (λ answer. answer ≡ answer_to request) }
 {
-    let entry = answers.get_sync(rt, &request)?;
-    Some(*entry.get())
+    answers.read_sync(rt, &request, |_, answer| *answer)
 }
 
 /// Returns the answer to `request`, from the cache or else from the service. No stripe of the cache is locked while the
