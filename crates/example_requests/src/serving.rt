@@ -4,20 +4,23 @@ ghost use Rattle.example_requests.specs.Service.{answer_to};
 ghost use Rattle.example_requests.specs.Tallies.{Counts, Serves};
 
 use crate::service::ask;
-use scc::HashCache;
+use scc::{Rule, RuledCache};
 use std::sync::Wait;
 
-/// A request with the service's answer to it. A wrong answer can't be made, so whatever a worker reads from the cache
-/// is right, whichever worker stored it.
-#[derive(Clone, Copy, Drop)]
-pub struct Answer {
-    pub request: u64,
-    pub answer: u64,
-    pub ghost right: { answer ≡ answer_to request },
+/// The rule that under a request stands the service's answer to it.
+pub struct IsAnswer;
+
+impl Rule<u64, u64> for IsAnswer {
+    ghost use Rattle.std.proofs.Common.{rules};
+
+    ghost holds = { λ request answer. answer ≡ answer_to request };
+
+    ghost alike = { λ j k answer same h. Prim.search rules };
 }
 
-/// The answers by their requests.
-pub type Answers = HashCache<u64, Answer>;
+/// The answers by their requests. Whatever a worker reads under a request is the answer to it, whichever worker stored
+/// it.
+pub type Answers = RuledCache<u64, u64, IsAnswer>;
 
 /// The numbers of hits and misses of a worker, and of the answers that its misses evicted.
 #[derive(Clone, Copy, Drop)]
@@ -31,13 +34,7 @@ pub struct Tally {
 fn known<R: Wait>(rt: &R, answers: &Answers, request: u64) -> Option<u64>
     ensures { IfSome result (λ answer. answer ≡ answer_to request) }
 {
-    let entry = answers.get_sync(rt, &request)?;
-    let found = entry.get();
-    if found.request == request {
-        Some(found.answer)
-    } else {
-        None
-    }
+    answers.read_sync(rt, &request, |_, answer| *answer)
 }
 
 /// Returns the answer to `request`, from the cache or else from the service. No stripe of the cache is locked while the
@@ -58,7 +55,7 @@ pub fn serve<R: Wait>(rt: &R, answers: &Answers, tally: &mut Tally, request: u64
         None => {
             let answer = ask(request);
             tally.misses = tally.misses.saturating_add(1);
-            if let Ok(Some(_evicted)) = answers.put_sync(rt, request, Answer { request, answer }) {
+            if let Ok(Some(_evicted)) = answers.put_sync(rt, request, answer) {
                 tally.evictions = tally.evictions.saturating_add(1);
             }
             answer

@@ -1,4 +1,4 @@
-//! Memos: a pure function with a cache of its values, for one owner, and `shared`, which threads share.
+//! A memo: a pure function with a cache of its values, for one owner.
 
 pub mod shared;
 
