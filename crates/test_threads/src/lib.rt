@@ -23,6 +23,8 @@ mod map_stripes;
 #[cfg(test)]
 mod ruled;
 #[cfg(test)]
+mod ruled_cache;
+#[cfg(test)]
 mod ruled_index;
 #[cfg(test)]
 mod ruled_set;
