@@ -1,5 +1,5 @@
 -- Pairs with unit values that keep a rule, and walks over them, as keys.
-use Rattle.std.proofs.Common.{◌≡◌, ℕ, Bool, false, List, [], ◌∷◌, ◌++◌, map, refl, ap, sym, subst, ◌∙◌}
+use Rattle.std.proofs.Common.{◌≡◌, ℕ, Bool, true, false, List, [], ◌∷◌, ◌++◌, map, refl, ap, sym, subst, ◌∙◌}
 use Rattle.std.specs.List.{flat_map, IsDistinct}
 use Rattle.std.proofs.lemmas.List.{length-map, map-append, map-id}
 use Rattle.std.proofs.lemmas.List.Elements.{All-weaker, All-map}
@@ -10,7 +10,7 @@ use Rattle.scc_common.specs.Walks.{CalledOn}
 use Rattle.scc_common.specs.PairWalks as pairs
 use Rattle.scc_rules.specs.Rules as rules
 use Rattle.scc_stripes.specs.Walks.{AreOfStripes}
-use Rattle.scc_set.specs.SetWalks.{Declines, declined_none, declined}
+use Rattle.scc_set.specs.SetWalks.{Declines, PassesAt, declined_none, declined}
 use Rattle.scc_ruled_set.specs.KeyRules.{AllKeep, ReadsKept}
 
 -- the keys of pairs that keep the rule keep it
@@ -26,6 +26,9 @@ module _ {C F K : Type 0} (gm : Mut C (Bor K × (Bor (Unit {0}) × Unit {0})) Bo
   pub Declines-keys : (s : C) (es : List (K × Unit {0})) (t : C) → pairs.Declines (CalledOn gm) s es t → Declines (CalledAt gf) (of s) (keys_of es) (of t)
   Declines-keys s es t pairs.ended = declined_none
   Declines-keys s es t (pairs.went_on {f' = f'} {p = p} {es = rest} c x) = declined (at-key s p false f' c) (Declines-keys f' rest t x)
+
+  pub PassesAt-keys : (s : C) (es : List (K × Unit {0})) (p : K × Unit {0}) → pairs.PassesAt (CalledOn gm) s es p → PassesAt (CalledAt gf) (of s) (keys_of es) p.0
+  PassesAt-keys s es p x = record { before = of x.before; last = of x.last; declines = Declines-keys s es x.before x.declines; passes = at-key x.before p true x.last x.passes }
 
 -- an answer of the map's closure at a pair that keeps the rule is an answer of the set's closure at its key
 pub reads-key : {C F K A : Type 0} (gm : Once C (Bor K × (Bor (Unit {0}) × Unit {0})) A) (m : C) (gf : Once F (Bor K × Unit {0}) A) (f : F)

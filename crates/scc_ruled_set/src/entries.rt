@@ -1,11 +1,12 @@
 //! The entries of a set under a rule. An entry holds the lock of its stripe.
 ghost use Rattle.scc_ruled_set.specs.KeyRules.{AllKeep, TakesEach};
-ghost use Rattle.scc_ruled_set.specs.SetEntries.{occupied_key, occupied_seat};
+ghost use Rattle.scc_ruled_set.specs.SetEntries.{occupied_front, occupied_key, occupied_seat, HasUniqueKeys, IsFirstOfStripe, IsLastOfStripe, IsNext, IsNextPastRemoved};
 ghost use Rattle.scc_ruled_set.specs.Stripes.{stripes_of};
-ghost use Rattle.scc_set.specs.SetWalks.{Declines};
+ghost use Rattle.scc_set.specs.SetWalks.{Declines, PassesAt};
 ghost use Rattle.scc_stripes.specs.Seats.{IsLaterSeat, IsSeatIn, seat_stripe};
+ghost use Rattle.scc_stripes.specs.Walks.{AreOfStripes};
 ghost use Rattle.std.specs.Fn.{CalledAt, TakesAt};
-ghost use Rattle.std.specs.Prelude.{◌≡◌, ◌⊎◌, List, true, IfSome};
+ghost use Rattle.std.specs.Prelude.{◌≡◌, List, IfSome, IsSomeAnd};
 
 use super::RuledSet;
 use scc_rules::Rule;
@@ -26,6 +27,8 @@ pub type OccupiedEntry<'a, K, R, H = BuildHasherDefault<FoldHasher>> = HeldKey<
 impl<K: Eq + Hash, R: Rule<K, ()>, H: BuildHasher> RuledSet<K, R, H> {
     /// Returns the entry of the first key of the first stripe that has a key, or `None` if no stripe has one.
     pub fn begin_sync(&self, rt: &impl Wait) -> Option<OccupiedEntry<'_, K, R, H>>
+        ensures first { IfSome result IsFirstOfStripe }
+        ensures unique { IfSome result (HasUniqueKeys K.eq) }
         ensures kept { IfSome result (λ o. R.holds (occupied_key o) tt) }
         ensures seat { IfSome result (λ o. IsSeatIn (stripes_of self.now) (seat_stripe (occupied_seat o))
             (occupied_seat o)) }
@@ -45,8 +48,11 @@ impl<K: Eq + Hash, R: Rule<K, ()>, H: BuildHasher> RuledSet<K, R, H> {
     ) -> Option<OccupiedEntry<'_, K, R, H>>
         requires { TakesEach R.holds P.FnMut }
         ensures kept { IfSome result (λ o. R.holds (occupied_key o) tt) }
-        ensures first { IfSome result (λ o. (ks : List K) × (q : P) × (last : P) × AllKeep R.holds ks
-            × Declines (CalledAt P.FnMut) p ks q × CalledAt P.FnMut q (occupied_key o) true last) }
+        ensures unique { IfSome result (HasUniqueKeys K.eq) }
+        ensures first { IfSome result (λ o. (ks : List K) × (q : P) × AllKeep R.holds ks
+            × AllKeep R.holds (occupied_front o) × Declines (CalledAt P.FnMut) p ks q
+            × PassesAt (CalledAt P.FnMut) q (occupied_front o) (occupied_key o)
+            × AreOfStripes K.eq (λ k. k) (seat_stripe (occupied_seat o)) ks) }
         ensures seat { IfSome result (λ o. IsSeatIn (stripes_of self.now) (seat_stripe (occupied_seat o))
             (occupied_seat o)) }
     {
@@ -94,9 +100,14 @@ impl<'a, K: Eq + Hash, R: Rule<K, ()>, H: BuildHasher> HeldKey<
     /// entry of a later stripe, or `None` if no later stripe has one. The lock of a stripe is released before the next
     /// stripe is locked. Resizes nothing.
     pub fn next_sync(self, rt: &impl Wait) -> Option<OccupiedEntry<'a, K, R, H>>
+        ensures next { (IsLastOfStripe self.entry → ⊥) → IsSomeAnd result (IsNext self.entry) }
+        ensures later { IsLastOfStripe self.entry → IfSome result IsFirstOfStripe }
         ensures kept { IfSome result (λ n. R.holds (occupied_key n) tt) }
-        ensures seat { IfSome result (λ n. (occupied_seat n ≡ occupied_seat self.entry)
-            ⊎ IsLaterSeat (occupied_seat self.entry) (occupied_seat n)) }
+        ensures stays { (IsLastOfStripe self.entry → ⊥)
+            → IfSome result (λ n. occupied_seat n ≡ occupied_seat self.entry) }
+        ensures goes_on { IsLastOfStripe self.entry
+            → IfSome result (λ n. IsLaterSeat (occupied_seat self.entry) (occupied_seat n)) }
+        ensures unique { IfSome result (HasUniqueKeys K.eq) }
     {
         match self.entry.next_sync(rt) {
             Some(entry) => Some(HeldKey { entry }),
@@ -109,9 +120,14 @@ impl<'a, K: Eq + Hash, R: Rule<K, ()>, H: BuildHasher> HeldKey<
     pub fn remove_and_sync(self, rt: &impl Wait) -> (K, Option<OccupiedEntry<'a, K, R, H>>)
         ensures key { result.0 ≡ occupied_key self.entry }
         ensures kept { R.holds result.0 tt }
-        ensures next { IfSome result.1 (λ n. R.holds (occupied_key n) tt) }
-        ensures seat { IfSome result.1 (λ n. (occupied_seat n ≡ occupied_seat self.entry)
-            ⊎ IsLaterSeat (occupied_seat self.entry) (occupied_seat n)) }
+        ensures next { (IsLastOfStripe self.entry → ⊥) → IsSomeAnd result.1 (IsNextPastRemoved self.entry) }
+        ensures later { IsLastOfStripe self.entry → IfSome result.1 IsFirstOfStripe }
+        ensures next_kept { IfSome result.1 (λ n. R.holds (occupied_key n) tt) }
+        ensures stays { (IsLastOfStripe self.entry → ⊥)
+            → IfSome result.1 (λ n. occupied_seat n ≡ occupied_seat self.entry) }
+        ensures goes_on { IsLastOfStripe self.entry
+            → IfSome result.1 (λ n. IsLaterSeat (occupied_seat self.entry) (occupied_seat n)) }
+        ensures unique { IfSome result.1 (HasUniqueKeys K.eq) }
     {
         let ((key, _), next) = self.entry.remove_and_sync(rt);
         match next {
