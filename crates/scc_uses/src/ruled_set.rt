@@ -44,7 +44,7 @@ pub fn half_of<W: Wait>(rt: &W, evens: &Evens, k: u64) -> Option<u64>
 pub fn take_half<W: Wait>(rt: &W, evens: &Evens, k: u64) -> Option<u64>
     ensures { IfSome result (λ half. 2 * half ≡ k) }
 {
-    match evens.remove_sync(rt, &(k / 2)) {
+    match evens.remove_sync(rt, &k) {
         Some(q) => Some(q / 2),
         None => None,
     }
