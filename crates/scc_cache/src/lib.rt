@@ -60,8 +60,8 @@ impl<K: Eq + Hash, V, H: BuildHasher> Model for Owned<K, V, H> {
 }
 
 impl<K: Eq + Hash, V, H: BuildHasher> Owned<K, V, H> {
-    // Returns the allocator of the cache.
-    pub(crate) fn allocator(&self) -> Global {
+    /// Returns the allocator of the cache.
+    pub fn allocator(&self) -> Global {
         self.table.allocator()
     }
 
@@ -118,7 +118,7 @@ impl<K: Eq + Hash, V, H: BuildHasher> Owned<K, V, H> {
             self.now.contents k.now }
     {
         let hash = self.table.hash(k);
-        match self.find(hash, k) {
+        match self.place_of(hash, k) {
             Some(_) => true,
             None => false,
         }
@@ -135,9 +135,9 @@ impl<K: Eq + Hash, V, H: BuildHasher> Owned<K, V, H> {
             self.now.contents k.now) }
     {
         let hash = self.table.hash(k);
-        match self.find(hash, k) {
+        match self.place_of(hash, k) {
             Some(place) => {
-                let (key, value) = self.pair_in(place);
+                let (key, value) = self.pair_at(place);
                 Some(f(key, value))
             }
             None => None,
@@ -157,9 +157,9 @@ impl<K: Eq + Hash, V, H: BuildHasher> Owned<K, V, H> {
         ensures { PutsByRule K.eq ⟦<H as Hashes<K>>⟧.hash_of self.old (k, v) result self.new }
     {
         let hash = self.table.hash(&k);
-        match self.find(hash, &k) {
+        match self.place_of(hash, &k) {
             Some(_) => Err(InsertError::Exists((k, v))),
-            None => match self.put_at(hash, k, v) {
+            None => match self.put_new(hash, k, v) {
                 Ok((evicted, _)) => Ok(evicted),
                 Err(pair) => Err(InsertError::Memory(pair)),
             },
@@ -173,7 +173,7 @@ impl<K: Eq + Hash, V, H: BuildHasher> Owned<K, V, H> {
         ensures { RemovesByRule K.eq ⟦<H as Hashes<K>>⟧.hash_of self.old k.now result self.new }
     {
         let hash = self.table.hash(k);
-        match self.find(hash, k) {
+        match self.place_of(hash, k) {
             Some(place) => Some(self.remove_at(place)),
             None => None,
         }
@@ -190,7 +190,7 @@ impl<K: Eq + Hash, V, H: BuildHasher> Owned<K, V, H> {
         ensures { RemovesIfByRule K.eq ⟦<H as Hashes<K>>⟧.hash_of F.FnOnce f self.old k.now result self.new }
     {
         let hash = self.table.hash(k);
-        let place = self.find(hash, k)?;
+        let place = self.place_of(hash, k)?;
         if f(self.value_mut_at(place)) {
             Some(self.remove_at(place))
         } else {

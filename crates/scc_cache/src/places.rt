@@ -19,7 +19,7 @@ use std::hash::{BuildHasher, Hash};
 
 impl<K: Eq + Hash, V, H: BuildHasher> Owned<K, V, H> {
     /// Returns the hash of `k`.
-    pub(crate) fn hash_of(&self, k: &K) -> u64
+    pub fn hash_of(&self, k: &K) -> u64
         ensures { result ≡ hash_in ⟦<H as Hashes<K>>⟧.hash_of self.now.contents k.now }
     {
         self.table.hash(k)
@@ -27,7 +27,7 @@ impl<K: Eq + Hash, V, H: BuildHasher> Owned<K, V, H> {
 
     /// Returns the place of the pair of `k`, or `None`. `hash` must be the hash of `k`.
     #[inline(always)]
-    pub(crate) fn find(&self, hash: u64, k: &K) -> Option<Place>
+    pub fn place_of(&self, hash: u64, k: &K) -> Option<Place>
         requires { hash ≡ hash_in ⟦<H as Hashes<K>>⟧.hash_of self.now.contents k.now }
         ensures { MatchOption result (IsLacking (hash_in ⟦<H as Hashes<K>>⟧.hash_of self.now.contents) K.eq
             self.now.contents k.now) (IsFound (hash_in ⟦<H as Hashes<K>>⟧.hash_of self.now.contents) K.eq
@@ -38,7 +38,7 @@ impl<K: Eq + Hash, V, H: BuildHasher> Owned<K, V, H> {
 
     /// Returns the key and the value at `place`.
     #[inline(always)]
-    pub(crate) fn pair_in(&self, place: Place) -> (&K, &V)
+    pub fn pair_at(&self, place: Place) -> (&K, &V)
         requires { IsPlace self.now.contents place }
         ensures { slice_get (list_of self.now.contents (spot_of self.now.contents place).bucket)
             (spot_of self.now.contents place).slot ≡ Some (result.0.now, result.1.now) }
@@ -50,12 +50,7 @@ impl<K: Eq + Hash, V, H: BuildHasher> Owned<K, V, H> {
     /// the hash of `k`. If there is no array and memory for one is refused, the pair comes back and nothing changes. If
     /// it succeeds, the mark of a refused doubling goes.
     #[inline(always)]
-    pub(crate) fn put_at(
-        &mut self,
-        hash: u64,
-        k: K,
-        v: V,
-    ) -> Result<(EvictedEntry<K, V>, Place), (K, V)>
+    pub fn put_new(&mut self, hash: u64, k: K, v: V) -> Result<(EvictedEntry<K, V>, Place), (K, V)>
         requires hashed { hash ≡ hash_in ⟦<H as Hashes<K>>⟧.hash_of self.old.contents k }
         requires lacking { IsLacking (hash_in ⟦<H as Hashes<K>>⟧.hash_of self.old.contents) K.eq self.old.contents k }
         ensures step { IfOk result (λ r. PutsNew (hash_in ⟦<H as Hashes<K>>⟧.hash_of self.old.contents) K.eq self.old (k, v)
@@ -87,7 +82,7 @@ impl<K: Eq + Hash, V, H: BuildHasher> Owned<K, V, H> {
     /// Makes the pair of `k` the most recent of its bucket, and returns its new place, or `None` if no key equals `k`.
     /// `hash` must be the hash of `k`. If the bucket waits, it is relocated first.
     #[inline(always)]
-    pub(crate) fn refresh(&mut self, hash: u64, k: &K) -> Option<Place>
+    pub fn refresh(&mut self, hash: u64, k: &K) -> Option<Place>
         requires { hash ≡ hash_in ⟦<H as Hashes<K>>⟧.hash_of self.old.contents k.now }
         ensures step { MatchOption result (IsLacking (hash_in ⟦<H as Hashes<K>>⟧.hash_of self.old.contents) K.eq
             self.old.contents k.now × (self.new ≡ self.old))
@@ -149,7 +144,7 @@ impl<K: Eq + Hash, V, H: BuildHasher> Owned<K, V, H> {
     /// Removes the pair at `place` and returns it. The other pairs of its list stay in their order. Then the array may
     /// shrink.
     #[inline(always)]
-    pub(crate) fn remove_at(&mut self, place: Place) -> (K, V)
+    pub fn remove_at(&mut self, place: Place) -> (K, V)
         requires { IsPlace self.old.contents place }
         ensures pair { slice_get (list_of self.old.contents (spot_of self.old.contents place).bucket)
             (spot_of self.old.contents place).slot ≡ Some result }
@@ -165,7 +160,7 @@ impl<K: Eq + Hash, V, H: BuildHasher> Owned<K, V, H> {
     }
 
     /// Returns the value at `place`, to write. The order of the pairs stays.
-    pub(crate) fn value_mut_at(&mut self, place: Place) -> &mut V
+    pub fn value_mut_at(&mut self, place: Place) -> &mut V
         requires { IsPlace self.old.contents place }
         ensures* writes_back { sem 𝓛 (lends_value K.row V.row H.row H.Hasher.row K.Hash H.BuildHasher H.Hasher.Hasher
             self.entry place result) }
@@ -179,7 +174,7 @@ impl<K: Eq + Hash, V, H: BuildHasher> Owned<K, V, H> {
     }
 
     /// Returns the key at `place`, and the value to write. The order of the pairs stays.
-    pub(crate) fn parts_mut_at(&mut self, place: Place) -> (&K, &mut V)
+    pub fn parts_mut_at(&mut self, place: Place) -> (&K, &mut V)
         requires { IsPlace self.old.contents place }
         ensures* writes_back { sem 𝓛 (lends_value K.row V.row H.row H.Hasher.row K.Hash H.BuildHasher H.Hasher.Hasher
             self.entry place result.1) }
@@ -190,7 +185,7 @@ impl<K: Eq + Hash, V, H: BuildHasher> Owned<K, V, H> {
     }
 
     /// Writes `value` at `place`, and returns the old value.
-    pub(crate) fn write_at(&mut self, place: Place, value: V) -> V
+    pub fn write_at(&mut self, place: Place, value: V) -> V
         requires { IsPlace self.old.contents place }
         ensures old { (p : K × V) × (slice_get (list_of self.old.contents (spot_of self.old.contents place).bucket)
             (spot_of self.old.contents place).slot ≡ Some p) × (result ≡ p.1) }
@@ -201,7 +196,7 @@ impl<K: Eq + Hash, V, H: BuildHasher> Owned<K, V, H> {
     }
 
     /// Puts `key` in the place of the key at `place`, which must equal it, and returns the old key.
-    pub(crate) fn replace_key_at(&mut self, place: Place, key: K) -> K
+    pub fn replace_key_at(&mut self, place: Place, key: K) -> K
         requires within { IsPlace self.old.contents place }
         requires same { (p : K × V) → slice_get (list_of self.old.contents (spot_of self.old.contents place).bucket)
             (spot_of self.old.contents place).slot ≡ Some p → K.eq key p.0 ≡ true }

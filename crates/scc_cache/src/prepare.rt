@@ -29,7 +29,7 @@ impl<K: Eq + Hash, V, H: BuildHasher> Owned<K, V, H> {
         ensures state { IsCacheState K.eq (hash_in ⟦<H as Hashes<K>>⟧.hash_of self.new.contents) self.new }
     {
         let hash = self.table.hash(k);
-        match self.find(hash, k) {
+        match self.place_of(hash, k) {
             Some(_) => Ok(()),
             None => match self.table.prepare_within(hash, self.maximum) {
                 Ok(()) => Ok(()),
@@ -61,7 +61,7 @@ impl<K: Eq + Hash, V, H: BuildHasher> Owned<K, V, H> {
             self.now.contents k.now (r.0.now, r.1.now)) }
     {
         let hash = self.table.hash(k);
-        match self.find(hash, k) {
+        match self.place_of(hash, k) {
             Some(_) => None,
             None => self.first_of_full(hash),
         }

@@ -24,8 +24,8 @@ impl<K: Eq + Hash, V, H: BuildHasher> Owned<K, V, H> {
             self.now.contents k.now ≡ Some p) × (V.is_infallible p.1 → ⊥)) }
     {
         let hash = self.table.hash(k);
-        match self.find(hash, k) {
-            Some(place) => Ok(Some(self.pair_in(place).1.clone()?)),
+        match self.place_of(hash, k) {
+            Some(place) => Ok(Some(self.pair_at(place).1.clone()?)),
             None => Ok(None),
         }
     }
@@ -40,8 +40,8 @@ impl<K: Eq + Hash, V, H: BuildHasher> Owned<K, V, H> {
             self.now.contents k.now ≡ Some p) × (K.is_infallible p.0 → ⊥)) }
     {
         let hash = self.table.hash(k);
-        match self.find(hash, k) {
-            Some(place) => Ok(Some(self.pair_in(place).0.clone()?)),
+        match self.place_of(hash, k) {
+            Some(place) => Ok(Some(self.pair_at(place).0.clone()?)),
             None => Ok(None),
         }
     }
@@ -57,9 +57,9 @@ impl<K: Eq + Hash, V, H: BuildHasher> Owned<K, V, H> {
             self.now.contents k.now ≡ Some p) × (K.is_infallible p.0 × V.is_infallible p.1 → ⊥)) }
     {
         let hash = self.table.hash(k);
-        match self.find(hash, k) {
+        match self.place_of(hash, k) {
             Some(place) => {
-                let (key, value) = self.pair_in(place);
+                let (key, value) = self.pair_at(place);
                 let key = key.clone()?;
                 let value = value.clone()?;
                 Ok(Some((key, value)))

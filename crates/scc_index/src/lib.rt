@@ -76,8 +76,8 @@ fn share<K, V>(entry: Option<&SharedVersion<K, V>>) -> Result<Option<Arc<Version
 }
 
 impl<K: Eq + Hash, V, H: BuildHasher> Owned<K, V, H> {
-    // Returns the allocator of the index.
-    pub(crate) fn allocator(&self) -> Global {
+    /// Returns the allocator of the index.
+    pub fn allocator(&self) -> Global {
         self.table.allocator()
     }
 

@@ -15,14 +15,14 @@ use std::hash::{BuildHasher, Hash};
 
 impl<K: Eq + Hash, V, H: BuildHasher> Owned<K, V, H> {
     /// Returns the hash of `k`.
-    pub(crate) fn hash_of(&self, k: &K) -> u64
+    pub fn hash_of(&self, k: &K) -> u64
         ensures { result ≡ hash_in ⟦<H as Hashes<K>>⟧.hash_of self.now k.now }
     {
         self.table.hash(k)
     }
 
     /// Returns the place of the version of `k`, or `None`. `hash` must be the hash of `k`.
-    pub(crate) fn place_of(&self, hash: u64, k: &K) -> Option<Place>
+    pub fn place_of(&self, hash: u64, k: &K) -> Option<Place>
         requires { hash ≡ hash_in ⟦<H as Hashes<K>>⟧.hash_of self.now k.now }
         ensures place { MatchOption result (find K.eq (entries self.now) k.now ≡ None)
             (IsFoundAt (λ e. K.eq k.now e.0) self.now) }
@@ -42,7 +42,7 @@ impl<K: Eq + Hash, V, H: BuildHasher> Owned<K, V, H> {
     }
 
     /// Removes the version at `place`. Then the array may shrink.
-    pub(crate) fn remove_at(&mut self, place: Place)
+    pub fn remove_at(&mut self, place: Place)
     where
         K: Drop,
         V: Drop,
@@ -56,7 +56,7 @@ impl<K: Eq + Hash, V, H: BuildHasher> Owned<K, V, H> {
 
     /// Inserts a version of a pair whose key is new, and returns its place. `hash` must be the hash of `k`. If memory
     /// is refused, the pair comes back.
-    pub(crate) fn insert_new(&mut self, hash: u64, k: K, v: V) -> Result<Place, (K, V)>
+    pub fn insert_new(&mut self, hash: u64, k: K, v: V) -> Result<Place, (K, V)>
         requires hashed { hash ≡ hash_in ⟦<H as Hashes<K>>⟧.hash_of self.old k }
         requires absent { find K.eq (entries self.old) k ≡ None }
         ensures { InsertsNewByRule K.eq ⟦<H as Hashes<K>>⟧.hash_of self.old (k, v) result self.new }
@@ -66,7 +66,7 @@ impl<K: Eq + Hash, V, H: BuildHasher> Owned<K, V, H> {
 
     /// Returns a version of `value` and a clone of the key at `place`. If memory is refused, the clone fails or the
     /// clone differs from the key, `value` comes back.
-    pub(crate) fn next_version(&self, place: Place, value: V) -> Result<SharedVersion<K, V>, V>
+    pub fn next_version(&self, place: Place, value: V) -> Result<SharedVersion<K, V>, V>
     where
         K: Clone + Drop,
         requires { IsPlace self.now place }
@@ -91,7 +91,7 @@ impl<K: Eq + Hash, V, H: BuildHasher> Owned<K, V, H> {
     }
 
     /// Puts `version` in the place of the version at `place`, whose key must equal its key.
-    pub(crate) fn put_at(&mut self, place: Place, version: SharedVersion<K, V>)
+    pub fn put_at(&mut self, place: Place, version: SharedVersion<K, V>)
     where
         K: Drop,
         V: Drop,

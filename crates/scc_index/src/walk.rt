@@ -114,7 +114,7 @@ impl<K: Eq + Hash, V, H: BuildHasher> Owned<K, V, H> {
     }
 
     /// Removes the version at `place` without a resize, and returns the place of the version that followed.
-    pub(crate) fn take_with_next(&mut self, place: Place) -> Option<Place>
+    pub fn take_with_next(&mut self, place: Place) -> Option<Place>
     where
         K: Drop,
         V: Drop,
@@ -132,7 +132,7 @@ impl<K: Eq + Hash, V, H: BuildHasher> Owned<K, V, H> {
 
     /// Returns the place of the first pair on which `p` returns true, or `None`. Calls `p` on the pairs in the order
     /// of the list until it returns true.
-    pub(crate) fn first_passing<P: FnMut(&K, &V) -> bool>(&self, p: &mut P) -> Option<Place>
+    pub fn first_passing<P: FnMut(&K, &V) -> bool>(&self, p: &mut P) -> Option<Place>
         requires { CallableWhile P.FnMut false p.old (entries self.now) }
         ensures { MatchOption result (Declines (CalledOn P.FnMut) p.old (entries self.now) p.new)
             (λ place. IsPlace self.now place

@@ -120,7 +120,7 @@ impl<'a, K: Eq + Hash, V, H: BuildHasher> VacantEntry<'a, K, V, H> {
     {
         let hash = self.hash;
         let key = self.key;
-        match self.guard.put_at(hash, key, value) {
+        match self.guard.put_new(hash, key, value) {
             Ok((evicted, _)) => Ok(evicted),
             Err(pair) => Err(InsertError::Memory(pair)),
         }
@@ -146,7 +146,7 @@ impl<'a, K: Eq + Hash, V, H: BuildHasher> VacantEntry<'a, K, V, H> {
             rest,
             of: _,
         } = self;
-        match guard.put_at(hash, key, value) {
+        match guard.put_new(hash, key, value) {
             Ok((evicted, place)) => Ok((evicted, HeldOccupied::at(guard, place, rest))),
             Err(pair) => Err(InsertError::Memory(pair)),
         }

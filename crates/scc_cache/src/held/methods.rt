@@ -20,14 +20,14 @@ impl<G: Guard<Inner = Owned<K, V, H>>, N, K: Eq + Hash, V, H: BuildHasher> HeldO
     pub fn key(&self) -> &K
         ensures { result.now ≡ (occupied_pair self.now).0 }
     {
-        self.guard.look().pair_in(self.place).0
+        self.guard.look().pair_at(self.place).0
     }
 
     /// Returns the value.
     pub fn get(&self) -> &V
         ensures { result.now ≡ (occupied_pair self.now).1 }
     {
-        self.guard.look().pair_in(self.place).1
+        self.guard.look().pair_at(self.place).1
     }
 
     /// Returns the value, to write. The order of the pairs stays.

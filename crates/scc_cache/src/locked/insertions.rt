@@ -115,7 +115,7 @@ impl<'a, K: Eq + Hash, V, H: BuildHasher> Entry<'a, K, V, H> {
                     of: _,
                 } = entry;
                 match f(&key) {
-                    Ok(value) => match guard.put_at(hash, key, value) {
+                    Ok(value) => match guard.put_new(hash, key, value) {
                         Ok((evicted, place)) => {
                             Ok((evicted, HeldOccupied::at(guard, place, rest)))
                         }

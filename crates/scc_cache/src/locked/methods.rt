@@ -83,7 +83,7 @@ impl<'a, K: Eq + Hash, V, H: BuildHasher> VacantEntry<'a, K, V, H> {
             rest,
             of: _,
         } = self;
-        match guard.put_at(hash, key, value) {
+        match guard.put_new(hash, key, value) {
             Ok((evicted, place)) => Ok((evicted, HeldOccupied::at(guard, place, rest))),
             Err(pair) => Err(InsertError::Memory(pair)),
         }

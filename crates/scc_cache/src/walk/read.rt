@@ -65,7 +65,7 @@ impl<K: Eq + Hash, V, H: BuildHasher> Owned<K, V, H> {
     }
 
     /// Returns the place after `place`, or `None` if `place` is the last.
-    pub(crate) fn next_place(&self, place: Place) -> Option<Place>
+    pub fn next_place(&self, place: Place) -> Option<Place>
         requires { IsPlace self.now.contents place }
         ensures { MatchOption result (suc (index_of self.now.contents place) ≡ length (entries self.now.contents))
             (StandsAt self.now.contents (suc (index_of self.now.contents place))) }
@@ -74,7 +74,7 @@ impl<K: Eq + Hash, V, H: BuildHasher> Owned<K, V, H> {
     }
 
     /// Removes the pair at `place` without a resize, and returns it with the place of the pair that followed.
-    pub(crate) fn take_with_next(&mut self, place: Place) -> ((K, V), Option<Place>)
+    pub fn take_with_next(&mut self, place: Place) -> ((K, V), Option<Place>)
         requires { IsPlace self.old.contents place }
         ensures { TakesOutWithNext self.old place result self.new }
     {

@@ -87,7 +87,7 @@ impl<K: Eq + Hash, V, H: BuildHasher> Owned<K, V, H> {
     }
 
     /// Calls `f` on the pair at `place`, with the value to write.
-    pub(crate) fn visit<R, F: FnMut(&K, &mut V) -> R>(&mut self, place: Place, f: &mut F) -> R
+    pub fn visit<R, F: FnMut(&K, &mut V) -> R>(&mut self, place: Place, f: &mut F) -> R
         requires within { IsPlace self.old.contents place }
         requires callable { (p : K × V) → slice_get (entries self.old.contents) (index_of self.old.contents place)
             ≡ Some p → TakesToWrite F.FnMut f.old p }

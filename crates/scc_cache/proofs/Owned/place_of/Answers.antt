@@ -3,7 +3,7 @@ use Rattle.scc_common.specs.Contents.{bucket_count, settings_of}
 use Rattle.scc_common.specs.Hashing.{hash_of}
 use Rattle.scc_common.specs.Routing.{bucket_number}
 use Rattle.scc_cache.proofs.Caching.{found-or-lacking}
-use Rattle.scc_cache.proofs.Owned.find.Goals as goal
+use Rattle.scc_cache.proofs.Owned.place_of.Goals as goal
 
 pub returns : goal.returns
 returns g c =

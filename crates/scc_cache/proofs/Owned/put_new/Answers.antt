@@ -15,7 +15,7 @@ use Rattle.scc_cache.specs.Caches.{Cached, IsCacheState}
 use Rattle.scc_cache.specs.ListSteps.{PutsPair}
 use Rattle.scc_cache.proofs.LookUps.{finds-put}
 use Rattle.scc_cache.proofs.Relocations.{put-relocates}
-use Rattle.scc_cache.proofs.Owned.put_at.Goals as goal
+use Rattle.scc_cache.proofs.Owned.put_new.Goals as goal
 
 pub put_within-evicted-requires-clause-new : goal.put_within-evicted-requires-clause-new
 put_within-evicted-requires-clause-new g c =

@@ -1,7 +1,7 @@
 use Rattle.std.proofs.Common.{sym, subst}
 use Rattle.scc_table.specs.Places.{IsPlace, spot_of}
 use Rattle.scc_table.proofs.TakenFrom.{got-there}
-use Rattle.scc_cache.proofs.Owned.pair_in.Goals as goal
+use Rattle.scc_cache.proofs.Owned.pair_at.Goals as goal
 
 pub pair_at-requires : goal.pair_at-requires
 pair_at-requires g c = subst (λ z. IsPlace z.contents c.args.place) (sym c.self.view_is) c.requires
