@@ -10,7 +10,7 @@ use Rattle.scc_common.specs.Contents.{entries, lists_of}
 use Rattle.scc_common.specs.Replies.{HasKey}
 use Rattle.scc_common.specs.declared.errors.InsertError.{InsertError}
 use Rattle.scc_common.specs.declared.errors.InsertError.TheVariants.{Exists, Memory}
-use Rattle.scc_cache.specs.CacheSteps.{AnswersOn, ChangesLists, IsAbsent, Puts, Removes, list_number}
+use Rattle.scc_cache.specs.CacheSteps.{AnswersOn, ChangesLists, IsAbsent, Puts, PutsNew, Removes, list_number}
 use Rattle.scc_cache.specs.CacheWalks.{RemovesIf, missing, declined, removed}
 use Rattle.scc_cache.specs.Caches.{Cached}
 use Rattle.scc_cache.specs.ListSteps.{IsThere, PutsPair, Refreshes, Rewrites, list_for}
@@ -58,10 +58,13 @@ module _ {K V : Type 0} (eq : K → K → Bool) (holds : K → V → Type 0) (al
     kept-put v (Err (Memory q)) d s new h = subst (λ z. KeepsAll holds z.contents) (sym s.3) h
 
     -- the pair that a put evicts keeps the rule
-    pub evicts-kept : (v : V) (r : Result (Option (K × V)) (InsertError K V)) (d : Cached (K × V) S) → Puts hash eq c (k, v) r d → KeepsAll holds c.contents → IfOk r (IsEvictedFor eq holds k)
-    evicts-kept v (Ok x) d (absent, (grown, grows, puts)) h =
+    pub evicts-new : (v : V) (x : Option (K × V)) (d : Cached (K × V) S) → PutsNew hash eq c (k, v) x d → KeepsAll holds c.contents → IsEvictedFor eq holds k x
+    evicts-new v x d (grown, grows, puts) h =
         let P : K × V → Type 0 = λ p. holds p.0 p.1 in
         first-kept holds eq (list_number hash c.contents) (k, v) x (lists_of grown.contents) (lists_of d.contents) puts.lists (in-lists P grown.contents (all-grown P (λ e. hash e.0) c.maximum _ c.contents grown.contents grows.grows h))
+
+    pub evicts-kept : (v : V) (r : Result (Option (K × V)) (InsertError K V)) (d : Cached (K × V) S) → Puts hash eq c (k, v) r d → KeepsAll holds c.contents → IfOk r (IsEvictedFor eq holds k)
+    evicts-kept v (Ok x) d s h = evicts-new v x d s.1 h
     evicts-kept v (Err e) d s h = tt
 
     pub kept-removed : (r : Option (K × V)) (d : Cached (K × V) S) → Removes hash eq c k r d → KeepsAll holds c.contents → KeepsAll holds d.contents

@@ -1,4 +1,6 @@
+mod AtEntries
 mod CachePairs
 mod CacheWalks
+mod KeptPlaces
 mod Resized
 mod SizesLemmas

@@ -1,3 +1,5 @@
+pub mod Entries
 pub mod Evictions
+pub mod Places
 pub mod SharedSizes
 pub mod Stripes

@@ -7,6 +7,7 @@ ghost use Rattle.std.specs.Prelude.{◌≡◌, ◌⊎◌, IfErr, IfOk, IfSome};
 
 mod making;
 mod parts;
+mod places;
 mod walks;
 
 use scc_cache::{EvictedEntry, Owned};

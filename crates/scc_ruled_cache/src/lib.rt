@@ -9,12 +9,14 @@ ghost use Rattle.scc_stripes.specs.Stripes.{stripe_bits};
 ghost use Rattle.std.specs.Prelude.{◌≡◌, ℕ, max, IfOk};
 
 mod calls;
+mod entries;
 mod kept;
 mod making;
 mod sizes;
 mod walks;
 mod whole;
 
+pub use entries::{Entry, OccupiedEntry, ReplaceResult, VacantEntry};
 pub use kept::Kept;
 use scc_buckets::sizes::slots_for;
 use scc_cache::{DEFAULT_MAXIMUM_CAPACITY, EvictedEntry};
@@ -30,7 +32,8 @@ use std::hash::{BuildHasher, BuildHasherDefault, FoldHasher, Hash};
 /// a lock, and a call takes the lock of the stripe of its key. Each stripe has its share of the maximum, and evicts its
 /// pairs on its own.
 ///
-/// A closure that a call runs, and that makes a call on the same stripe, waits for itself forever.
+/// A thread that holds an entry, or a closure that a call runs, and that makes a call on the same stripe, waits for
+/// itself forever.
 #[derive(Drop)]
 pub struct RuledCache<
     K: Eq + Hash,

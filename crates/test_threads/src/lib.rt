@@ -25,6 +25,8 @@ mod ruled;
 #[cfg(test)]
 mod ruled_cache;
 #[cfg(test)]
+mod ruled_cache_entries;
+#[cfg(test)]
 mod ruled_index;
 #[cfg(test)]
 mod ruled_set;

@@ -1,0 +1,11 @@
+use Rattle.scc_cache.proofs.Entries.{entry-listed}
+use Rattle.std.proofs.Common.{refl, sym}
+use Rattle.scc_ruled_cache.proofs.entries.VacantEntry.put_entry.Goals as goal
+
+pub returns-in-Ok-clause-put : goal.returns-in-Ok-clause-put
+returns-in-Ok-clause-put g c = record {
+  pair = sym (entry-listed c.put_new.new.self.contents c.in-Ok.place _ (c.args.self.key, c.args.value) c.in-Ok.ensures.here.1);
+  seat = refl;
+  evicted = c.in-Ok.ensures.evicted;
+  step = rw (← c.deref_mut.ensures.value) c.in-Ok.ensures.step;
+}

@@ -1,0 +1,22 @@
+use Rattle.std.proofs.Common.{ap, sym, subst}
+use Rattle.scc_cache.proofs.Entries.{listed-entry}
+use Rattle.scc_common.specs.Pairs.{with_pair_value}
+use Rattle.scc_table.specs.Placed.{entry_of}
+use Rattle.scc_table.specs.Places.{IsPlace}
+use Rattle.scc_ruled_cache.specs.Places.{IsPairAt}
+use Rattle.scc_ruled_cache.proofs.KeptPlaces.{kept-pair, kept-written}
+use Rattle.scc_ruled_cache.proofs.kept.Kept.write_at.Goals as goal
+
+pub invariant_of-self : goal.invariant_of-self
+invariant_of-self g c =
+    let m = c.self.inside.cache.contents in
+    let within : IsPlace m c.args.place = subst (λ n. IsPlace n.contents c.args.place) (sym c.self.view_is) c.requires.within in
+    let kept : (p : g.row.K.Denot × g.row.V.Denot) → IsPairAt m c.args.place p → g.R.Rule.holds p.0 c.args.value = subst (λ n. (p : g.row.K.Denot × g.row.V.Denot) → IsPairAt n.contents c.args.place p → g.R.Rule.holds p.0 c.args.value) (sym c.self.view_is) c.requires.kept in
+    kept-written g.R.Rule.holds m c.args.place within with_pair_value c.args.value c.write_at.new.self.contents (ap (λ n. n.contents) c.write_at.ensures.new) (kept (entry_of m c.args.place within) (listed-entry m c.args.place within)) c.self.invariant
+
+pub returns-clause-old : goal.returns-clause-old
+returns-clause-old g c =
+    let m = c.self.inside.cache.contents in
+    let within : IsPlace m c.args.place = subst (λ n. IsPlace n.contents c.args.place) (sym c.self.view_is) c.requires.within in
+    let v = c.write_at.ensures.old in
+    rw (← c.self.view_is) (v.0, v.1, v.2, kept-pair g.R.Rule.holds m c.args.place within v.0 v.1 c.self.invariant)
