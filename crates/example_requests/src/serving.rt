@@ -30,11 +30,13 @@ pub struct Tally {
     pub evictions: u64,
 }
 
-// Returns the stored answer to `request`, or `None` if there is none.
+// Returns the stored answer to `request`, which becomes the most recent of its bucket, or `None` if there is none. So the
+// cache keeps what is asked for most.
 fn known<R: Wait>(rt: &R, answers: &Answers, request: u64) -> Option<u64>
     ensures { IfSome result (λ answer. answer ≡ answer_to request) }
 {
-    answers.read_sync(rt, &request, |_, answer| *answer)
+    let entry = answers.get_sync(rt, &request)?;
+    Some(*entry.get())
 }
 
 /// Returns the answer to `request`, from the cache or else from the service. No stripe of the cache is locked while the

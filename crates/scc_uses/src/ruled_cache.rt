@@ -2,7 +2,7 @@
 ghost use Rattle.std.specs.Prelude.{◌≡◌, IfSome};
 
 use crate::shared_requests::Service;
-use scc_ruled_cache::RuledCache;
+use scc_ruled_cache::{Entry, RuledCache};
 use scc_rules::Rule;
 use std::marker::PhantomData;
 use std::sync::Wait;
@@ -64,5 +64,28 @@ pub fn displaced<S: Service, W: Wait>(
     match answers.put_sync(rt, request, answer) {
         Ok(evicted) => evicted,
         Err(_) => None,
+    }
+}
+
+/// Returns the answer to `request`, which another thread may have stored, and the answer that had to go for it, with its
+/// request, if one had to. The stripe of the request is locked while the service is asked.
+pub fn served_by_entry<S: Service, W: Wait>(
+    rt: &W,
+    service: &S,
+    answers: &Answers<S>,
+    request: u64,
+) -> (u64, Option<(u64, u64)>)
+    ensures answer { result.0 ≡ S.answer_to request }
+    ensures gone { IfSome result.1 (λ old. old.1 ≡ S.answer_to old.0) }
+{
+    match answers.entry_sync(rt, request) {
+        Entry::Occupied(entry) => (*entry.get(), None),
+        Entry::Vacant(entry) => {
+            let answer = service.ask(*entry.key());
+            match entry.put_entry(answer) {
+                Ok((evicted, _entry)) => (answer, evicted),
+                Err(_) => (answer, None),
+            }
+        }
     }
 }

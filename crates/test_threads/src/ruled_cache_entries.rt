@@ -106,7 +106,10 @@ fn replaced<R: Wait>(rt: &R, cache: &Numbers, key: u64) -> Option<(u64, u64)> {
 
 // Adds 1 to the value of 1, if there is one, and returns the value.
 fn modified<R: Wait>(rt: &R, cache: &Numbers) -> Option<u64> {
-    match cache.entry_sync(rt, 1).and_modify(|v| *v = v.wrapping_add(1)) {
+    match cache
+        .entry_sync(rt, 1)
+        .and_modify(|v| *v = v.wrapping_add(1))
+    {
         Entry::Occupied(entry) => Some(entry.remove()),
         Entry::Vacant(entry) => {
             let _key = entry.into_key();
@@ -124,7 +127,11 @@ fn entries_of_a_ruled_cache_answer_as_plain_ones(rt: HostRuntime) -> Result<(), 
     expect_eq(&rt, written(&rt, &cache, 5), Some((50, 5, (5, 52))));
     expect_eq(&rt, written(&rt, &cache, 5), None);
     expect_eq(&rt, value_after(&rt, &cache, &Put::Set, 8), Some(8));
-    expect_eq(&rt, (modified(&rt, &cache), modified(&rt, &cache)), (Some(9), None));
+    expect_eq(
+        &rt,
+        (modified(&rt, &cache), modified(&rt, &cache)),
+        (Some(9), None),
+    );
     Ok(())
 }
 
