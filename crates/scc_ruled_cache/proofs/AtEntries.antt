@@ -1,5 +1,5 @@
 -- Lemmas about an entry of a locked stripe.
-use Rattle.std.proofs.Common.{◌≡◌, ◌∙◌, Bool, Some, Option, Result, Ok, Err, sym, ap, subst}
+use Rattle.std.proofs.Common.{◌≡◌, ◌∙◌, ◌+◌, Bool, Option, Result, Ok, Err, length, sym, ap, subst, length-set}
 use Rattle.std.specs.Prelude.{IfOk, IfErr}
 use Rattle.std.specs.Sync.RwLock.{write_guard_value}
 use Rattle.std.specs.declared.cmp.PartialEq as eq
@@ -7,17 +7,19 @@ use Rattle.std.specs.declared.hash.Hash as hash
 use Rattle.std.specs.declared.hash.Hasher as hasher
 use Rattle.std.specs.declared.hash.BuildHasher as builder
 use Rattle.scc_buckets.specs.declared.place.Place.{Place}
-use Rattle.scc_common.specs.Pairs.{with_pair_value}
+use Rattle.scc_common.specs.Contents.{list_of}
+use Rattle.scc_common.specs.Pairs.{with_pair_key, with_pair_value}
 use Rattle.scc_common.specs.declared.errors.InsertError.{InsertError}
 use Rattle.scc_common.specs.declared.errors.InsertError.TheVariants.{Memory}
 use Rattle.scc_fallible.specs.declared.TryInsertError.{TryInsertError}
 use Rattle.scc_fallible.specs.declared.TryInsertError.TheVariants.{Failed, Memory as NoMemory}
 use Rattle.scc_rules.specs.declared.Rule as rule
-use Rattle.scc_table.specs.Placed.{entry_of, IsPlace-with_write_at}
-use Rattle.scc_table.specs.Places.{IsPlace}
+use Rattle.scc_table.specs.Placed.{entry_of, IsPlace-with_write_at, spot-with_write_at}
+use Rattle.scc_table.specs.Places.{IsPlace, spot_of}
 use Rattle.scc_cache.specs.Caches.{Cached}
-use Rattle.scc_cache.specs.Lends.{with_value_at}
+use Rattle.scc_cache.specs.Lends.{with_key_at, with_value_at}
 use Rattle.scc_cache.proofs.Entries.{entry-listed, pair-written}
+use Rattle.scc_cache.proofs.Writing.{write-set, written-list}
 use Rattle.scc_ruled_cache.specs.Entries.{Occupied, Vacant, entry_key, occupied_pair, FailsOrRefuses, OrPuts, OrPutsSome, Refuses, RefusesSome}
 use Rattle.scc_ruled_cache.specs.Places.{IsPairAt}
 use Rattle.scc_ruled_cache.specs.declared.entries.Entry.{Entry}
@@ -32,6 +34,17 @@ module _ {K V S : Type 0} (c d : Cached (K × V) S) (place : Place) (v : V) (mad
 
   pub still-place : IsPlace c.contents place → IsPlace d.contents place
   still-place h = subst (λ n. IsPlace n.contents place) (sym made) (IsPlace-with_write_at with_pair_value c.contents place v h)
+
+-- after a key is written at the place of the last pair of a list, the pair is still the last
+pub still-last : {K V S : Type 0} (c d : Cached (K × V) S) (place : Place) → IsPlace c.contents place → (k : K) (e : K × V) → IsPairAt c.contents place e → d ≡ with_key_at c place k
+    → (spot_of c.contents place).slot + 1 ≡ length (list_of c.contents (spot_of c.contents place).bucket) → (spot_of d.contents place).slot + 1 ≡ length (list_of d.contents (spot_of d.contents place).bucket)
+still-last {K} {V} {S} c d place h k e got made last =
+    let n = with_key_at c place k in
+    let at = spot_of c.contents place in
+    let spot : spot_of n.contents place ≡ at = spot-with_write_at with_pair_key c.contents at k place in
+    let long : length (list_of n.contents at.bucket) ≡ length (list_of c.contents at.bucket) = ap length (written-list with_pair_key c.contents at h k ∙ write-set with_pair_key (list_of c.contents at.bucket) at.slot k e got) ∙ length-set (list_of c.contents at.bucket) at.slot (k, e.1) in
+    let Last : Cached (K × V) S → Place → Type 0 = λ x q. q.slot + 1 ≡ length (list_of x.contents q.bucket) in
+    subst (λ x. Last x (spot_of x.contents place)) (sym made) (subst (Last n) (sym spot) (last ∙ sym long))
 
 module _ {K V R H T : Type 0} {g : eq.Ghosts K} {h : hash.Ghosts K} {r : rule.Ghosts R K V} {b : builder.Ghosts H T} {w : hasher.Ghosts T} where
   -- if p stands at the entry's place in the cache behind the guard, p is the entry's pair

@@ -1,7 +1,10 @@
 //! How an entry is made from the guard of its stripe. The pair of the key first becomes the most recent of its bucket.
+ghost use Rattle.scc_cache.specs.CacheSteps.{IsAbsent};
+ghost use Rattle.scc_common.specs.Contents.{key_hash};
 ghost use Rattle.scc_ruled_cache.specs.Entries.{entry_seat, occupied_pair, occupied_seat, replaced_seat, IsEntryOf, IsMostRecent, Replaces};
 ghost use Rattle.scc_rules.specs.Rules.{IsKeptAt};
-ghost use Rattle.std.specs.Prelude.{◌≡◌, IfSome};
+ghost use Rattle.std.specs.Prelude.{◌≡◌, IfNone, IfSome};
+ghost use Rattle.std.specs.Sync.RwLock.{write_guard_value};
 
 use super::{Entry, OccupiedEntry, ReplaceResult, VacantEntry};
 use crate::Kept;
@@ -46,6 +49,8 @@ impl<'a, K: Eq + Hash, V, R: Rule<K, V>, H: BuildHasher> OccupiedEntry<'a, K, V,
         ensures entry { IfSome result (λ o. IsKeptAt K.eq R.holds k.now (occupied_pair o)) }
         ensures recent { IfSome result IsMostRecent }
         ensures seat { IfSome result (λ o. occupied_seat o ≡ seat.entry) }
+        ensures missing { IfNone result (IsAbsent (key_hash H.BuildHasher H.Hasher.Hasher K.hash_input
+            (write_guard_value guard.entry).contents) K.eq (write_guard_value guard.entry).contents k.now) }
     {
         let mut guard = guard;
         let hash = guard.look().hash_of(k);
