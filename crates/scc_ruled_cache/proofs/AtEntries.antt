@@ -76,8 +76,8 @@ module _ {K V R H T : Type 0} {g : eq.Ghosts K} {h : hash.Ghosts K} {r : rule.Gh
     refuses-this (Occupied o) (Err z) i f = absurd i
     refuses-this (Vacant e) (Err z) i f = (i.0, subst (λ v. z ≡ Memory (e.key, v)) (f e.key i.1.0 i.1.1) i.1.2)
 
-    pub fails-some : {X : Type 0} {P Q : K → V → Type 0} {E F : K → X → Type 0} (e : Entry K V R H T g h r b w) (y : Result A (TryInsertError K V X)) → IfErr y (FailsOrRefuses e P E) → ((k : K) (v : V) → P k v → Q k v) → ((k : K) (x : X) → E k x → F k x) → IfErr y (FailsOrRefuses e Q F)
-    fails-some e (Ok a) i f t = tt
-    fails-some e (Err (Failed x)) i f t = (i.0, t (entry_key e) x i.1)
-    fails-some (Occupied o) (Err (NoMemory p)) i f t = absurd i
-    fails-some (Vacant e) (Err (NoMemory p)) i f t = (i.0, (i.1.0, f e.key i.1.0 i.1.1, i.1.2))
+    pub fails-some : {X : Type 0} {P : K → V → Type 0} {E : K → X → Type 0} (Q : K → V → Type 0) (F : K → X → Type 0) (e : Entry K V R H T g h r b w) (y : Result A (TryInsertError K V X)) → IfErr y (FailsOrRefuses e P E) → ((k : K) (v : V) → P k v → Q k v) → ((k : K) (x : X) → E k x → F k x) → IfErr y (FailsOrRefuses e Q F)
+    fails-some Q F e (Ok a) i f t = tt
+    fails-some Q F e (Err (Failed x)) i f t = record { vacant = i.vacant; failed = t (entry_key e) x i.failed }
+    fails-some Q F (Occupied o) (Err (NoMemory p)) i f t = absurd i
+    fails-some Q F (Vacant e) (Err (NoMemory p)) i f t = (i.0, (i.1.0, f e.key i.1.0 i.1.1, i.1.2))

@@ -140,10 +140,17 @@ module _ {K V R H T : Type 0} {g : eq.Ghosts K} {h : hash.Ghosts K} {r : rule.Gh
   Refuses (Occupied o) v y = ⊥
   Refuses (Vacant e) v y = (bucket_count (write_guard_value e.guard).contents ≡ 0) × (y ≡ Memory (e.key, v))
 
+  -- the closure that was to make the value for the entry e failed with x
+  pub record FailsAtVacant {X : Type 0} (e : Entry K V R H T g h r b w) (Q : K → X → Type 0) (x : X) : Type 0 where
+    -- the closure is called only at a vacant entry
+    pub vacant : IsVacant e
+    -- Q holds of the key and the error
+    pub failed : Q (entry_key e) x
+
   -- a value that a closure makes wasn't put in: at a vacant entry the closure failed, and Q holds of the key and the
   -- error, or memory was refused as for the put of a value for which P holds
   abbrev pub FailsOrRefuses : {X : Type 0} → Entry K V R H T g h r b w → (K → V → Type 0) → (K → X → Type 0) → TryInsertError K V X → Type 0
-  FailsOrRefuses e P Q (Failed x) = IsVacant e × Q (entry_key e) x
+  FailsOrRefuses e P Q (Failed x) = FailsAtVacant e Q x
   FailsOrRefuses e P Q (NoMemory p) = RefusesSome e P (Memory p)
 
   module _ {F : Type 0} (holds : K → V → Type 0) (f : Once F (MutBor V × Unit {0}) (Unit {0} × (MutBor V × Unit {0}))) (x : F) where

@@ -5,8 +5,8 @@ use Rattle.scc_ruled_cache.proofs.entries.Entry.of.Goals as goal
 pub refresh-requires : goal.refresh-requires
 refresh-requires g c = rw c.deref_mut.ensures.value (rw (c.look.ensures.same ∙ c.deref.ensures) at c.hash_of-hash.ensures)
 
-pub invariant_of-result-in-Some : goal.invariant_of-result-in-Some
-invariant_of-result-in-Some g c = record { within = c.in-Some.ensures.step.within }
+pub invariant_of-result : goal.invariant_of-result
+invariant_of-result g c = record { within = c.in-Some.ensures.step.within }
 
 pub returns-in-Some-clause-entry : goal.returns-in-Some-clause-entry
 returns-in-Some-clause-entry g c = (c.in-Some.ensures.kept _ (listed-entry c.refresh.new.self.contents c.in-Some.place _), c.in-Some.ensures.step.last)

@@ -23,11 +23,11 @@ invariant_of-self g c =
     let made = v.5 ∙ ap (λ n. with_value_at n o.place v.1) c.deref_mut.ensures.value in
     record { within = still-place (write_guard_value o.guard) c.modify_at.new.self o.place v.1 made o.within }
 
-pub returns-clause-answer : goal.returns-clause-answer
-returns-clause-answer g c =
+pub returns : goal.returns
+returns g c =
     let o = c.args.self.now in
     let v = c.modify_at.ensures in
     let is = pair-is o c.deref_mut.result.now v.0 c.deref_mut.ensures.value v.2 in
     let made = v.5 ∙ ap (λ n. with_value_at n o.place v.1) c.deref_mut.ensures.value in
     let pair = written-is (write_guard_value o.guard) c.modify_at.new.self o.place v.1 made o.within _ in
-    (v.1, subst (λ (q : g.row.K.Denot × g.row.V.Denot). FnOnceReturnsAtMut g.F.FnOnce c.args.f q.1 c.modify_at.result v.1) is v.4, record { seat = refl; place = refl; pair = pair; cache = made })
+    record { answer = (v.1, subst (λ (q : g.row.K.Denot × g.row.V.Denot). FnOnceReturnsAtMut g.F.FnOnce c.args.f q.1 c.modify_at.result v.1) is v.4, record { seat = refl; place = refl; pair = pair; cache = made }) }

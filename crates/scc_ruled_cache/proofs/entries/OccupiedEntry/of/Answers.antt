@@ -11,5 +11,5 @@ invariant_of-result g c = record { within = c.in-Some.ensures.step.within }
 pub returns-in-Some-clause-entry : goal.returns-in-Some-clause-entry
 returns-in-Some-clause-entry g c = c.in-Some.ensures.kept _ (listed-entry c.refresh.new.self.contents c.in-Some.place _)
 
-pub returns-in-None-clause-missing : goal.returns-in-None-clause-missing
-returns-in-None-clause-missing g c = let lacking = rw c.deref_mut.ensures.value at c.in-None.ensures.step.0 in lacking.absent
+pub returns-clause-missing : goal.returns-clause-missing
+returns-clause-missing g c = let lacking = rw c.deref_mut.ensures.value at c.in-None.ensures.step.0 in lacking.absent
