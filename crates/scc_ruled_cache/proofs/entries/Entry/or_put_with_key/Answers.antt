@@ -1,4 +1,3 @@
-use Rattle.std.proofs.Common.{rules}
 use Rattle.scc_cache.proofs.Entries.{map-ok, map-err}
 use Rattle.scc_ruled_cache.proofs.entries.Entry.or_put_with_key.Goals as goal
 

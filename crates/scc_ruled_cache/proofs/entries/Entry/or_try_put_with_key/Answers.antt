@@ -13,12 +13,16 @@ pub returns-in-Ok-put_new-clause-entry : goal.returns-in-Ok-put_new-clause-entry
 returns-in-Ok-put_new-clause-entry g c =
     let e = c.in-Vacant.entry in
     let put = c.in-Ok-put_new.ensures in
-    rw c.in-Vacant.is (c.in-Ok.value, (_, c.in-Ok.ensures, refl), record {
-      pair = sym (entry-listed c.put_new.new.self.contents c.in-Ok-put_new.place _ (e.key, c.in-Ok.value) put.here.1);
-      seat = refl;
-      evicted = put.evicted;
-      step = rw (← c.deref_mut.ensures.value) put.step;
-    })
+    rw c.in-Vacant.is (
+      c.in-Ok.value,
+      (_, c.in-Ok.ensures, refl),
+      record {
+        pair = sym (entry-listed c.put_new.new.self.contents c.in-Ok-put_new.place _ (e.key, c.in-Ok.value) put.here.1);
+        seat = refl;
+        evicted = put.evicted;
+        step = rw (← c.deref_mut.ensures.value) put.step;
+      },
+    )
 
 pub returns-in-Ok-clause-refused : goal.returns-in-Ok-clause-refused
 returns-in-Ok-clause-refused g c =

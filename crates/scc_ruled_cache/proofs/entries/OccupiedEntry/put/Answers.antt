@@ -1,4 +1,4 @@
-use Rattle.std.proofs.Common.{◌≡◌, ◌∙◌, ap, refl, sym, subst}
+use Rattle.std.proofs.Common.{◌∙◌, ap, refl, sym, subst}
 use Rattle.std.specs.Sync.RwLock.{write_guard_value}
 use Rattle.scc_cache.specs.Lends.{with_value_at}
 use Rattle.scc_ruled_cache.specs.Entries.{occupied_pair}
