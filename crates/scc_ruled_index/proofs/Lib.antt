@@ -1,2 +1,4 @@
+mod AtEntries
 mod KeptPairs
+mod KeptPlaces
 mod KeptWalks

@@ -1,3 +1,4 @@
+pub mod Entries
 pub mod Replies
 pub mod Reserves
 pub mod Stripes

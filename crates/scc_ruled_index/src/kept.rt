@@ -7,6 +7,7 @@ ghost use Rattle.std.specs.Arc.{arc_value};
 ghost use Rattle.std.specs.Prelude.{◌≡◌, ◌⊎◌, IfErr, IfOk, IfSome, IsTrue};
 
 mod parts;
+mod places;
 mod walks;
 
 use scc_common::{InsertError, MakeError, Shared, Version};

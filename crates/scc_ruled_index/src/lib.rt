@@ -7,6 +7,7 @@ ghost use Rattle.scc_stripes.specs.Stripes.{stripe_bits};
 ghost use Rattle.std.specs.Prelude.{◌≡◌, IfOk};
 
 mod calls;
+mod entries;
 mod kept;
 mod sizes;
 mod snapshots;
@@ -14,6 +15,7 @@ mod unlocked;
 mod walks;
 mod whole;
 
+pub use entries::{Entry, OccupiedEntry, VacantEntry};
 pub use kept::Kept;
 use scc_common::MakeError;
 use scc_rules::Rule;
@@ -27,6 +29,8 @@ use std::hash::{BuildHasher, BuildHasherDefault, FoldHasher, Hash};
 /// stores keeps it, and so does what a call hands out. Each of its stripes is an owned index behind a lock, and a call
 /// takes the lock of the stripe of its key. A version never changes, and readers may keep it: it keeps the rule also
 /// when it is no longer in the index.
+///
+/// A thread that holds an entry and makes a call on the stripe of that entry waits for itself forever.
 #[derive(Drop)]
 pub struct RuledIndex<
     K: Eq + Hash,

@@ -18,7 +18,9 @@ use Rattle.scc_table.proofs.WalkReached.{passes-at}
 use Rattle.scc_table.proofs.AtPlaces.{entry_of-is, put-there, written-there}
 use Rattle.scc_common.specs.declared.errors.InsertError.{InsertError}
 use Rattle.scc_common.specs.declared.errors.InsertError.TheVariants.{Memory}
-use Rattle.scc_ruled_map.specs.Entries.{Occupied, Vacant, entry_key, occupied_pair, OrInserts, OrInsertsSome}
+use Rattle.scc_fallible.specs.declared.TryInsertError.{TryInsertError}
+use Rattle.scc_fallible.specs.declared.TryInsertError.TheVariants.{Failed, Memory as NoMemory}
+use Rattle.scc_ruled_map.specs.Entries.{Occupied, Vacant, entry_key, occupied_pair, FailsAtVacant, InsertsThrough, OrInserts, OrInsertsSome, RefusesSome, TriesThrough}
 use Rattle.scc_ruled_map.specs.declared.entries.Entry.{Entry}
 use Rattle.scc_ruled_map.specs.declared.entries.OccupiedEntry.{OccupiedEntry}
 
@@ -67,3 +69,9 @@ module _ {K V R H T : Type 0} {g : eq.Ghosts K} {h : hash.Ghosts K} {r : rule.Gh
   pub refuses-this : {A : Type 0} {P : V → Type 0} {x : V} (e : Entry K V R H T g h r b w) (y : Result A (InsertError K V)) → IfErr y (λ z. (v : V) × P v × (z ≡ Memory (entry_key e, v))) → ((v : V) → P v → v ≡ x) → IfErr y (λ z. z ≡ Memory (entry_key e, x))
   refuses-this e (Ok a) i f = tt
   refuses-this e (Err z) i f = subst (λ v. z ≡ Memory (entry_key e, v)) (f i.0 i.1) i.2
+
+  -- if P implies Q, and R implies S, an insertion of some value with P, or a failure with R, is one with Q, or with S
+  pub tries-some : {X : Type 0} {P Q : K → V → Type 0} {R' S : K → X → Type 0} (e : Entry K V R H T g h r b w) (y : Result (OccupiedEntry K V R H T g h r b w) (TryInsertError K V X)) → TriesThrough e P R' y → ((k : K) (v : V) → P k v → Q k v) → ((k : K) (x : X) → R' k x → S k x) → TriesThrough e Q S y
+  tries-some e (Ok o) i f n = record { entry = inserts-some {X = InsertError K V} e (Ok o) i.entry f; refused = tt; vacant = i.vacant }
+  tries-some e (Err (NoMemory p)) i f n = record { entry = tt; refused = refuses-some {A = OccupiedEntry K V R H T g h r b w} e (Err (Memory p)) i.refused (f (entry_key e)); vacant = i.vacant }
+  tries-some e (Err (Failed x)) i f n = record { vacant = i.vacant; failed = n (entry_key e) x i.failed }

@@ -1,7 +1,7 @@
 -- The words of the contracts of entries of a locked stripe.
 pub use Rattle.scc_ruled_map.specs.declared.entries.Entry.TheVariants.{Occupied, Vacant}
 pub use Rattle.scc_ruled_map.specs.declared.entries.ReplaceResult.TheVariants.{Replaced, NotReplaced}
-use Rattle.std.specs.Prelude.{◌≡◌, Bool, true, List, [], Result, IfOk, IfErr, ⊤}
+use Rattle.std.specs.Prelude.{◌≡◌, Bool, true, List, [], Result, Ok, Err, IfOk, IfErr, ⊤}
 use Rattle.std.specs.Borrow.{MutBor}
 use Rattle.std.specs.Fn.{Once, FnOnceTakesAtMut, FnOnceReturnsAtMut}
 use Rattle.std.specs.Result.{OnErr}
@@ -13,6 +13,8 @@ use Rattle.std.specs.declared.hash.BuildHasher as builder
 use Rattle.scc_common.specs.Contents.{Contents}
 use Rattle.scc_common.specs.declared.errors.InsertError.{InsertError}
 use Rattle.scc_common.specs.declared.errors.InsertError.TheVariants.{Memory}
+use Rattle.scc_fallible.specs.declared.TryInsertError.{TryInsertError}
+use Rattle.scc_fallible.specs.declared.TryInsertError.TheVariants.{Failed, Memory as NoMemory}
 use Rattle.scc_rules.specs.Rules.{IsKeptAt}
 use Rattle.scc_rules.specs.declared.Rule as rule
 use Rattle.scc_stripes.specs.declared.seats.Seat.{Seat}
@@ -129,6 +131,21 @@ module _ {K V R H T : Type 0} {g : eq.Ghosts K} {h : hash.Ghosts K} {r : rule.Gh
     pub refused : IfErr result Q
     -- only a vacant entry is refused memory
     pub vacant : OnErr result (IsVacant e)
+
+  -- the closure that was to make the value for the entry e failed with x
+  pub record FailsAtVacant {X : Type 0} (e : Entry K V R H T g h r b w) (Q : K → X → Type 0) (x : X) : Type 0 where
+    -- the closure is called only at a vacant entry
+    pub vacant : IsVacant e
+    -- Q holds of the key and the error
+    pub failed : Q (entry_key e) x
+
+  -- the contract of an insertion through the entry e of a value that a closure makes, or fails to make: it returns
+  -- `result`. P holds of a key and a value that the closure makes of it, Q of a key and an error with which it fails. If
+  -- the closure doesn't fail, the call is the insertion of a value with P
+  abbrev pub TriesThrough : {X : Type 0} → Entry K V R H T g h r b w → (K → V → Type 0) → (K → X → Type 0) → Result (OccupiedEntry K V R H T g h r b w) (TryInsertError K V X) → Type 0
+  TriesThrough e P Q (Ok o) = InsertsThrough e (OrInsertsSome e P) (RefusesSome e P) (Ok o)
+  TriesThrough e P Q (Err (NoMemory p)) = InsertsThrough e (OrInsertsSome e P) (RefusesSome e P) (Err (Memory p))
+  TriesThrough e P Q (Err (Failed x)) = FailsAtVacant e Q x
 
   module _ {F : Type 0} (holds : K → V → Type 0) (f : Once F (MutBor V × Unit {0}) (Unit {0} × (MutBor V × Unit {0}))) (x : F) where
     -- f may be called on the value, which keeps the rule

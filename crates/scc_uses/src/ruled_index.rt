@@ -3,7 +3,7 @@ ghost use Rattle.std.specs.Arc.{arc_value};
 ghost use Rattle.std.specs.Prelude.{◌≡◌, ◌≤◌, IfErr, IfOk, IfSome, IsTrue};
 
 use scc_common::{MakeError, Version};
-use scc_ruled_index::RuledIndex;
+use scc_ruled_index::{Entry, RuledIndex};
 use scc_rules::Rule;
 use std::sync::{Arc, Wait};
 
@@ -59,6 +59,32 @@ pub fn way_to<W: Wait>(
     ensures { IfOk result (λ o. IfSome o (λ a. ((arc_value a).1.address ≡ address) × ((arc_value a).1.hops ≤ 16))) }
 {
     ways.peek(rt, &address)
+}
+
+/// Takes the way to `address` over `neighbour` if it takes fewer hops than the way that stands there, or if none does.
+/// Returns how many hops the way takes that then stands there, or `None` if memory is refused. Whoever keeps the old way
+/// still has it.
+pub fn shorten<W: Wait>(rt: &W, ways: &Ways, address: u32, neighbour: u32, hops: u32) -> Option<u32>
+    requires { hops ≤ 16 }
+    ensures { IfSome result (λ n. n ≤ hops) }
+{
+    let way = Way {
+        address,
+        neighbour,
+        hops,
+    };
+    match ways.entry_sync(rt, address) {
+        Entry::Occupied(mut entry) => {
+            if entry.get().hops > hops {
+                entry.update(way).ok()?;
+            }
+            Some(entry.get().hops)
+        }
+        Entry::Vacant(entry) => match entry.insert_entry(way) {
+            Ok(entry) => Some(entry.get().hops),
+            Err(_) => None,
+        },
+    }
 }
 
 /// Returns how many hops it takes to `address` for a neighbour.

@@ -141,6 +141,19 @@ impl<'a, K: Eq + Hash, V, R: Rule<K, V>, H: BuildHasher> VacantEntry<'a, K, V, R
         ensures refused { IfErr result (λ e. e ≡ Memory (vacant_key self.entry, value)) }
         ensures seat { IfOk result (λ o. occupied_seat o ≡ vacant_seat self.entry) }
     {
+        match self.insert_new(value) {
+            Ok(entry) => Ok(entry),
+            Err(pair) => Err(InsertError::Memory(pair)),
+        }
+    }
+
+    /// As `insert_entry`. If memory is refused, the pair comes back alone.
+    pub(crate) fn insert_new(self, value: V) -> Result<OccupiedEntry<'a, K, V, R, H>, (K, V)>
+        requires { R.holds (vacant_key self) value }
+        ensures inserted { IfOk result (λ o. occupied_pair o ≡ (vacant_key self.entry, value)) }
+        ensures refused { IfErr result (λ p. p ≡ (vacant_key self.entry, value)) }
+        ensures seat { IfOk result (λ o. occupied_seat o ≡ vacant_seat self.entry) }
+    {
         let VacantEntry {
             mut guard,
             key,
@@ -149,7 +162,7 @@ impl<'a, K: Eq + Hash, V, R: Rule<K, V>, H: BuildHasher> VacantEntry<'a, K, V, R
         } = self;
         match guard.insert_new(hash, key, value) {
             Ok(place) => Ok(OccupiedEntry { guard, place, seat }),
-            Err(pair) => Err(InsertError::Memory(pair)),
+            Err(pair) => Err(pair),
         }
     }
 }

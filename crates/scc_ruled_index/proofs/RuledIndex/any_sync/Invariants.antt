@@ -1,0 +1,13 @@
+use Rattle.std.proofs.Common.{List, false}
+use Rattle.scc_common.specs.Walks.{CalledOn}
+use Rattle.scc_common.specs.PairWalks.{Declines}
+use Rattle.scc_rules.specs.Rules.{AllKeep}
+use Rattle.scc_rules.specs.Walks.{TakesKept}
+use Rattle.scc_stripes.specs.Walks.{AreOfStripes}
+use Rattle.scc_ruled_index.proofs.RuledIndex.any_sync.Given as goal
+
+abbrev pub invariant-loop-stripe : goal.invariant-loop-stripe
+invariant-loop-stripe g l = record {
+  takes : TakesKept g.R.Rule.holds g.P.FnMut false l.p;
+  seen : (es : List (g.row.K.Denot × g.row.V.Denot)) × AllKeep g.R.Rule.holds es × Declines (CalledOn g.P.FnMut) l.fn.p es l.p × AreOfStripes g.K.PartialEq.eq (λ p. p.0) l.stripe es;
+}

@@ -1,0 +1,11 @@
+use Rattle.scc_ruled_index.proofs.AtEntries.{inserts-this, refuses-this}
+use Rattle.scc_ruled_index.proofs.entries.Entry.or_insert.Goals as goal
+
+pub returns : goal.returns
+returns g c =
+    let done = c.or_insert_with_key.ensures in
+    record {
+      entry = inserts-this c.args.self c.or_insert_with_key.result done.entry (λ k v put. put.1);
+      refused = refuses-this c.args.self c.or_insert_with_key.result done.refused (λ v put. put.1);
+      vacant = done.vacant;
+    }

@@ -1,0 +1,65 @@
+//! The entries of a locked stripe. An entry holds the lock of its stripe as long as the entry lives. It lends its value
+//! to read alone: a new version is put in by a call, whose value has to keep the rule.
+ghost use Rattle.scc_common.specs.Contents.{entries, key_hash};
+ghost use Rattle.scc_common.specs.Pairs.{find};
+ghost use Rattle.scc_table.specs.Places.{IsPlace};
+ghost use Rattle.std.specs.Prelude.{◌≡◌, None};
+ghost use Rattle.std.specs.Sync.RwLock.{write_guard_value};
+
+mod calls;
+mod insertions;
+mod making;
+mod methods;
+mod walk;
+
+use crate::Kept;
+use scc_buckets::Place;
+use scc_rules::Rule;
+use scc_stripes::Seat;
+use std::hash::{BuildHasher, BuildHasherDefault, FoldHasher, Hash};
+use std::sync::RwLockWriteGuard;
+
+/// An occupied entry: the place of a version. It holds the lock of its stripe.
+#[derive(Drop)]
+pub struct OccupiedEntry<
+    'a,
+    K: Eq + Hash,
+    V,
+    R: Rule<K, V>,
+    H: BuildHasher = BuildHasherDefault<FoldHasher>,
+> {
+    guard: RwLockWriteGuard<'a, Kept<K, V, R, H>>,
+    place: Place,
+    seat: Seat<'a, Kept<K, V, R, H>, H>,
+    ghost within: { IsPlace (write_guard_value guard) place },
+}
+
+/// A vacant entry: a key that its stripe lacks, with its hash. It holds the lock of the stripe.
+#[derive(Drop)]
+pub struct VacantEntry<
+    'a,
+    K: Eq + Hash,
+    V,
+    R: Rule<K, V>,
+    H: BuildHasher = BuildHasherDefault<FoldHasher>,
+> {
+    guard: RwLockWriteGuard<'a, Kept<K, V, R, H>>,
+    key: K,
+    hash: u64,
+    seat: Seat<'a, Kept<K, V, R, H>, H>,
+    ghost absent: { find K.eq (entries (write_guard_value guard)) key ≡ None },
+    ghost hashed: { hash ≡ key_hash H.BuildHasher H.Hasher.Hasher K.hash_input (write_guard_value guard) key },
+}
+
+/// The entry of a key, occupied or vacant. It holds the lock of its stripe.
+#[derive(Drop)]
+pub enum Entry<
+    'a,
+    K: Eq + Hash,
+    V,
+    R: Rule<K, V>,
+    H: BuildHasher = BuildHasherDefault<FoldHasher>,
+> {
+    Occupied(OccupiedEntry<'a, K, V, R, H>),
+    Vacant(VacantEntry<'a, K, V, R, H>),
+}
