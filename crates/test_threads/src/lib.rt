@@ -21,16 +21,6 @@ mod locks;
 #[cfg(test)]
 mod map_stripes;
 #[cfg(test)]
-mod ruled;
-#[cfg(test)]
-mod ruled_cache;
-#[cfg(test)]
-mod ruled_cache_entries;
-#[cfg(test)]
-mod ruled_index;
-#[cfg(test)]
-mod ruled_set;
-#[cfg(test)]
 mod stripes;
 #[cfg(test)]
 mod versions;

@@ -1,12 +1,10 @@
-// Caches under a rule, and memos: each call does what the plain cache's call does, evictions stay within the maximum and
-// lose no pair, and a memo that threads share computes each value once.
+// Caches under a rule: each call does what the plain cache's call does, and evictions stay within the maximum and lose
+// no pair.
 use crate::expect::{expect, expect_eq};
 use scc_common::{MakeError, Verdict};
 use scc_ruled_cache::RuledCache;
 use scc_rules::Anything;
-use scc_shared_memo::{Memo, Pure, TryMemo};
 use scc_uses::ruled_cache::{Answers, displaced, served, served_once};
-use scc_uses::shared_memo::{Half, half_of};
 use scc_uses::shared_requests::Service;
 use std::alloc::Global;
 use std::process::Abort;
@@ -215,73 +213,5 @@ fn stored_answers_are_served(rt: HostRuntime) -> Result<(), Fail> {
         expect_eq(&rt, served_once(&rt, &service, &answers, 8), 16);
     }
     expect_eq(&rt, service.asked.load(Ordering::Relaxed), 2);
-    Ok(())
-}
-
-/// The double of a number, by a function that counts how often it is called.
-#[derive(Drop)]
-struct Doubled<'a> {
-    calls: &'a AtomicU64,
-}
-
-impl<'a> Pure for Doubled<'a> {
-    ghost use Rattle.std.proofs.Common.{rules};
-    ghost use Rattle.std.specs.Prelude.{◌≡◌, ◌*◌, ◌%◌, ◌^◌};
-
-    type Key = u64;
-
-    type Value = u64;
-
-    ghost has_value = { λ k v. v ≡ (2 * k) % (2 ^ 64) };
-
-    ghost equal_alike = { λ j k v same h. Prim.search rules };
-
-    fn of(&self, k: &u64) -> u64 {
-        self.calls.fetch_add(1, Ordering::Relaxed);
-        k.wrapping_mul(2)
-    }
-}
-
-// Asks for the doubles of a hundred numbers twice, and returns their sum.
-fn sum_of_doubles<R: Wait>(rt: &R, memo: &Memo<Doubled<'_>>) -> u64 {
-    let mut sum = 0u64;
-    for k in 0..100u64 {
-        sum = sum.wrapping_add(memo.get(rt, k));
-    }
-    for k in 0..100u64 {
-        sum = sum.wrapping_add(memo.get_cloned(rt, k));
-    }
-    sum
-}
-
-fn two_sums<R: Threads + Wait + Sync>(rt: &R, memo: &Memo<Doubled<'_>>) -> (u64, u64) {
-    join(rt, || sum_of_doubles(rt, memo), || sum_of_doubles(rt, memo))
-}
-
-#[test]
-fn memo_computes_each_value_once(rt: HostRuntime) -> Result<(), Fail> {
-    let calls = AtomicU64::new(0);
-    let memo = Memo::with_capacity(rt.alloc(), Doubled { calls: &calls }, 0, 4096)?;
-    expect_eq(&rt, two_sums(&rt, &memo), (19_800, 19_800));
-    expect_eq(
-        &rt,
-        (memo.len(&rt), calls.load(Ordering::Relaxed)),
-        (100, 100),
-    );
-    expect_eq(&rt, memo.known(&rt, &7), Some(14));
-    expect(&rt, memo.forget(&rt, &7) && !memo.forget(&rt, &7));
-    expect_eq(&rt, (memo.known(&rt, &7), memo.get(&rt, 7)), (None, 14));
-    expect_eq(&rt, calls.load(Ordering::Relaxed), 101);
-    Ok(())
-}
-
-#[test]
-fn memo_keeps_no_failure(rt: HostRuntime) -> Result<(), Fail> {
-    let halves: TryMemo<Half> = TryMemo::new(rt.alloc(), Half)?;
-    expect_eq(&rt, half_of(&rt, &halves, 7), Err(7));
-    expect_eq(&rt, (halves.len(&rt), halves.known(&rt, &7)), (0, None));
-    expect_eq(&rt, half_of(&rt, &halves, 8), Ok(4));
-    expect_eq(&rt, (halves.len(&rt), halves.known(&rt, &8)), (1, Some(4)));
-    expect(&rt, halves.forget(&rt, &8) && halves.capacity(&rt) <= 256);
     Ok(())
 }
