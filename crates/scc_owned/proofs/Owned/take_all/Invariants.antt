@@ -1,0 +1,18 @@
+use Rattle.std.proofs.Common.{◌≡◌, length, IfSome}
+use Rattle.scc_common.specs.Contents.{entries, bucket_count, settings_of, refused_of, waiting_of}
+use Rattle.scc_table.specs.Places.{IsPlace}
+use Rattle.scc_table.proofs.Reached.{reached}
+use Rattle.scc_owned.proofs.Owned.take_all.Given as goal
+
+abbrev pub invariant-loop-at : goal.invariant-loop-at
+invariant-loop-at g l = record {
+  within : IfSome l.at (IsPlace l.self);
+  first : reached l.self l.at ≡ 0;
+  buckets : bucket_count l.self ≡ bucket_count l.fn.self;
+  settings : settings_of l.self ≡ settings_of l.fn.self;
+  noted : refused_of l.self ≡ refused_of l.fn.self;
+  waiting : waiting_of l.self ≡ waiting_of l.fn.self;
+}
+
+abbrev pub decreases-loop-at : goal.decreases-loop-at
+decreases-loop-at g l = length (entries l.self)

@@ -1,0 +1,21 @@
+use Rattle.std.proofs.Common.{refl}
+use Rattle.scc_owned.proofs.Inserting.{inserts-some, refuses-some}
+use Rattle.scc_owned.proofs.borrowed.insertions.Entry+E+H.or_insert_with.Goals as goal
+
+pub returns : goal.returns
+returns g c =
+    let done = c.or_insert_with_key.ensures.inserts in (
+      (refl, c.or_insert_with_key.follows.holds, c.or_insert_with_key.follows.holds-at-none),
+      record {
+        inserts = record {
+          entry = inserts-some g.E.Stored.lookups.made c.args.self c.or_insert_with_key.result done.entry (λ k v put. put.1);
+          refused = refuses-some c.args.self c.or_insert_with_key.result done.refused (λ v put. put.1);
+          vacant = done.vacant;
+          full = done.full;
+          growth = done.growth;
+          relocates = done.relocates;
+          unique = done.unique;
+        };
+        kept = tt;
+      },
+    )

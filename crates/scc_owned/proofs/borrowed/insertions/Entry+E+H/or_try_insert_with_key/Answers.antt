@@ -1,0 +1,42 @@
+use Rattle.std.proofs.Common.{Ok, Err, refl}
+use Rattle.std.specs.Fn.{FnOnceReturnsAt}
+use Rattle.scc_owned.specs.Insertions.{Memory}
+use Rattle.scc_owned.proofs.Inserting.{fails-at, inserts-at-vacant, through-vacant, vacant-now}
+use Rattle.scc_owned.proofs.HeldEntries.{same-entry, same-name}
+use Rattle.scc_owned.proofs.borrowed.insertions.Entry+E+H.or_try_insert_with_key.Goals as goal
+
+pub returns-in-Occupied : goal.returns-in-Occupied
+returns-in-Occupied g c = (
+  (refl, λ w. refl, tt),
+  record {
+    inserts = record {
+      entry = rw c.in-Occupied.is (same-entry c.in-Occupied.entry _);
+      refused = tt;
+      vacant = tt;
+      full = tt;
+      growth = rw c.in-Occupied.is tt;
+      relocates = rw c.in-Occupied.is refl;
+      unique = c.key_facts.ensures;
+    };
+    kept = tt;
+  },
+)
+
+pub returns-in-Ok-insert_into : goal.returns-in-Ok-insert_into
+returns-in-Ok-insert_into g c =
+    let x = c.in-Vacant.entry in
+    let put = inserts-at-vacant g.E.Key.PartialEq.eq _ x x.guard.now c.insert_into.new.owned c.in-Ok.value c.at.result _ c.at.ensures.guard c.at.ensures.place c.at.ensures.rest refl c.in-Ok-insert_into.ensures.ok c.in-Ok-insert_into.ensures.growth c.insert_into.ensures.relocates c.in-Ok-insert_into.ensures.two c.insert_into.ensures.unique in
+    ((same-name c.at.ensures.guard, λ w. refl, tt), record { inserts = through-vacant g.E.Key.PartialEq.eq _ (λ k v. FnOnceReturnsAt g.F.FnOnce c.args.f k (Ok v)) c.args.self x c.in-Ok.value (Ok c.at.result) c.in-Vacant.is (_, c.in-Ok.ensures, refl) put; kept = tt })
+
+pub returns-in-Ok : goal.returns-in-Ok
+returns-in-Ok g c =
+    let x = c.in-Vacant.entry in (
+      (refl, λ _. tt, rw c.in-Vacant.is c.in-Err-insert_into.ensures.rests),
+      record {
+        inserts = through-vacant g.E.Key.PartialEq.eq _ (λ k v. FnOnceReturnsAt g.F.FnOnce c.args.f k (Ok v)) c.args.self x c.in-Ok.value (Err (Memory c.in-Err-insert_into.pair)) c.in-Vacant.is (_, c.in-Ok.ensures, refl) record { inserted = tt; growth = tt; relocates = tt; two = tt; unique = tt; refused = rw c.in-Err-insert_into.ensures.refused refl; full = c.in-Err-insert_into.ensures.full };
+        kept = tt;
+      },
+    )
+
+pub returns : goal.returns
+returns g c = ((refl, λ _. tt, vacant-now c.args.self c.in-Vacant.entry c.in-Vacant.is), record { inserts = fails-at (λ k e. FnOnceReturnsAt g.F.FnOnce c.args.f k (Err e)) c.args.self c.in-Vacant.entry c.in-Err.error c.in-Vacant.is (_, c.in-Err.ensures, refl); kept = tt })

@@ -1,0 +1,40 @@
+use Rattle.std.proofs.Common.{◌∙◌, ◌++◌, suc, length, map, ap, sym, refl, append-nil, append_assoc}
+use Rattle.std.specs.Arc.{arc_value}
+use Rattle.std.proofs.lemmas.List.{map-append}
+use Rattle.scc_common.specs.Contents.{entries}
+use Rattle.scc_table.specs.Places.{index_of}
+use Rattle.scc_buckets.proofs.Placed.{take-more}
+use Rattle.scc_table.proofs.WalkReached.{take-all}
+use Rattle.scc_table.proofs.Reached.{nearer, reached-at, reached-first}
+use Rattle.scc_owned.proofs.index.snapshots.Index+K+V+H.iter_into.Goals as goal
+
+pub loop-at-init : goal.loop-at-init
+loop-at-init g c =
+    let start = reached-first c.args.self.now c.first_place-at.result (rw c.self.view_is at c.first_place-at.ensures) in
+    record { within = start.1; listed = rw start.0 (sym (append-nil _)) }
+
+pub loop-at-smaller : goal.loop-at-smaller
+loop-at-smaller g c =
+    let m = c.args.self.now in
+    let within = rw c.in-Some.is at c.loop-at.invariant.within in
+    let next = reached-at m (suc (index_of m c.in-Some.place)) c.next_place-at.result c.next_place-at.ensures in
+    rw c.in-Some.is (nearer m c.in-Some.place c.next_place-at.result within next.0)
+
+pub loop-at-preserved : goal.loop-at-preserved
+loop-at-preserved g c =
+    let m = c.args.self.now in
+    let got = rw c.self.view_is at c.entry_at.ensures in
+    let next = reached-at m (suc (index_of m c.in-Some.place)) c.next_place-at.result c.next_place-at.ensures in
+    let listed = rw c.in-Some.is at c.loop-at.invariant.listed in
+    record {
+      within = next.1;
+      listed = rw (next.0, take-more (entries m) (index_of m c.in-Some.place) _ got, c.in-Ok-push.ensures.items, map-append, listed, c.in-Ok.ensures) (append_assoc (map arc_value c.args.versions.now.items) _ _);
+    }
+
+pub returns-clause-all : goal.returns-clause-all
+returns-clause-all g c =
+    let listed = rw c.in_default.is at c.loop-at.invariant.listed in
+    listed ∙ ap (λ z. map arc_value c.args.versions.now.items ++ z) (take-all (entries c.args.self.now) (length (entries c.args.self.now)) refl)
+
+pub entry_at-requires : goal.entry_at-requires
+entry_at-requires g c = rw c.self.view_is (rw c.in-Some.is at c.loop-at.invariant.within)

@@ -1,0 +1,5 @@
+use Rattle.scc_owned.proofs.Clones.{clones-find}
+use Rattle.scc_owned.proofs.index.whole.Index+K+V+H.try_clone.Goals as goal
+
+pub returns-in-Ok-clause-finds : goal.returns-in-Ok-clause-finds
+returns-in-Ok-clause-finds g c equal = clones-find g.met.K.Eq.laws g.K.Clone.is_clone g.V.Clone.is_clone equal g.H.Clone.is_clone c.args.self.now c.in-Ok.table (rw c.self.view_is at c.in-Ok.ensures.clones) c.key_facts.ensures

@@ -1,0 +1,16 @@
+use Rattle.std.proofs.Common.{rules}
+use Rattle.scc_owned.proofs.Inserting.{both-ok, map-ok, map-err}
+use Rattle.scc_owned.proofs.locked.insertions.Entry+E+H.or_insert_with_key.Goals as goal
+
+pub returns-in-Vacant : goal.returns-in-Vacant
+returns-in-Vacant g c =
+    let put = c.insert_entry.ensures in
+    record {
+      entry = (rw c.in-Vacant.is (map-ok _ _ c.insert_entry.result (λ o i. (c.f-value.result, (_, c.f-value.ensures, c.key.ensures), i)) put.inserted));
+      refused = (rw c.in-Vacant.is (map-err _ _ c.insert_entry.result (λ e i. (c.f-value.result, (_, c.f-value.ensures, c.key.ensures), i)) put.refused));
+      vacant = (search rules);
+      full = (rw c.in-Vacant.is put.full);
+      growth = (rw c.in-Vacant.is put.growth);
+      relocates = (rw c.in-Vacant.is (both-ok _ _ c.insert_entry.result put.relocates put.two));
+      unique = put.unique;
+    }

@@ -1,0 +1,28 @@
+use Rattle.std.proofs.Common.{◌+◌, ap, rules}
+use Rattle.std.proofs.lemmas.List.Sorted.{IsPermutation-refl}
+use Rattle.scc_common.specs.Contents.{entries, bucket_count, minimum_of}
+use Rattle.scc_buckets.proofs.Resizes.{smaller-by, shrinks-after}
+use Rattle.scc_table.proofs.Takings.{holds-after}
+use Rattle.scc_table.proofs.Relocations.{shrunk-after}
+use Rattle.scc_owned.proofs.map.walk.write.Map+K+V+H.retain_lent.Goals as goal
+
+pub retain_all-requires : goal.retain_all-requires
+retain_all-requires g c = c.requires (entries c.args.self.now) (IsPermutation-refl _)
+
+pub returns : goal.returns
+returns g c =
+    let x = c.retain_all.ensures.step in
+    let resizes = rw c.self.view_is at c.shrink.ensures.resizes in
+    let keeps = ap (λ s. s.asked + s.reserved) x.2.settings in
+    record {
+      step = (entries c.args.self.now, x.0, IsPermutation-refl _, x.1, holds-after c.args.self.now c.retain_all.new.self c.shrink.new.self x.0 x.2 resizes);
+      array = record {
+        smaller = smaller-by c.retain_all.new.self c.shrink.new.self (minimum_of c.args.self.now) (bucket_count c.args.self.now) (rw c.self.view_is at c.shrink.ensures.shrinks) keeps x.2.buckets;
+        due = λ _. shrinks-after c.args.self.now c.retain_all.new.self c.shrink.new.self x.2.buckets c.retain_all.ensures.noted (rw c.self.view_is at c.shrink.ensures.due);
+        noted = (search rules);
+        relocates = λ _. shrunk-after c.args.self.now c.retain_all.new.self c.shrink.new.self x.2.buckets keeps c.retain_all.ensures.waiting resizes (rw c.self.view_is at c.shrink.ensures.spreads);
+        waiting = (search rules);
+      };
+      was_unique = (search rules);
+      unique = (search rules);
+    }

@@ -1,0 +1,69 @@
+//! Calls that look a key up, alike for maps and indexes.
+ghost use Rattle.scc_common.specs.Contents.{entries, bucket_count, settings_of, hash_in, IsMarked, IsNoteUp, IsUniqueBy};
+ghost use Rattle.scc_common.specs.Steps.{Prepares};
+ghost use Rattle.scc_table.specs.Marks.{MarksPreparation};
+ghost use Rattle.std.specs.Result.{OnErr, OnOk};
+ghost use Rattle.std.specs.Prelude.{◌≡◌, ◌↔◌, ◌⊎◌, None, IsTrue, IsSome, IsOk};
+
+use crate::Owned;
+use crate::stored::Stored;
+use scc_common::{Hashes, MakeError};
+use std::hash::{BuildHasher, Hash};
+
+impl<E: Stored, H: BuildHasher> Owned<E, H>
+where
+    E::Key: Eq + Hash,
+{
+    /// Returns whether a key equals `k`.
+    #[inline(always)]
+    pub fn contains_sync(&self, k: &E::Key) -> bool
+        ensures { IsTrue result ↔ IsSome (E.lookups.find (E.Key.eq k.now) (entries self.now)) }
+    {
+        let hash = self.table.hash(k);
+        match self.table.search(hash, k) {
+            Some(_) => true,
+            None => false,
+        }
+    }
+
+    /// Returns whether a key equals `k`, as `contains_sync` does. The search begins with `hint`, the hash of `k` under some hasher. If
+    /// the container's own hasher gives the same hash, the entry is there and no bucket waits, `k` isn't hashed again.
+    #[inline(always)]
+    pub fn contains_by_hint(&self, hint: u64, k: &E::Key) -> bool
+        ensures { IsTrue result ↔ IsSome (E.lookups.find (E.Key.eq k.now) (entries self.now)) }
+    {
+        match self.table.find_by_hint(hint, k) {
+            Some(_) => true,
+            None => false,
+        }
+    }
+
+    /// Makes what an insertion of `k` would have to make first, except the entry itself, at most one resize: the first array, or an array of
+    /// twice as many buckets if a growth is due; then all buckets wait. If a key equals `k`, nothing is made. A growth
+    /// whose memory is refused is noted and marked: the insertion of `k` that follows doesn't try the growth again, so
+    /// it makes no resize in any case. A growth that is made takes note and mark away; if no growth is due, both stay.
+    /// Fails only if memory for the first array is refused, and then nothing changes.
+    pub fn make_room(&mut self, k: &E::Key) -> Result<(), MakeError>
+        ensures present { IsSome (E.lookups.find (E.Key.eq k.now) (entries self.old)) → IsOk result × (self.new ≡ self.old) }
+        ensures ok { E.lookups.find (E.Key.eq k.now) (entries self.old) ≡ None
+            → OnOk result (Prepares (hash_in ⟦<H as Hashes<E::Key>>⟧.hash_of self.old) E.key_of self.old
+            (hash_in ⟦<H as Hashes<E::Key>>⟧.hash_of self.old k.now) self.new) }
+        ensures marks { E.lookups.find (E.Key.eq k.now) (entries self.old) ≡ None
+            → MarksPreparation (hash_in ⟦<H as Hashes<E::Key>>⟧.hash_of self.old) E.key_of self.old
+            (hash_in ⟦<H as Hashes<E::Key>>⟧.hash_of self.old k.now) self.new }
+        ensures marked { IsMarked self.new → IsMarked self.old ⊎ IsNoteUp self.new }
+        ensures err { OnErr result ((E.lookups.find (E.Key.eq k.now) (entries self.old) ≡ None) × (bucket_count self.old ≡ 0)) }
+        ensures same { OnErr result (self.new ≡ self.old) }
+        ensures settings { settings_of self.new ≡ settings_of self.old }
+        ensures unique { IsUniqueBy E.Key.eq E.key_of self.new }
+    {
+        let hash = self.table.hash(k);
+        match self.table.search(hash, k) {
+            Some(_) => Ok(()),
+            None => match self.table.make_room(hash) {
+                Ok(()) => Ok(()),
+                Err(_) => Err(MakeError),
+            },
+        }
+    }
+}

@@ -1,0 +1,55 @@
+//! Snapshots of an index.
+ghost use Rattle.scc_common.specs.Contents.{entries};
+ghost use Rattle.std.specs.Arc.{arc_value};
+ghost use Rattle.std.specs.Prelude.{◌≡◌, ◌++◌, ℕ, IfOk, OnOk, OnErr, map, take};
+
+use crate::Index;
+use scc_common::{MakeError, Version};
+use scc_snapshot::Iter;
+use std::hash::{BuildHasher, Hash};
+use std::sync::Arc;
+
+impl<K: Eq + Hash, V, H: BuildHasher> Index<K, V, H> {
+    /// Returns a snapshot of the versions, in the index's own order. Fails if memory is refused or a version has 2^63
+    /// - 1 owners.
+    pub fn iter(&self) -> Result<Iter<K, V>, MakeError>
+    where
+        K: Drop,
+        V: Drop,
+        ensures { IfOk result (λ s. s ≡ entries self.now) }
+    {
+        let mut versions = match Vec::with_capacity(self.table.allocator(), self.len()) {
+            Ok(versions) => versions,
+            Err(_) => return Err(MakeError),
+        };
+        match self.iter_into(&mut versions) {
+            Ok(()) => Ok(Iter::of(versions)),
+            Err(e) => Err(e),
+        }
+    }
+
+    /// Adds the versions to `versions`, in the index's own order. Fails if memory is refused or a version has 2^63 - 1
+    /// owners; then the versions before the failure were added.
+    pub fn iter_into(&self, versions: &mut Vec<Arc<Version<K, V>>>) -> Result<(), MakeError>
+    where
+        K: Drop,
+        V: Drop,
+        ensures all { OnOk result (map arc_value versions.new.items
+            ≡ map arc_value versions.old.items ++ entries self.now) }
+        ensures refused { OnErr result ((n : ℕ) × (map arc_value versions.new.items
+            ≡ map arc_value versions.old.items ++ take n (entries self.now))) }
+    {
+        let mut at = self.table.first_place();
+        while let Some(place) = at {
+            let Ok(version) = self.table.entry_at(place).clone_owner() else {
+                return Err(MakeError);
+            };
+            match versions.push(version) {
+                Ok(()) => {}
+                Err(_back) => return Err(MakeError),
+            }
+            at = self.next_place(place);
+        }
+        Ok(())
+    }
+}

@@ -1,0 +1,82 @@
+//! How an entry is made from the guard of a container, alike for maps and indexes. The guard may be of any kind, but the
+//! owned form, whose contracts say more of a guard that goes, makes its entries itself.
+ghost use Rattle.scc_common.specs.Contents.{entries, IsUniqueBy};
+ghost use Rattle.scc_owned.specs.EntrySteps.{StandsIn};
+ghost use Rattle.scc_owned.specs.Held.{entry_guard, occupied_front, occupied_guard};
+ghost use Rattle.scc_owned.specs.Lookups.{IsEntryOf, IsOccupiedAt};
+ghost use Rattle.scc_owned.specs.Seats.{entry_rest, occupied_rest};
+ghost use Rattle.std.specs.Prelude.{◌≡◌, [], None, IfOk, IfErr, IfSome, IfNone};
+
+use crate::Owned;
+use crate::held::{HeldEntry, HeldOccupied, HeldVacant};
+use crate::stored::Stored;
+use scc_common::{Guard, Keyed};
+use std::hash::{BuildHasher, Hash};
+
+impl<G: Guard<Inner = Owned<E, H>>, N, E: Keyed, H: BuildHasher> HeldOccupied<G, N, E, H>
+where
+    E::Key: Eq + Hash,
+{
+    /// Returns the first entry of the container of `guard`. If the container is empty, drops the guard and returns `rest`.
+    pub fn first(guard: G, rest: N) -> Result<Self, N>
+    where
+        G: Drop,
+        ensures guard { IfOk result (λ o. occupied_guard o ≡ guard) }
+        ensures rest { IfOk result (λ o. occupied_rest o ≡ rest) }
+        ensures first { IfOk result (λ o. StandsIn (G.inner guard) o × (occupied_front o ≡ [])) }
+        ensures empty { IfErr result (λ n. (n ≡ rest) × (entries (G.inner guard) ≡ [])) }
+        ensures unique { IsUniqueBy E.Key.eq E.key_of (G.inner guard) }
+    {
+        guard.look().key_facts();
+        match guard.look().first_place() {
+            Some(place) => Ok(HeldOccupied::at(guard, place, rest)),
+            None => Err(rest),
+        }
+    }
+}
+
+impl<G: Guard<Inner = Owned<E, H>>, N, E: Stored, H: BuildHasher> HeldEntry<G, N, E, H>
+where
+    E::Key: Eq + Hash,
+{
+    /// Returns the entry of `k` in the container of `guard`: occupied at the stored pair, or vacant with `k`. Allocates
+    /// nothing and makes no array.
+    pub fn of(guard: G, k: E::Key, rest: N) -> Self
+    where
+        E::Key: Drop,
+        ensures guard { entry_guard result ≡ guard }
+        ensures rest { entry_rest result ≡ rest }
+        ensures entry { IsEntryOf E.lookups E.Key.eq (G.inner guard) k result }
+        ensures unique { IsUniqueBy E.Key.eq E.key_of (G.inner guard) }
+    {
+        let hash = guard.look().hash_of(&k);
+        match guard.look().search(hash, &k) {
+            Some(place) => HeldEntry::Occupied(HeldOccupied::at(guard, place, rest)),
+            None => HeldEntry::Vacant(HeldVacant::of_key(guard, k, hash, rest)),
+        }
+    }
+}
+
+impl<G: Guard<Inner = Owned<E, H>>, N, E: Stored, H: BuildHasher> HeldOccupied<G, N, E, H>
+where
+    E::Key: Eq + Hash,
+{
+    /// Returns the occupied entry of `k` in the container of `guard`. If no key equals `k`, drops the guard and returns
+    /// `None`.
+    pub fn of(guard: G, k: &E::Key, rest: N) -> Option<Self>
+    where
+        G: Drop,
+        N: Drop,
+        ensures guard { IfSome result (λ o. occupied_guard o ≡ guard) }
+        ensures rest { IfSome result (λ o. occupied_rest o ≡ rest) }
+        ensures entry { IfSome result (IsOccupiedAt E.lookups E.Key.eq (G.inner guard) k.now) }
+        ensures missing { IfNone result (E.lookups.find (E.Key.eq k.now) (entries (G.inner guard)) ≡ None) }
+        ensures unique { IsUniqueBy E.Key.eq E.key_of (G.inner guard) }
+    {
+        let hash = guard.look().hash_of(k);
+        match guard.look().search(hash, k) {
+            Some(place) => Some(HeldOccupied::at(guard, place, rest)),
+            None => None,
+        }
+    }
+}
