@@ -14,7 +14,7 @@ mod tail;
 use bench_kit::arguments::{bad_argument, words};
 use peer::Peer;
 use request::{Group, PeerName, Request, parse_request};
-use scc_map::Owned;
+use scc_owned::map::Owned;
 use std::alloc::Global;
 use std::collections::HashMap;
 use std::io;
@@ -71,7 +71,7 @@ fn measure_peer(rt: &HostRuntime, request: Request) -> io::Result<()> {
         PeerName::Owned => measure::<Owned<u64, u64>, _>(rt, alloc, request),
         PeerName::Kit => measure::<HashMap<u64, u64>, _>(rt, alloc, request),
         PeerName::Set => measure::<scc_set::Owned<u64>, _>(rt, alloc, request),
-        PeerName::Index => measure::<scc_index::Owned<u64, u64>, _>(rt, alloc, request),
+        PeerName::Index => measure::<scc_owned::index::Owned<u64, u64>, _>(rt, alloc, request),
         PeerName::Cache => measure_cache(rt, alloc, request),
     }
 }

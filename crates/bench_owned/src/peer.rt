@@ -2,7 +2,7 @@
 //! too.
 use bench_kit::arguments::out_of_memory;
 use bench_kit::streams::value as value_of;
-use scc_map::Owned;
+use scc_owned::map::Owned;
 use std::alloc::Global;
 use std::collections::HashMap;
 use std::io;
@@ -150,9 +150,9 @@ impl Peer for scc_set::Owned<u64> {
 }
 
 /// A look-up peeks, and a write publishes a new version.
-impl Peer for scc_index::Owned<u64, u64> {
+impl Peer for scc_owned::index::Owned<u64, u64> {
     fn make(alloc: Global) -> Self {
-        scc_index::Owned::new(alloc)
+        scc_owned::index::Owned::new(alloc)
     }
 
     #[inline(always)]

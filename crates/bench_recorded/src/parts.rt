@@ -3,7 +3,7 @@ ghost use Rattle.std.specs.Prelude.{◌≤◌};
 
 use scc_calls::{Calls, MapCall};
 use scc_common::Shared;
-use scc_map::Owned;
+use scc_owned::map::Owned;
 use std::alloc::{AllocError, Global};
 use std::hash::{BuildHasherDefault, FoldHasher};
 use std::io;

@@ -5,7 +5,7 @@ ghost use Rattle.scc_recorded.specs.Setups.{request_of};
 use crate::parts::{Fold, Outcome, PARTS, fold_hasher, nanos, out_of_memory};
 use crate::recording::Recording;
 use scc_calls::{Calls, MapCall};
-use scc_map::Owned;
+use scc_owned::map::Owned;
 use scc_recorded::{Finished, Pass, Recorded, Setup, Site};
 use std::alloc::{AllocError, Global};
 use std::io;

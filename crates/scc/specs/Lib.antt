@@ -26,10 +26,10 @@ pub use Rattle.scc_common.specs.Walks
 pub use Rattle.scc_history.specs.Orders
 pub use Rattle.scc_history.specs.Receipts
 pub use Rattle.scc_history.specs.Stamps
-pub use Rattle.scc_map.specs.ClosureSteps
-pub use Rattle.scc_map.specs.Entries
-pub use Rattle.scc_map.specs.Lends
-pub use Rattle.scc_map.specs.MapSteps
+pub use Rattle.scc_owned.specs.MapSteps
+pub use Rattle.scc_owned.specs.Entries
+pub use Rattle.scc_owned.specs.Lends
+pub use Rattle.scc_owned.specs.MapSteps
 pub use Rattle.scc_memo.specs.Memos
 pub use Rattle.scc_recorded.specs.Adds
 pub use Rattle.scc_recorded.specs.Closing

@@ -3,7 +3,7 @@
 pub mod ruled;
 
 pub use scc_common::Version;
-pub use scc_index::locked::{Entry, OccupiedEntry, VacantEntry};
-pub use scc_index::{Iter, Owned, borrowed as owned};
+pub use scc_owned::index::locked::{Entry, OccupiedEntry, VacantEntry};
+pub use scc_owned::index::{Iter, Owned, borrowed as owned};
 pub use scc_ruled_index::RuledIndex;
 pub use scc_shared_index::{HashIndex, Reserve};

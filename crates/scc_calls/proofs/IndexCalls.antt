@@ -12,10 +12,12 @@ use Rattle.scc_common.specs.Contents.{Contents, entries, bucket_count}
 use Rattle.scc_common.specs.Pairs.{find, without}
 use Rattle.scc_common.specs.Steps.{Holds}
 use Rattle.scc_buckets.proofs.PairSplits.{cond-true}
-use Rattle.scc_index.specs.Entries.{occupied_pair, IsOccupiedAt, IsUpdated}
-use Rattle.scc_index.specs.IndexSteps.{Inserts, Removes}
-use Rattle.scc_index.specs.declared.held.HeldOccupied.{HeldOccupied}
-use Rattle.scc_index.proofs.AfterSteps.{find-written}
+use Rattle.scc_owned.specs.Held.{occupied_pair}
+use Rattle.scc_owned.specs.Entries.{IsOccupiedAt}
+use Rattle.scc_owned.specs.IndexEntries.{IsUpdated}
+use Rattle.scc_owned.specs.IndexSteps.{Inserts, Removes}
+use Rattle.scc_owned.specs.declared.held.HeldOccupied.{HeldOccupied}
+use Rattle.scc_owned.proofs.AfterSteps.{find-written}
 use Rattle.scc_calls.specs.Resized.{MovesResized}
 use Rattle.scc_calls.specs.States.{ResizesTo, state_of, setting_of, setting_by}
 use Rattle.scc_calls.specs.IndexCalls.{IndexMoves}
@@ -23,6 +25,7 @@ use Rattle.scc_calls.specs.declared.calls_as_values.IndexCall.TheVariants.{Inser
 use Rattle.scc_calls.specs.declared.replies.Reply.TheVariants.{Inserted, Has, Cleared}
 use Rattle.scc_calls.proofs.MapCalls.{none-left}
 use Rattle.scc_calls.proofs.States.{holds-changes, unchanged-changes}
+use Rattle.scc_owned.specs.Lends.{pair_keys}
 
 some-of : {X : Type 0} (o : Option X) → IsSome o → (x : X) × (o ≡ Some x)
 some-of None h = absurd (let z : false ≡ true = h in cc)
@@ -55,7 +58,7 @@ module _ {K V H : Type 0} (eq : K → K → Bool) (clone : K → K → Type 0) (
   removed-setting k true h = ap setting_by h.1.settings
 
 module _ {G N K V S T : Type 0} {d : guard.Ghosts G (Contents (K × V) S)} {g : equality.Ghosts K} {h : hash.Ghosts K} {b : builder.Ghosts S T} {w : hasher.Ghosts T} {eq : K → K → Bool} (laws : IsEquivalence eq) (C : K → K → Type 0)
-    (c : Contents (K × V) S) (k : K) (v : V) (o p : HeldOccupied G N K V S T d g h b w) (at : IsOccupiedAt eq c k o) (up : IsUpdated C eq o v p) where
+    (c : Contents (K × V) S) (k : K) (v : V) (o p : HeldOccupied G N (K × V) S K T d pair_keys b w g h) (at : IsOccupiedAt eq c k o) (up : IsUpdated C eq o v p) where
   near : eq k up.key ≡ true
   near = laws.congr k (occupied_pair o).0 up.key at.equal ∙ laws.symm (occupied_pair o).0 up.key ∙ up.equal
 

@@ -9,7 +9,7 @@ use Rattle.std.proofs.lemmas.List.Sorted.{IsPermutation-refl, IsPermutation-sym,
 use Rattle.std.proofs.lemmas.Map.{NonePasses}
 use Rattle.std.proofs.lemmas.Map.Keys.{IsDistinct-head, IsDistinct-tail, IsDistinct-cons}
 use Rattle.scc_common.specs.Pairs.{find, without}
-use Rattle.scc_map.proofs.CallerLemmas.{same-finds}
+use Rattle.scc_owned.proofs.CallerLemmas.{same-finds}
 use Rattle.scc_buckets.proofs.Lookups.{along, find-IsPermutation, find-without, distinct-IsPermutation}
 use Rattle.scc_buckets.proofs.PairSplits.{by_answer, cond-true, cond-false, without-split, set_value-split, set_key-split, distinct-added}
 use Rattle.scc_calls.specs.MapCalls.{MapMoves, map_key}

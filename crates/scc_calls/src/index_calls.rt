@@ -5,7 +5,7 @@ ghost use Rattle.scc_calls.specs.Preparations.{IndexPreparesCall, IndexPreparesK
 use crate::replies::{CopiesReply, clone_pair, copies, equals};
 use crate::{Calls, IndexCall, Refused, Reply};
 use scc_common::{InsertError, MakeError};
-use scc_index::Owned;
+use scc_owned::index::Owned;
 use std::alloc::Global;
 use std::hash::{BuildHasher, Hash};
 

@@ -5,8 +5,8 @@ ghost use Rattle.scc_calls.specs.Preparations.{MapPreparesCall, MapPreparesKey};
 use crate::replies::{CopiesReply, clone_pair, copies, equals};
 use crate::{Calls, MapCall, Refused, Reply};
 use scc_common::{InsertError, MakeError};
-use scc_map::Owned;
-use scc_map::borrowed::ReplaceResult;
+use scc_owned::map::Owned;
+use scc_owned::map::borrowed::ReplaceResult;
 use std::alloc::Global;
 use std::hash::{BuildHasher, Hash};
 

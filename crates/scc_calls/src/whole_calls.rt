@@ -41,7 +41,7 @@ pub trait WholeCalls: Calls {
 }
 
 impl<K: Eq + Hash + Clone, V: Clone + PartialEq, H: BuildHasher> WholeCalls
-    for scc_map::Owned<K, V, H> {
+    for scc_owned::map::Owned<K, V, H> {
     ghost use Rattle.std.proofs.Common.{refl, rules, ◌∙◌};
     ghost use Rattle.scc_calls.specs.Means.{means_of, told_alike};
     ghost use Rattle.scc_calls.specs.MapCalls.{MapMoves};

@@ -47,7 +47,7 @@ impl<K: Eq + Hash + Clone, H: BuildHasher> WholeCalls for scc_set::Owned<K, H> {
 }
 
 impl<K: Eq + Hash + Clone, V: Clone + PartialEq, H: BuildHasher> WholeCalls
-    for scc_index::Owned<K, V, H> {
+    for scc_owned::index::Owned<K, V, H> {
     ghost use Rattle.std.proofs.Common.{refl, rules, ◌∙◌};
     ghost use Rattle.scc_calls.specs.Means.{means_of, told_alike};
     ghost use Rattle.scc_calls.specs.IndexCalls.{IndexMoves};

@@ -4,7 +4,7 @@ use Rattle.std.specs.List.{filter, flat_map}
 use Rattle.std.specs.List.Sorted.{IsPermutation}
 use Rattle.std.specs.Result.{is_err}
 use Rattle.std.proofs.lemmas.List.Sorted.{IsPermutation-trans}
-use Rattle.scc_map.proofs.Filtering.{Sorts}
+use Rattle.scc_owned.proofs.Filtering.{Sorts}
 use Rattle.scc_common.specs.Contents.{Contents, entries, lists_of}
 
 none-kept : {X : Type 0} (es : List X) → filter (λ x. not true) es ≡ []

@@ -16,8 +16,7 @@ use Rattle.scc_common.specs.Steps.{Holds, HoldsExactly, IsUnchanged}
 use Rattle.scc_common.specs.declared.errors.InsertError.{InsertError}
 use Rattle.scc_common.specs.declared.errors.InsertError.TheVariants.{Exists, Memory}
 use Rattle.scc_table.proofs.Replies.{find-key}
-use Rattle.scc_index.specs.ClosureSteps.{RemovesIf}
-use Rattle.scc_index.specs.IndexSteps.{Inserts, Removes}
+use Rattle.scc_owned.specs.IndexSteps.{RemovesIf, Inserts, Removes}
 use Rattle.scc_stripes.specs.Minimums.{FollowsMinimum}
 use Rattle.scc_rules.specs.Rules.{AllKeep, IsKeptAt, KeepsAll, ReadsKept}
 use Rattle.scc_rules.proofs.Lists.{all-moved, all-removed, all-found}

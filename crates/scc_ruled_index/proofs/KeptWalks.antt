@@ -2,8 +2,8 @@
 use Rattle.std.proofs.Common.{Bool, List, ◌++◌, sym, subst}
 use Rattle.std.specs.Borrow.{Bor}
 use Rattle.std.specs.Fn.{Mut}
-use Rattle.scc_index.specs.IndexWalks.{CallableOnAll, Retains}
-use Rattle.scc_index.specs.IndexWalks as retained
+use Rattle.scc_owned.specs.IndexWalks.{CallableOnAll, Retains}
+use Rattle.scc_owned.specs.IndexWalks as retained
 use Rattle.scc_rules.specs.Rules.{AllKeep}
 use Rattle.scc_rules.specs.Walks.{TakesEach}
 use Rattle.scc_rules.proofs.Lists.{all-middle}

@@ -1,6 +1,6 @@
 //! The calls on one key. A contract states what the arguments and the rule decide; the call does to the stripe what the
 //! owned call of its name does.
-ghost use Rattle.scc_index.specs.Entries.{Exists, Memory};
+ghost use Rattle.scc_owned.specs.Entries.{Exists, Memory};
 ghost use Rattle.scc_ruled_index.specs.Replies.{IsTestedOn, PassesKept};
 ghost use Rattle.scc_rules.specs.Rules.{IsCalledOn, IsKeptAt, ReadsKept};
 ghost use Rattle.std.specs.Arc.{arc_value};

@@ -1,6 +1,6 @@
 //! `Kept`: an owned index each of whose pairs keeps a rule, which is what a stripe holds.
 ghost use Rattle.scc_common.specs.Replies.{HasKey};
-ghost use Rattle.scc_index.specs.Entries.{Exists, Memory};
+ghost use Rattle.scc_owned.specs.Entries.{Exists, Memory};
 ghost use Rattle.scc_ruled_index.specs.Replies.{IsTestedOn, PassesKept};
 ghost use Rattle.scc_rules.specs.Rules.{IsCalledOn, IsKeptAt, KeepsAll, ReadsKept};
 ghost use Rattle.std.specs.Arc.{arc_value};
@@ -11,7 +11,7 @@ mod places;
 mod walks;
 
 use scc_common::{InsertError, MakeError, Shared, Version};
-use scc_index::Owned;
+use scc_owned::index::Owned;
 use scc_rules::Rule;
 use std::hash::{BuildHasher, Hash};
 use std::marker::{Model, PhantomData};

@@ -6,7 +6,7 @@ ghost use Rattle.std.specs.Iterator.{item_count};
 ghost use Rattle.std.specs.Prelude.{◌≡◌, IfOk, map};
 
 use scc_common::{MakeError, Version};
-use scc_index::Iter;
+use scc_owned::index::Iter;
 use scc_rules::Rule;
 use std::iter::FusedIterator;
 use std::marker::{Model, PhantomData};

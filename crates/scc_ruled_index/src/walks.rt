@@ -1,6 +1,6 @@
 //! Walks over all stripes, one after another. A walk lends its closure to each stripe in turn.
 ghost use Rattle.scc_common.specs.Walks.{CalledOn, Walks};
-ghost use Rattle.scc_index.specs.IndexWalks.{Retains};
+ghost use Rattle.scc_owned.specs.IndexWalks.{Retains};
 ghost use Rattle.scc_ruled_index.specs.Stripes.{stripes_of};
 ghost use Rattle.scc_rules.specs.Rules.{AllKeep};
 ghost use Rattle.scc_rules.specs.Walks.{TakesEach};

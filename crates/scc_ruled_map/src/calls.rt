@@ -2,7 +2,7 @@
 //! owned call of its name does.
 ghost use Rattle.std.specs.Fn.{FnOnceReturnsAt, FnOnceTakesAt};
 ghost use Rattle.std.specs.Prelude.{◌≡◌, ◌⊎◌, IfErr, IfOk, IfSome};
-ghost use Rattle.scc_map.specs.Entries.{Exists, Memory};
+ghost use Rattle.scc_owned.specs.Entries.{Exists, Memory};
 ghost use Rattle.scc_common.specs.Replies.{HasKey};
 ghost use Rattle.scc_rules.specs.Rules.{IsCalledOn, IsCalledToWrite, Keeps, KeepsRefused, IsTested, ReadsKept, WritesKept, RemovesKept};
 

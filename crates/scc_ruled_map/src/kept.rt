@@ -1,6 +1,6 @@
 //! `Kept`: an owned map each of whose pairs keeps a rule, which is what a stripe holds.
 ghost use Rattle.scc_common.specs.Replies.{HasKey};
-ghost use Rattle.scc_map.specs.Entries.{Exists, Memory};
+ghost use Rattle.scc_owned.specs.Entries.{Exists, Memory};
 ghost use Rattle.scc_rules.specs.Rules.{IsCalledOn, IsCalledToWrite, Keeps, KeepsAll, KeepsRefused, IsTested, ReadsKept, WritesKept, RemovesKept};
 ghost use Rattle.std.specs.Fn.{FnOnceReturnsAt, FnOnceTakesAt};
 ghost use Rattle.std.specs.Prelude.{◌≡◌, ◌⊎◌, IfErr, IfOk, IfSome};
@@ -10,7 +10,7 @@ mod places;
 mod walks;
 
 use scc_common::{InsertError, Shared};
-use scc_map::Owned;
+use scc_owned::map::Owned;
 use scc_rules::Rule;
 use std::hash::{BuildHasher, Hash};
 use std::marker::{Model, PhantomData};

@@ -11,7 +11,7 @@ ghost use Rattle.scc_rules.specs.Walks.{KeepsEach, KeepsEachAlways, TakesEach, T
 
 use super::RuledMap;
 use scc_common::{Verdict, WalkError};
-use scc_map::Sink;
+use scc_owned::map::Sink;
 use scc_rules::Rule;
 use std::hash::{BuildHasher, Hash};
 use std::sync::Wait;

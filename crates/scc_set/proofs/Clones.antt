@@ -8,7 +8,7 @@ use Rattle.scc_common.specs.Clones.{HasClones}
 use Rattle.scc_common.specs.Contents.{Contents, entries}
 use Rattle.scc_common.specs.Pairs.{find as find_pair}
 use Rattle.scc_buckets.proofs.Mapped.{entries-mapped, bucket_count-mapped, settings_of-mapped}
-use Rattle.scc_map.specs.Collections as pairs
+use Rattle.scc_owned.specs.Collections as pairs
 use Rattle.scc_set.specs.Collections.{FindsClones}
 use Rattle.scc_set.specs.Keys.{of_map}
 use Rattle.scc_set.proofs.Sets.{found, key_alone}

@@ -23,9 +23,8 @@ use Rattle.scc_table.specs.Relocations.{RelocatesTwo}
 use Rattle.scc_table.proofs.MappedRelocations.{waiting_of-mapped, RelocatesNone-mapped, RelocatesTwo-mapped}
 use Rattle.scc_common.specs.declared.errors.InsertError.{InsertError}
 use Rattle.scc_common.specs.declared.errors.InsertError.TheVariants.{Exists, Memory}
-use Rattle.scc_map.specs.MapSizes.{ReservesOrRefuses, ReleasesOrRefuses}
-use Rattle.scc_map.specs.MapSteps as pairs
-use Rattle.scc_map.specs.ClosureSteps as steps
+use Rattle.scc_owned.specs.Sizes.{ReservesOrRefuses, ReleasesOrRefuses}
+use Rattle.scc_owned.specs.MapSteps as pairs
 use Rattle.scc_common.specs.Closures as closures
 use Rattle.scc_common.specs.Copies.{IsCopied}
 use Rattle.scc_common.specs.Closures.{AnswersAt}
@@ -227,11 +226,11 @@ module _ {C F K S : Type 0} (gm : Once C (MutBor (Unit {0}) × Unit {0}) (Bool �
       let f : K × Unit {0} → K = λ p. p.0 in
       rw (entries-mapped f c) (subst (λ ks. HoldsExactly (of_map c) ks (of_map d)) (written-keys (eq k) (entries c) w) (HoldsExactly-mapped f c (set_value (eq k) (entries c) w) d h))
 
-  removed-if : (p : K × Unit {0}) (w : Unit {0}) (b : Bool) → steps.RemovedIf gm m eq c k r d p w b → RemovedIf gf f eq (of_map c) k (key_alone r) (of_map d) p.0 b
+  removed-if : (p : K × Unit {0}) (w : Unit {0}) (b : Bool) → pairs.RemovedIf gm m eq c k r d p w b → RemovedIf gf f eq (of_map c) k (key_alone r) (of_map d) p.0 b
   removed-if p w true h = (ap key_alone h.0, subst (λ es. Holds (of_map c) es (of_map d)) (without-pairs eq c k) (Holds-mapped (λ q. q.0) c (without_pair eq (entries c) k) d h.1))
   removed-if p w false h = (ap key_alone h.0, stays w h.1)
 
-  pub RemovesIf-keys : (o : Option (K × Unit {0})) → steps.RemovesIf gm m eq c k r d o → RemovesIf gf f eq (of_map c) k (key_alone r) (of_map d) (key_alone o)
+  pub RemovesIf-keys : (o : Option (K × Unit {0})) → pairs.RemovesIf gm m eq c k r d o → RemovesIf gf f eq (of_map c) k (key_alone r) (of_map d) (key_alone o)
   RemovesIf-keys None h = (ap key_alone h.0, IsUnchanged-mapped (λ p. p.0) c d h.1)
   RemovesIf-keys (Some p) h = (h.0, one h.2.shown h.2.left h.0 h.2.met, removed-if p h.1 h.0 h.3)
 

@@ -15,7 +15,7 @@ use Rattle.scc_common.specs.declared.verdict.Verdict.{Verdict}
 use Rattle.scc_buckets.proofs.Mapped.{entries-mapped}
 use Rattle.scc_common.specs.PairWalks.{CalledToWrite, TakesToWrite, CallableToWrite}
 use Rattle.scc_common.specs.PairWalks as writes
-use Rattle.scc_map.specs.Sinks.{with_units}
+use Rattle.scc_owned.specs.Sinks.{with_units}
 use Rattle.scc_set.specs.Keys.{of_map}
 use Rattle.scc_set.specs.SetWalks.{CallableWhile, Walks, walked, stopped, went_on, Declines, declined_none, declined, Retains, retained, stayed, went, Takes, ended, refused, kept, took, kept_last, took_last}
 

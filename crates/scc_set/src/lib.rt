@@ -1,4 +1,4 @@
-//! A hash set for one owner, over the map of `scc_map`.
+//! A hash set for one owner, over the map of `scc_owned`.
 #![tactic(auto)]
 
 ghost use Rattle.scc_common.specs.Contents.{entries, bucket_count, lists_of, settings_of, refused_of, waiting_of, hash_in, IsMarked, IsNoteUp, note_of};
@@ -25,7 +25,7 @@ mod whole;
 
 pub use entry::{OccupiedEntry, Removed};
 use scc_common::{Hashes, InsertError, KeyError, MakeError};
-use scc_map::borrowed::ReplaceResult;
+use scc_owned::map::borrowed::ReplaceResult;
 use std::hash::{BuildHasher, BuildHasherDefault, FoldHasher, Hash};
 use std::marker::Model;
 
@@ -36,7 +36,7 @@ use std::marker::Model;
 /// RandomState::new(&rt)?)`.
 #[derive(Drop)]
 pub struct Owned<K: Eq + Hash, H: BuildHasher = BuildHasherDefault<FoldHasher>> {
-    pub(crate) map: scc_map::Owned<K, (), H>,
+    pub(crate) map: scc_owned::map::Owned<K, (), H>,
 }
 
 impl<K: Eq + Hash, H: BuildHasher> Model for Owned<K, H> {
@@ -250,7 +250,7 @@ fn key_answer<K, R>(answer: Result<R, InsertError<K, ()>>) -> Result<R, KeyError
 /// Puts `k` in the place of the map's key that equals it, and returns the old key. If no key equals `k`, returns `k`,
 /// as an `Err`.
 fn swap_in_map<K: Eq + Hash, H: BuildHasher>(
-    map: &mut scc_map::Owned<K, (), H>,
+    map: &mut scc_owned::map::Owned<K, (), H>,
     k: K,
 ) -> Result<K, K>
     ensures swapped { IfOk result (λ old. (find_pair K.eq (entries map.old) k ≡ Some (old, tt))

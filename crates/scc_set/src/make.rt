@@ -55,7 +55,7 @@ impl<K: Eq + Hash, H: BuildHasher> Owned<K, H> {
         ensures { IsNew hasher result }
     {
         Owned {
-            map: scc_map::Owned::with_hasher(alloc, hasher),
+            map: scc_owned::map::Owned::with_hasher(alloc, hasher),
         }
     }
 
@@ -71,7 +71,7 @@ impl<K: Eq + Hash, H: BuildHasher> Owned<K, H> {
         H: Drop,
         ensures { MakesEmpty (λ _. hasher) 0 capacity result }
     {
-        match scc_map::Owned::with_capacity_and_hasher(alloc, capacity, hasher) {
+        match scc_owned::map::Owned::with_capacity_and_hasher(alloc, capacity, hasher) {
             Ok(map) => Ok(Owned { map }),
             Err(e) => Err(e),
         }
@@ -89,7 +89,7 @@ impl<K: Eq + Hash, H: BuildHasher> Owned<K, H> {
         requires { skipped ≤ 4 }
         ensures { MakesEmpty (λ _. hasher) skipped capacity result }
     {
-        match scc_map::Owned::skipping(alloc, skipped, capacity, hasher) {
+        match scc_owned::map::Owned::skipping(alloc, skipped, capacity, hasher) {
             Ok(map) => Ok(Owned { map }),
             Err(e) => Err(e),
         }

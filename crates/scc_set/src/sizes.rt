@@ -1,6 +1,6 @@
 //! The calls about the size of a set: reservations, the range of the capacity, the bucket of a key.
 ghost use Rattle.scc_common.specs.Contents.{minimum_of, pending_of, hash_in, bucket_of};
-ghost use Rattle.scc_map.specs.MapSizes.{ReservesByRule, ReleasesByRule};
+ghost use Rattle.scc_owned.specs.Sizes.{ReservesByRule, ReleasesByRule};
 ghost use Rattle.scc_set.specs.Keys.{IsUnique};
 ghost use Rattle.std.specs.Prelude.{◌≡◌, ◌+◌, ◌<◌, ◌^◌};
 

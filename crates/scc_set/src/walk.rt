@@ -1,7 +1,7 @@
 //! Walks over the keys of a set.
 ghost use Rattle.scc_common.specs.Contents.{entries};
 ghost use Rattle.scc_common.specs.Steps.{Holds};
-ghost use Rattle.scc_map.specs.Shrinking.{ClearsByRule, RetainsByRule, TakesByRule};
+ghost use Rattle.scc_owned.specs.Shrinking.{ClearsByRule, RetainsByRule, TakesByRule};
 ghost use Rattle.scc_set.specs.Keys.{IsUnique};
 ghost use Rattle.scc_set.specs.SetWalks.{CallableWhile, GoesOn, Retains, Takes, Walks};
 ghost use Rattle.std.specs.Fn.{CalledAt, TakesAt};

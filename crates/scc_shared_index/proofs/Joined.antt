@@ -5,8 +5,8 @@ use Rattle.std.specs.Fn.{Mut}
 use denote.Param.Always.{always_mut, mut_next}
 use Rattle.scc_common.specs.Walks.{CalledOn}
 use Rattle.scc_common.proofs.WalkLemmas.{turn-always}
-use Rattle.scc_index.specs.IndexWalks.{CallableOnAll, Retains}
-use Rattle.scc_index.specs.IndexWalks as retained
+use Rattle.scc_owned.specs.IndexWalks.{CallableOnAll, Retains}
+use Rattle.scc_owned.specs.IndexWalks as retained
 
 module _ {F K V : Type 0} where
   pub retains-join : {T : F → K × V → Bool → F → Type 0} {f m last : F} {es fs stay more : List (K × V)} → Retains T f es stay m → Retains T m fs more last → Retains T f (es ++ fs) (stay ++ more) last

@@ -6,9 +6,8 @@ use Rattle.std.specs.Fn.{Once, FnOnceReturnsAt}
 use Rattle.scc_common.specs.Contents.{Contents, entries}
 use Rattle.scc_common.specs.Pairs.{find}
 use Rattle.scc_common.specs.declared.errors.InsertError.{InsertError}
-use Rattle.scc_index.specs.Entries.{Exists, Memory}
-use Rattle.scc_index.specs.ClosureSteps.{RemovesIf}
-use Rattle.scc_index.specs.IndexSteps.{Inserts}
+use Rattle.scc_owned.specs.Entries.{Exists, Memory}
+use Rattle.scc_owned.specs.IndexSteps.{RemovesIf, Inserts}
 use Rattle.scc_common.specs.Replies.{HasKey}
 use Rattle.scc_table.proofs.Replies.{find-key}
 use Rattle.scc_shared_index.specs.Replies.{PassesOn}

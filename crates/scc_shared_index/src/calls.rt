@@ -2,7 +2,7 @@
 //! of its name does.
 ghost use Rattle.std.specs.Prelude.{◌≡◌, ◌⊎◌, IfErr, IfOk, IfSome, IsTrue, true};
 ghost use Rattle.std.specs.Arc.{arc_value};
-ghost use Rattle.scc_index.specs.Entries.{Exists, Memory};
+ghost use Rattle.scc_owned.specs.Entries.{Exists, Memory};
 ghost use Rattle.scc_common.specs.Replies.{HasKey, ReadsEqual};
 ghost use Rattle.scc_shared_index.specs.Replies.{PassesOn};
 

@@ -14,8 +14,8 @@ mod walks;
 mod whole;
 
 use scc_common::{MakeError, Shared, Version};
-use scc_index::locked::{Entry, OccupiedEntry, VacantEntry};
-use scc_index::{Iter, Owned};
+use scc_owned::index::locked::{Entry, OccupiedEntry, VacantEntry};
+use scc_owned::index::{Iter, Owned};
 use scc_stripes::Striped;
 pub use sizes::Reserve;
 use std::alloc::Global;

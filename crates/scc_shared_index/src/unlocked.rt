@@ -5,7 +5,7 @@ ghost use Rattle.scc_shared_index.specs.Stripes.{hasher_of};
 
 use super::HashIndex;
 use scc_common::{MakeError, Shared};
-use scc_index::Owned;
+use scc_owned::index::Owned;
 use scc_stripes::OpenStripes;
 use std::alloc::Global;
 use std::hash::{BuildHasher, Hash};

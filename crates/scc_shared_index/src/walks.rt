@@ -5,7 +5,7 @@ ghost use Rattle.scc_stripes.specs.Stripes.{stripe_count};
 ghost use Rattle.scc_stripes.specs.Walks.{AreOfStripes};
 ghost use Rattle.std.specs.Prelude.{List};
 ghost use Rattle.scc_common.specs.Walks.{CalledOn, Walks};
-ghost use Rattle.scc_index.specs.IndexWalks.{Retains};
+ghost use Rattle.scc_owned.specs.IndexWalks.{Retains};
 
 use super::{HashIndex, Iter};
 use scc_common::MakeError;

@@ -3,9 +3,11 @@ ghost use Rattle.std.specs.Prelude.{◌≡◌, [], List, IfSome};
 ghost use Rattle.std.specs.Sync.RwLock.{write_guard_value};
 ghost use Rattle.scc_common.specs.Contents.{Contents};
 ghost use Rattle.scc_common.specs.Pairs.{IsUnique};
-ghost use Rattle.scc_map.specs.Entries.{occupied_map, entry_guard, occupied_pair, occupied_front, IsEntryOf, IsOccupiedAt, replaced_guard, Replaces};
-ghost use Rattle.scc_map.specs.EntrySteps.{StandsIn};
-ghost use Rattle.scc_map.specs.Seats.{entry_rest, occupied_rest, occupied_stripe, replaced_rest, HasSeatIn};
+ghost use Rattle.scc_owned.specs.Held.{occupied_contents, entry_guard, occupied_pair, occupied_front};
+ghost use Rattle.scc_owned.specs.Entries.{IsEntryOf, IsOccupiedAt};
+ghost use Rattle.scc_owned.specs.MapEntries.{replaced_guard, Replaces};
+ghost use Rattle.scc_owned.specs.EntrySteps.{StandsIn};
+ghost use Rattle.scc_owned.specs.Seats.{entry_rest, occupied_rest, occupied_stripe, replaced_rest, HasSeatIn};
 ghost use Rattle.scc_shared_map.specs.Stripes.{stripes_of};
 ghost use Rattle.scc_stripes.specs.Seats.{IsSeatOfKey};
 ghost use Rattle.scc_stripes.specs.Walks.{AreOfStripes};
@@ -13,8 +15,8 @@ ghost use Rattle.scc_common.specs.Walks.{CalledOn};
 ghost use Rattle.scc_common.specs.PairWalks.{Declines, PassesAt};
 
 use super::{Entry, HashMap, OccupiedEntry, ReplaceResult};
-use scc_map::held::{HeldEntry, HeldOccupied, HeldReplace};
-use scc_map::locked::walk::first_later;
+use scc_owned::held::{HeldEntry, HeldOccupied, HeldReplace};
+use scc_owned::locked::first_later;
 use std::hash::{BuildHasher, Hash};
 use std::sync::Wait;
 
@@ -35,8 +37,8 @@ impl<K: Eq + Hash, V, H: BuildHasher> HashMap<K, V, H> {
 
     /// Returns the occupied entry of `k`, or `None` if no key equals `k`.
     pub fn get_sync(&self, rt: &impl Wait, k: &K) -> Option<OccupiedEntry<'_, K, V, H>>
-        ensures entry { IfSome result (λ o. IsOccupiedAt K.eq (occupied_map o) k.now o) }
-        ensures unique { IfSome result (λ o. IsUnique K.eq (occupied_map o)) }
+        ensures entry { IfSome result (λ o. IsOccupiedAt K.eq (occupied_contents o) k.now o) }
+        ensures unique { IfSome result (λ o. IsUnique K.eq (occupied_contents o)) }
         ensures seat { IfSome result (λ o. IsSeatOfKey H.BuildHasher H.Hasher.Hasher K.hash_input (stripes_of self.now)
             k.now (occupied_rest o)) }
     {
@@ -60,8 +62,8 @@ impl<K: Eq + Hash, V, H: BuildHasher> HashMap<K, V, H> {
 
     /// Returns the first entry of the first stripe that has an entry, or `None` if no stripe has one.
     pub fn begin_sync(&self, rt: &impl Wait) -> Option<OccupiedEntry<'_, K, V, H>>
-        ensures first { IfSome result (λ o. StandsIn (occupied_map o) o × (occupied_front o ≡ [])) }
-        ensures unique { IfSome result (λ o. IsUnique K.eq (occupied_map o)) }
+        ensures first { IfSome result (λ o. StandsIn (occupied_contents o) o × (occupied_front o ≡ [])) }
+        ensures unique { IfSome result (λ o. IsUnique K.eq (occupied_contents o)) }
         ensures seat { IfSome result (HasSeatIn (stripes_of self.now)) }
     {
         let (guard, seat) = self.stripes.hold(rt, 0);
@@ -79,8 +81,8 @@ impl<K: Eq + Hash, V, H: BuildHasher> HashMap<K, V, H> {
         mut p: P,
     ) -> Option<OccupiedEntry<'_, K, V, H>>
         requires { P.IsAlwaysCallable p }
-        ensures here { IfSome result (λ o. StandsIn (occupied_map o) o) }
-        ensures unique { IfSome result (λ o. IsUnique K.eq (occupied_map o)) }
+        ensures here { IfSome result (λ o. StandsIn (occupied_contents o) o) }
+        ensures unique { IfSome result (λ o. IsUnique K.eq (occupied_contents o)) }
         ensures seat { IfSome result (HasSeatIn (stripes_of self.now)) }
         ensures first { IfSome result (λ o. (es : List (K × V)) × (q : P) × Declines (CalledOn P.FnMut) p es q
             × PassesAt (CalledOn P.FnMut) q (occupied_front o) (occupied_pair o)
@@ -88,7 +90,7 @@ impl<K: Eq + Hash, V, H: BuildHasher> HashMap<K, V, H> {
     {
         for stripe in 0..self.stripes.stripes() {
             let (guard, seat) = self.stripes.hold(rt, stripe);
-            match HeldOccupied::passing(guard, &mut p, seat) {
+            match OccupiedEntry::passing(guard, &mut p, seat) {
                 Ok(entry) => return Some(entry),
                 Err(_) => {}
             }

@@ -14,8 +14,8 @@ mod walks;
 mod whole;
 
 use scc_common::{MakeError, Shared};
-use scc_map::Owned;
-use scc_map::locked::{Entry, OccupiedEntry, ReplaceResult, VacantEntry};
+use scc_owned::map::Owned;
+use scc_owned::map::locked::{Entry, OccupiedEntry, ReplaceResult, VacantEntry};
 use scc_stripes::Striped;
 pub use sizes::Reserve;
 use std::alloc::Global;

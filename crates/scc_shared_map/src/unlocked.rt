@@ -5,7 +5,7 @@ ghost use Rattle.scc_shared_map.specs.Stripes.{hasher_of};
 
 use super::HashMap;
 use scc_common::{MakeError, Shared};
-use scc_map::Owned;
+use scc_owned::map::Owned;
 use scc_stripes::OpenStripes;
 use std::alloc::Global;
 use std::hash::{BuildHasher, Hash};

@@ -9,7 +9,7 @@ ghost use Rattle.scc_common.specs.PairWalks.{CalledToWrite, Retains, Takes};
 
 use super::HashMap;
 use scc_common::{Verdict, WalkError};
-use scc_map::Sink;
+use scc_owned::map::Sink;
 use std::hash::{BuildHasher, Hash};
 use std::sync::Wait;
 

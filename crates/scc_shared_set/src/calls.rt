@@ -6,7 +6,7 @@ ghost use Rattle.scc_shared_set.specs.Answers.{Exists, Memory, IsEqual, ReadsEqu
 
 use super::HashSet;
 use scc_common::{InsertError, KeyError};
-use scc_map::locked::ReplaceResult;
+use scc_owned::map::locked::ReplaceResult;
 use std::hash::{BuildHasher, Hash};
 use std::sync::Wait;
 

@@ -18,7 +18,7 @@ pub struct HeldKey<E> {
 
 /// A stored key whose stripe is locked.
 pub type OccupiedEntry<'a, K, H = BuildHasherDefault<FoldHasher>> = HeldKey<
-    scc_map::locked::OccupiedEntry<'a, K, (), H>,
+    scc_owned::map::locked::OccupiedEntry<'a, K, (), H>,
 >;
 
 impl<K: Eq + Hash, H: BuildHasher> HashSet<K, H> {
@@ -61,7 +61,7 @@ impl<K: Eq + Hash, H: BuildHasher> HashSet<K, H> {
     }
 }
 
-impl<'a, K: Eq + Hash, H: BuildHasher> HeldKey<scc_map::locked::OccupiedEntry<'a, K, (), H>> {
+impl<'a, K: Eq + Hash, H: BuildHasher> HeldKey<scc_owned::map::locked::OccupiedEntry<'a, K, (), H>> {
     /// Returns the stored key.
     pub fn get(&self) -> &K
         ensures { result.now ≡ occupied_key self.now }

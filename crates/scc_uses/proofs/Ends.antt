@@ -10,10 +10,9 @@ use Rattle.scc_common.specs.Pairs.{find, FindsInstead, IsUnique}
 use Rattle.scc_common.specs.Steps.{HoldsExactly}
 use Rattle.scc_common.specs.declared.errors.InsertError.{InsertError}
 use Rattle.scc_common.specs.declared.errors.InsertError.TheVariants.{Exists, Memory}
-use Rattle.scc_map.specs.ClosureSteps.{UpdatesAt, RemovesIf, RemovedIf}
+use Rattle.scc_owned.specs.MapSteps.{UpdatesAt, RemovesIf, RemovedIf, Inserts}
 use Rattle.scc_common.specs.Closures.{WritesAt}
-use Rattle.scc_map.specs.MapSteps.{Inserts}
-use Rattle.scc_map.proofs.CallerLemmas.{by_answer, cond-true, cond-false, find-equal, finds-set_value, finds-rearranged}
+use Rattle.scc_owned.proofs.CallerLemmas.{by_answer, cond-true, cond-false, find-equal, finds-set_value, finds-rearranged}
 use Rattle.scc_uses.specs.Sessions.{end_of, Sets, IsAsBefore, Renews, Expires}
 
 module _ {S : Type 0} (c d : Contents (ℕ × ℕ) S) where

@@ -13,13 +13,12 @@ use Rattle.scc_common.specs.Pairs.{find, FindsInstead, IsUnique}
 use Rattle.scc_common.specs.Steps.{Holds}
 use Rattle.scc_common.specs.declared.errors.InsertError.{InsertError}
 use Rattle.scc_common.specs.declared.errors.InsertError.TheVariants.{Exists, Memory}
-use Rattle.scc_map.specs.ClosureSteps.{UpdatesAt}
+use Rattle.scc_owned.specs.MapSteps.{UpdatesAt, Inserts}
 use Rattle.scc_common.specs.Closures.{WritesAt}
-use Rattle.scc_map.specs.MapSteps.{Inserts}
-use Rattle.scc_map.proofs.CallerLemmas.{finds-set_value, finds-rearranged, finds-unchanged}
+use Rattle.scc_owned.proofs.CallerLemmas.{finds-set_value, finds-rearranged, finds-unchanged}
 use Rattle.scc_uses.specs.declared.requests.Window.{Window}
 use Rattle.scc_uses.specs.Windows.{after_hit, IsExpired, IsLive, live_at}
-use Rattle.scc_map.proofs.Filtering.{Sorts, passing, finds-filtered}
+use Rattle.scc_owned.proofs.Filtering.{Sorts, passing, finds-filtered}
 use Rattle.std.proofs.lemmas.Bool.{leb-true, leb-false}
 use Rattle.scc_buckets.proofs.Lookups.{along, place-of_find}
 use borrow.Author.Tests.{eqb-true}

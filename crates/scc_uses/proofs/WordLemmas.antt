@@ -8,8 +8,8 @@ use Rattle.scc_common.specs.Contents.{Contents, entries}
 use Rattle.scc_common.specs.Pairs.{find, FindsInstead, IsUnique}
 use Rattle.scc_common.specs.declared.errors.InsertError.{InsertError}
 use Rattle.scc_common.specs.declared.errors.InsertError.TheVariants.{Exists, Memory}
-use Rattle.scc_map.specs.MapSteps.{Inserts}
-use Rattle.scc_map.proofs.CallerLemmas.{by_answer, cond-true, cond-false, finds-rearranged, finds-unchanged}
+use Rattle.scc_owned.specs.MapSteps.{Inserts}
+use Rattle.scc_owned.proofs.CallerLemmas.{by_answer, cond-true, cond-false, finds-rearranged, finds-unchanged}
 use Rattle.scc_uses.specs.Interning.{IsNumberOf, IsInverse, number_in}
 use borrow.Author.Tests.{eqb-true}
 

@@ -8,7 +8,7 @@ ghost use Rattle.scc_calls.specs.Copies.{ClonesEqual};
 use scc_calls::{Calls, MapCall, Reply};
 use scc_common::Shared;
 use scc_history::{CallError, Log, Stripe};
-use scc_map::Owned;
+use scc_owned::map::Owned;
 use scc_recorded::{Closed, Finished, Pass, Recorded, Setup, Site, Unfinished};
 use std::alloc::Global;
 use std::hash::BuildHasher;

@@ -4,7 +4,7 @@ ghost use Rattle.std.specs.List.Sorted.{IsPermutation};
 ghost use Rattle.scc_common.specs.Contents.{entries};
 
 use scc_common::InsertError;
-use scc_map::Owned;
+use scc_owned::map::Owned;
 
 /// Inserts a pair, looks it up and removes it again. The look-up finds the value, and the old pairs are left in some
 /// order.

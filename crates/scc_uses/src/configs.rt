@@ -5,7 +5,7 @@ ghost use Rattle.scc_common.specs.Contents.{entries};
 ghost use Rattle.scc_common.specs.Pairs.{find, FindsInstead};
 
 use scc_common::Version;
-use scc_index::Owned;
+use scc_owned::index::Owned;
 use std::sync::Arc;
 
 /// Publishes `value` under the key of the version `kept`, and returns the value of `kept`, which stays what it was. If

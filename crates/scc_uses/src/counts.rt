@@ -6,8 +6,8 @@ ghost use Rattle.scc_common.specs.Steps.{Rests};
 ghost use Rattle.scc_uses.specs.Counts.{one_more};
 
 use scc_common::InsertError;
-use scc_map::Owned;
-use scc_map::borrowed::Entry;
+use scc_owned::map::Owned;
+use scc_owned::map::borrowed::Entry;
 
 /// Counts a word once more. A count stays at the greatest number once it is there.
 pub fn count_word(counts: &mut Owned<u64, u64>, word: u64) -> Result<(), InsertError<u64, u64>>

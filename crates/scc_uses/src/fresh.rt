@@ -2,7 +2,7 @@
 ghost use Rattle.std.specs.Prelude.{◌≡◌, ◌<◌, ◌≤◌, IfSome};
 ghost use Rattle.scc_common.specs.Contents.{bucket_count, pending_of};
 
-use scc_map::Owned;
+use scc_owned::map::Owned;
 use std::alloc::Global;
 
 /// Inserts `key` with itself as value, if the map lacks `key` and has room for it.

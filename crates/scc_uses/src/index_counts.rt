@@ -3,12 +3,12 @@ ghost use Rattle.std.specs.Prelude.{◌≡◌, nat_eq, Some, IfErr, OnOk, OnErr}
 ghost use Rattle.scc_common.specs.Contents.{entries};
 ghost use Rattle.scc_common.specs.Pairs.{find, FindsInstead};
 ghost use Rattle.scc_common.specs.Steps.{IsUnchanged};
-ghost use Rattle.scc_index.specs.Entries.{Memory};
+ghost use Rattle.scc_owned.specs.Entries.{Memory};
 ghost use Rattle.scc_uses.specs.Counts.{one_more};
 
 use scc_common::InsertError;
-use scc_index::Owned;
-use scc_index::borrowed::Entry;
+use scc_owned::index::Owned;
+use scc_owned::index::borrowed::Entry;
 
 /// Counts a word once more: a new version has the new count, and whoever keeps the old version keeps its count. A
 /// count stays at the greatest number once it is there. If memory is refused, the word comes back with the count that

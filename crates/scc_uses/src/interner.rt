@@ -2,7 +2,7 @@
 ghost use Rattle.std.specs.Prelude.{◌≡◌, ◌⊎◌, ◌++◌, ◌∷◌, ◌^◌, ◌≤◌, [], length, slice_get, IfOk, OnErr, IfErr};
 ghost use Rattle.scc_uses.specs.Interning.{IsNumberOf};
 
-use scc_map::Owned;
+use scc_owned::map::Owned;
 use std::alloc::Global;
 use std::marker::Model;
 

@@ -5,7 +5,7 @@ ghost use Rattle.scc_common.specs.Pairs.{find, FindsInstead};
 ghost use Rattle.scc_uses.specs.Memo.{stored_or};
 
 use scc_common::InsertError;
-use scc_map::Owned;
+use scc_owned::map::Owned;
 
 /// Returns the value of `key`. If there is none, stores and returns `default`.
 pub fn get_or_insert(

@@ -8,7 +8,7 @@ ghost use Rattle.scc_uses.specs.Mirrored.{RunsOnBoth};
 
 use crate::alike::{equal_map_calls, equal_replies};
 use scc_calls::{MapCall, Refused, Reply, run, runs_mean};
-use scc_map::Owned;
+use scc_owned::map::Owned;
 use std::hash::{BuildHasher, Hash};
 
 /// Makes the same calls on two maps in which look-ups find alike values. Each map has its own hasher, capacity and

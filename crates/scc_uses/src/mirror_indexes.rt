@@ -7,7 +7,7 @@ ghost use Rattle.scc_uses.specs.Mirrored.{RunsOnBoth};
 
 use crate::alike::{equal_index_calls, equal_replies};
 use scc_calls::{IndexCall, Refused, Reply, run, runs_mean};
-use scc_index::Owned;
+use scc_owned::index::Owned;
 use std::hash::{BuildHasher, Hash};
 
 /// Makes the same calls on two indexes in which look-ups find alike values. Each index has its own hasher, capacity

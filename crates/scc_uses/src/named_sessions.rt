@@ -6,7 +6,7 @@ ghost use Rattle.scc_history.specs.Receipts.{calls_of};
 use scc_calls::{MapCall, Reply};
 use scc_common::Shared;
 use scc_history::CallError;
-use scc_map::Owned;
+use scc_owned::map::Owned;
 use scc_recorded::{Finished, Pass, Recorded, Site, Unfinished};
 use std::hash::BuildHasher;
 use std::sync::Wait;

@@ -5,7 +5,7 @@ ghost use Rattle.scc_common.specs.Contents.{settings_of, bucket_count, key_hash,
 
 use scc_calls::{MapCall, Refused, Reply, route, run};
 use scc_common::{MakeError, Shared};
-use scc_map::Owned;
+use scc_owned::map::Owned;
 use std::alloc::Global;
 use std::hash::{BuildHasher, BuildHasherDefault, FoldHasher, Hash};
 use std::sync::Arc;

@@ -2,7 +2,7 @@
 ghost use Rattle.std.specs.Prelude.{◌≡◌, IfErr};
 
 use scc_common::InsertError;
-use scc_map::Owned;
+use scc_owned::map::Owned;
 use std::hash::{BuildHasher, Hash};
 
 /// Makes room for `k`, and then inserts the pair if no key equals `k`: the insertion itself allocates nothing and

@@ -5,7 +5,7 @@ ghost use Rattle.scc_common.specs.Contents.{entries};
 ghost use Rattle.scc_common.specs.Pairs.{find, FindsInstead};
 
 use scc_common::{InsertError, Verdict, WalkError};
-use scc_map::Owned;
+use scc_owned::map::Owned;
 use std::alloc::Global;
 
 /// The time at which a window began, and the number of requests in it.

@@ -2,8 +2,8 @@
 ghost use Rattle.std.specs.Prelude.{ℕ, ◌≡◌, None, OnOk, OnErr, IfOk};
 
 use scc_common::InsertError;
-use scc_map::Owned;
-use scc_map::borrowed::Entry;
+use scc_owned::map::Owned;
+use scc_owned::map::borrowed::Entry;
 use std::alloc::Global;
 use std::marker::Model;
 

@@ -1,6 +1,6 @@
 //! A store of sessions that workers share, each session with the time at which it ends.
 ghost use Rattle.std.specs.Prelude.{◌≡◌, ◌≤◌, ◌⊎◌, IfErr, IfSome};
-ghost use Rattle.scc_map.specs.Entries.{Exists, Memory};
+ghost use Rattle.scc_owned.specs.Entries.{Exists, Memory};
 
 use scc_common::{InsertError, MakeError};
 use scc_shared_map::HashMap;

@@ -3,7 +3,7 @@ ghost use Rattle.std.specs.Prelude.{ℕ, ◌≡◌, Some, None, OnOk, OnErr};
 ghost use Rattle.scc_uses.specs.Sessions.{end_of, Sets, IsAsBefore, Renews, Expires};
 
 use scc_common::InsertError;
-use scc_map::Owned;
+use scc_owned::map::Owned;
 use std::alloc::Global;
 use std::hash::{BuildHasherDefault, FoldHasher};
 use std::marker::Model;

@@ -2,11 +2,11 @@
 //! routes.
 ghost use Rattle.std.specs.Prelude.{◌≡◌, ◌≤◌, IfOk, IfErr, IfSome, length};
 ghost use Rattle.std.specs.Arc.{arc_value};
-ghost use Rattle.scc_index.specs.Entries.{Memory};
+ghost use Rattle.scc_owned.specs.Entries.{Memory};
 
 use crate::routing::Route;
 use scc_common::{InsertError, MakeError, Version};
-use scc_index::locked::Entry;
+use scc_owned::index::locked::Entry;
 use scc_shared_index::HashIndex;
 use std::alloc::Global;
 use std::sync::{Arc, Wait};

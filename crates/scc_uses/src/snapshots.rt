@@ -4,7 +4,7 @@ ghost use Rattle.scc_common.specs.Contents.{entries};
 ghost use Rattle.scc_uses.specs.Sums.{sum_from};
 
 use scc_common::MakeError;
-use scc_index::{Iter, Owned};
+use scc_owned::index::{Iter, Owned};
 
 /// Returns the sum of the values of a snapshot, modulo 2^64. It is the sum when the snapshot was taken, since versions
 /// never change.

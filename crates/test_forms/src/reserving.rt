@@ -16,7 +16,7 @@ pub trait Reserving {
     fn minimum(&self) -> usize;
 }
 
-impl Reserving for scc_map::Owned<Token, Token, Masked> {
+impl Reserving for scc_owned::map::Owned<Token, Token, Masked> {
     fn reserve_slots(&mut self, additional: usize) -> Option<Reservation> {
         self.reserve(additional)
     }
@@ -44,7 +44,7 @@ impl Reserving for scc_set::Owned<Token, Masked> {
     }
 }
 
-impl Reserving for scc_index::Owned<Token, Token, Masked> {
+impl Reserving for scc_owned::index::Owned<Token, Token, Masked> {
     fn reserve_slots(&mut self, additional: usize) -> Option<Reservation> {
         self.reserve(additional)
     }

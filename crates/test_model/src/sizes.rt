@@ -99,8 +99,8 @@ fn reserves<F: Form + Reserving>(form: &mut F, kind: Kind) -> bool {
 }
 
 fn of_maps(alloc: Global) -> Result<bool, AllocError> {
-    let mut large: scc_map::Owned<Token, Token, Masked> = scc_map::Owned::with_hasher(alloc, SAME);
-    let mut small: scc_map::Owned<Token, Token, Masked> = scc_map::Owned::with_hasher(alloc, SAME);
+    let mut large: scc_owned::map::Owned<Token, Token, Masked> = scc_owned::map::Owned::with_hasher(alloc, SAME);
+    let mut small: scc_owned::map::Owned<Token, Token, Masked> = scc_owned::map::Owned::with_hasher(alloc, SAME);
     Ok(grows(&mut large, Kind::Map) && reserves(&mut small, Kind::Map))
 }
 
@@ -111,10 +111,10 @@ fn of_sets(alloc: Global) -> Result<bool, AllocError> {
 }
 
 fn of_indexes(alloc: Global) -> Result<bool, AllocError> {
-    let mut large: scc_index::Owned<Token, Token, Masked> = scc_index::Owned::with_hasher(
+    let mut large: scc_owned::index::Owned<Token, Token, Masked> = scc_owned::index::Owned::with_hasher(
         alloc, SAME,
     );
-    let mut small: scc_index::Owned<Token, Token, Masked> = scc_index::Owned::with_hasher(
+    let mut small: scc_owned::index::Owned<Token, Token, Masked> = scc_owned::index::Owned::with_hasher(
         alloc, SAME,
     );
     Ok(grows(&mut large, Kind::Index) && reserves(&mut small, Kind::Index))
@@ -156,7 +156,7 @@ fn of_caches(alloc: Global) -> Result<bool, AllocError> {
 // Returns whether the snapshot has each version once, and ends for good after them.
 fn has_each_once(
     alloc: Global,
-    versions: scc_index::Iter<Token, Token>,
+    versions: scc_owned::index::Iter<Token, Token>,
 ) -> Result<bool, AllocError> {
     let mut met = vec![in alloc; false; VERSIONS]?;
     let mut count = 0usize;
@@ -179,7 +179,7 @@ fn has_each_once(
 
 // Shows that a snapshot of many versions outlives the pairs of its index.
 fn of_snapshots(alloc: Global) -> Result<bool, AllocError> {
-    let mut index: scc_index::Owned<Token, Token, Masked> = scc_index::Owned::with_hasher(
+    let mut index: scc_owned::index::Owned<Token, Token, Masked> = scc_owned::index::Owned::with_hasher(
         alloc, SAME,
     );
     let filled = fills(&mut index, 0, VERSIONS as u64);

@@ -105,7 +105,7 @@ fn of_maps<R: Wait + AllocGlobal>(rt: &R) -> Result<bool, AllocError> {
     let alloc = rt.alloc();
     let (Ok(shared), Ok(mut owned)) = (
         HashMap::<Token, Token, Masked>::with_capacity_and_hasher(alloc, SLOTS, SAME),
-        scc_map::Owned::<Token, Token, Masked>::with_capacity_and_hasher(alloc, SLOTS, SAME),
+        scc_owned::map::Owned::<Token, Token, Masked>::with_capacity_and_hasher(alloc, SLOTS, SAME),
     ) else {
         return Err(AllocError);
     };
@@ -127,7 +127,7 @@ fn of_indexes<R: Wait + AllocGlobal>(rt: &R) -> Result<bool, AllocError> {
     let alloc = rt.alloc();
     let (Ok(shared), Ok(mut owned)) = (
         HashIndex::<Token, Token, Masked>::with_capacity_and_hasher(alloc, SLOTS, SAME),
-        scc_index::Owned::<Token, Token, Masked>::with_capacity_and_hasher(alloc, SLOTS, SAME),
+        scc_owned::index::Owned::<Token, Token, Masked>::with_capacity_and_hasher(alloc, SLOTS, SAME),
     ) else {
         return Err(AllocError);
     };

@@ -19,8 +19,8 @@ fn pair(book: &Rc<Book>, number: u64) -> Result<(Token, Token), AllocError> {
 fn filled(
     alloc: Global,
     book: &Rc<Book>,
-) -> Result<scc_index::Owned<Token, Token, Masked>, AllocError> {
-    let mut index = scc_index::Owned::with_hasher(alloc, ZERO);
+) -> Result<scc_owned::index::Owned<Token, Token, Masked>, AllocError> {
+    let mut index = scc_owned::index::Owned::with_hasher(alloc, ZERO);
     for number in 0..KEYS {
         let (key, value) = pair(book, number)?;
         if index.insert_sync(key, value).is_err() {

@@ -65,7 +65,7 @@ fn insert_vacant<'a, R: Wait>(
     key: u64,
     tally: &mut Tally,
 ) {
-    if let scc_map::locked::Entry::Vacant(entry) = map.entry_sync(rt, key) {
+    if let scc_owned::map::locked::Entry::Vacant(entry) = map.entry_sync(rt, key) {
         match entry.insert_entry(counts.make()) {
             Ok(_entry) => tally.add(key),
             Err(_) => tally.refuse(),
@@ -166,12 +166,12 @@ fn publish<'a, R: Wait>(
     tally: &mut Tally,
 ) {
     match index.entry_sync(rt, key) {
-        scc_index::locked::Entry::Occupied(mut entry) => {
+        scc_owned::index::locked::Entry::Occupied(mut entry) => {
             if entry.update(counts.make()).is_err() {
                 tally.refuse();
             }
         }
-        scc_index::locked::Entry::Vacant(entry) => match entry.insert_entry(counts.make()) {
+        scc_owned::index::locked::Entry::Vacant(entry) => match entry.insert_entry(counts.make()) {
             Ok(_entry) => tally.add(key),
             Err(_) => tally.refuse(),
         },

@@ -8,11 +8,11 @@ use scc_common::Shared;
 use scc_script::same::Same;
 use std::alloc::{AllocError, Global};
 
-pub(crate) type Map = scc_map::Owned<u64, u64, Shared<Same>>;
+pub(crate) type Map = scc_owned::map::Owned<u64, u64, Shared<Same>>;
 
 pub(crate) type Set = scc_set::Owned<u64, Shared<Same>>;
 
-pub(crate) type Index = scc_index::Owned<u64, u64, Shared<Same>>;
+pub(crate) type Index = scc_owned::index::Owned<u64, u64, Shared<Same>>;
 
 pub(crate) type Cache = scc_cache::Owned<u64, u64, Shared<Same>>;
 

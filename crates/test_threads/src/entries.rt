@@ -1,6 +1,6 @@
 // An entry that is dropped releases its lock, in whatever state it is: the next call on its stripe gets through.
 use crate::expect::expect;
-use scc_map::held::{HeldEntry, HeldReplace};
+use scc_owned::held::{HeldEntry, HeldReplace};
 use scc_script::same::Same;
 use scc_shared_map::HashMap;
 use std::process::Abort;

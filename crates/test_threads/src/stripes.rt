@@ -3,8 +3,8 @@
 use crate::expect::expect_eq;
 use crate::kinds::{Cache, Index, Map, Set, Threaded, Visit, Way};
 use scc_cache::locked::Entry as CacheEntry;
-use scc_index::locked::Entry as IndexEntry;
-use scc_map::locked::Entry as MapEntry;
+use scc_owned::index::locked::Entry as IndexEntry;
+use scc_owned::map::locked::Entry as MapEntry;
 use scc_script::same::Same;
 use std::alloc::Global;
 use std::process::Abort;

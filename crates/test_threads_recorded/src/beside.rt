@@ -7,7 +7,7 @@ ghost use Rattle.scc_script.specs.Hashes.{same_write};
 use crate::expect::expect;
 use scc_calls::MapCall;
 use scc_common::Shared;
-use scc_map::Owned;
+use scc_owned::map::Owned;
 use scc_recorded::{Pass, Recorded, Setup, Site};
 use scc_script::same::{Same, SameHasher};
 use std::alloc::Global;

@@ -4,11 +4,11 @@ use scc_calls::{CacheCall, IndexCall, MapCall, Reply, SetCall};
 use scc_common::Shared;
 use scc_script::same::Same;
 
-pub type Map = scc_map::Owned<u64, u64, Shared<Same>>;
+pub type Map = scc_owned::map::Owned<u64, u64, Shared<Same>>;
 
 pub type Set = scc_set::Owned<u64, Shared<Same>>;
 
-pub type Index = scc_index::Owned<u64, u64, Shared<Same>>;
+pub type Index = scc_owned::index::Owned<u64, u64, Shared<Same>>;
 
 pub type Cache = scc_cache::Owned<u64, u64, Shared<Same>>;
 

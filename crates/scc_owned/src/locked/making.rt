@@ -2,7 +2,7 @@
 //! owned form, whose contracts say more of a guard that goes, makes its entries itself.
 ghost use Rattle.scc_common.specs.Contents.{entries, IsUniqueBy};
 ghost use Rattle.scc_owned.specs.EntrySteps.{StandsIn};
-ghost use Rattle.scc_owned.specs.Held.{entry_guard, occupied_front, occupied_guard};
+ghost use Rattle.scc_owned.specs.Held.{entry_guard, occupied_contents, occupied_front, occupied_guard};
 ghost use Rattle.scc_owned.specs.Lookups.{IsEntryOf, IsOccupiedAt};
 ghost use Rattle.scc_owned.specs.Seats.{entry_rest, occupied_rest};
 ghost use Rattle.std.specs.Prelude.{◌≡◌, [], None, IfOk, IfErr, IfSome, IfNone};
@@ -46,7 +46,7 @@ where
         E::Key: Drop,
         ensures guard { entry_guard result ≡ guard }
         ensures rest { entry_rest result ≡ rest }
-        ensures entry { IsEntryOf E.lookups E.Key.eq (G.inner guard) k result }
+        ensures entry { IsEntryOf E.lookups E.Key.eq (G.inner (entry_guard result)) k result }
         ensures unique { IsUniqueBy E.Key.eq E.key_of (G.inner guard) }
     {
         let hash = guard.look().hash_of(&k);
@@ -69,7 +69,7 @@ where
         N: Drop,
         ensures guard { IfSome result (λ o. occupied_guard o ≡ guard) }
         ensures rest { IfSome result (λ o. occupied_rest o ≡ rest) }
-        ensures entry { IfSome result (IsOccupiedAt E.lookups E.Key.eq (G.inner guard) k.now) }
+        ensures entry { IfSome result (λ o. IsOccupiedAt E.lookups E.Key.eq (occupied_contents o) k.now o) }
         ensures missing { IfNone result (E.lookups.find (E.Key.eq k.now) (entries (G.inner guard)) ≡ None) }
         ensures unique { IsUniqueBy E.Key.eq E.key_of (G.inner guard) }
     {

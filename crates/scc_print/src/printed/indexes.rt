@@ -3,7 +3,7 @@
 use crate::printed::Printed;
 use crate::texts::add_reply_line;
 use scc_calls::{IndexCall, Reply};
-use scc_index::Owned;
+use scc_owned::index::Owned;
 use std::alloc::AllocError;
 use std::fmt::Write;
 use std::hash::BuildHasher;

@@ -4,7 +4,7 @@ use crate::printed::Printed;
 use crate::texts::add_reply_line;
 use scc_calls::{MapCall, Reply};
 use scc_common::Verdict;
-use scc_map::Owned;
+use scc_owned::map::Owned;
 use std::alloc::AllocError;
 use std::fmt::Write;
 use std::hash::BuildHasher;

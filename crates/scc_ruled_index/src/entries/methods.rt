@@ -1,5 +1,5 @@
 //! The calls of an entry, but for the insertions of one that may be occupied.
-ghost use Rattle.scc_index.specs.Entries.{Memory};
+ghost use Rattle.scc_owned.specs.Entries.{Memory};
 ghost use Rattle.scc_ruled_index.specs.Entries.{entry_key, occupied_pair, occupied_seat, vacant_key, vacant_seat, IsUpdated, KeepsEntry, Modifies, RefusesModify, TakesEntry};
 ghost use Rattle.scc_stripes.specs.Seats.{seat_stripe};
 ghost use Rattle.std.specs.Prelude.{◌≡◌, IfErr, IfOk, OnOk};

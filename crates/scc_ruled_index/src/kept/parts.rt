@@ -6,7 +6,7 @@ ghost use Rattle.std.specs.Prelude.{◌≤◌, ◌^◌, IfOk, Ok};
 
 use super::Kept;
 use scc_common::MakeError;
-use scc_index::Owned;
+use scc_owned::index::Owned;
 use scc_rules::Rule;
 use scc_stripes::{Follow, Part};
 use std::alloc::Global;

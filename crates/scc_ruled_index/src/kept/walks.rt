@@ -2,7 +2,7 @@
 ghost use Rattle.scc_common.specs.Contents.{entries};
 ghost use Rattle.scc_common.specs.Pairs.{IsUnique};
 ghost use Rattle.scc_common.specs.Walks.{CalledOn};
-ghost use Rattle.scc_index.specs.IndexWalks.{Retains};
+ghost use Rattle.scc_owned.specs.IndexWalks.{Retains};
 ghost use Rattle.scc_rules.specs.Rules.{AllKeep};
 ghost use Rattle.scc_rules.specs.Walks.{TakesEach};
 ghost use Rattle.std.specs.List.Sorted.{IsPermutation};

@@ -1,6 +1,6 @@
 //! The calls of an entry, but for the insertions of one that may be occupied.
 ghost use Rattle.scc_common.specs.Closures.{WritesAt};
-ghost use Rattle.scc_map.specs.Entries.{Memory};
+ghost use Rattle.scc_owned.specs.Entries.{Memory};
 ghost use Rattle.scc_ruled_map.specs.Entries.{entry_key, occupied_pair, occupied_seat, vacant_key, vacant_seat, Modifies, TakesEntry, KeepsEntry};
 ghost use Rattle.scc_rules.specs.Rules.{IsKept};
 ghost use Rattle.scc_stripes.specs.Seats.{seat_stripe};

@@ -13,7 +13,7 @@ ghost use Rattle.std.specs.Prelude.{◌≡◌, List, length, remove, suc, Some, 
 use super::Kept;
 use scc_buckets::Place;
 use scc_common::Hashes;
-use scc_map::Owned;
+use scc_owned::map::Owned;
 use scc_rules::Rule;
 use std::hash::{BuildHasher, Hash};
 

@@ -9,7 +9,7 @@ ghost use Rattle.std.specs.Prelude.{◌≡◌, ◌≤◌, ◌++◌, List, length
 
 use super::Kept;
 use scc_common::{Verdict, WalkError};
-use scc_map::Sink;
+use scc_owned::map::Sink;
 use scc_rules::Rule;
 use std::hash::{BuildHasher, Hash};
 

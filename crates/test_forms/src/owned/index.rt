@@ -6,8 +6,8 @@ use crate::numbered::{Seen, keeps, seen, value_of};
 use crate::token::Token;
 use scc_common::InsertError;
 use scc_fallible::TryInsertError;
-use scc_index::Owned;
-use scc_index::borrowed::{Entry, OccupiedEntry};
+use scc_owned::index::Owned;
+use scc_owned::index::borrowed::{Entry, OccupiedEntry};
 use test_kit::masked::Masked;
 
 // Adds the pair through its entry.

@@ -6,8 +6,8 @@ use crate::numbered::{Seen, keeps, note_pairs, raise_to_even, seen, seen_pair, v
 use crate::token::Token;
 use scc_common::InsertError;
 use scc_fallible::TryInsertError;
-use scc_map::Owned;
-use scc_map::borrowed::{Entry, OccupiedEntry, ReplaceResult};
+use scc_owned::map::Owned;
+use scc_owned::map::borrowed::{Entry, OccupiedEntry, ReplaceResult};
 use std::alloc::Global;
 use test_kit::masked::Masked;
 

@@ -3,7 +3,7 @@
 use crate::held::{Held, walked};
 use scc_common::InsertError;
 use scc_fallible::TryInsertError;
-use scc_index::locked::{Entry, OccupiedEntry};
+use scc_owned::index::locked::{Entry, OccupiedEntry};
 use scc_shared_index::HashIndex;
 use std::sync::Wait;
 use test_forms::answers::{Answer, Kind, refused, untried};

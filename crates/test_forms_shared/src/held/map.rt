@@ -3,7 +3,7 @@
 use crate::held::{Held, walked};
 use scc_common::InsertError;
 use scc_fallible::TryInsertError;
-use scc_map::locked::{Entry, OccupiedEntry, ReplaceResult};
+use scc_owned::map::locked::{Entry, OccupiedEntry, ReplaceResult};
 use scc_shared_map::HashMap;
 use std::alloc::Global;
 use std::sync::Wait;

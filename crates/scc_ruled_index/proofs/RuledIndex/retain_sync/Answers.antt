@@ -1,5 +1,5 @@
 use Rattle.std.proofs.Common.{[]}
-use Rattle.scc_index.specs.IndexWalks.{ended}
+use Rattle.scc_owned.specs.IndexWalks.{ended}
 use Rattle.scc_rules.proofs.Lists.{all-append}
 use Rattle.scc_stripes.proofs.Walks.{walked-none, walked-permuted}
 use Rattle.scc_ruled_index.proofs.KeptWalks.{retained-kept, retains-join}

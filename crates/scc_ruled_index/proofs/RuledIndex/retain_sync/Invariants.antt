@@ -1,6 +1,6 @@
 use Rattle.std.proofs.Common.{List}
 use Rattle.scc_common.specs.Walks.{CalledOn}
-use Rattle.scc_index.specs.IndexWalks.{Retains}
+use Rattle.scc_owned.specs.IndexWalks.{Retains}
 use Rattle.scc_rules.specs.Rules.{AllKeep}
 use Rattle.scc_stripes.specs.Walks.{AreOfStripes}
 use Rattle.scc_ruled_index.proofs.RuledIndex.retain_sync.Given as goal

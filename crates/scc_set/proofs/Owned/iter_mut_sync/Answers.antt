@@ -1,7 +1,7 @@
 use Rattle.std.proofs.Common.{arith, ap, sym, ◌∙◌}
 use Rattle.std.proofs.lemmas.List.{length-map}
 use Rattle.scc_common.specs.PairWalks.{GoesOn}
-use Rattle.scc_map.specs.Sinks.{with_units}
+use Rattle.scc_owned.specs.Sinks.{with_units}
 use Rattle.scc_buckets.proofs.Mapped.{Holds-mapped, ShrinksWhenDue-mapped}
 use Rattle.scc_table.proofs.MappedRelocations.{RelocatesNone-mapped}
 use Rattle.scc_set.proofs.Sets.{noted-keys, on-err, shows, smaller-keys, unique-keys, waiting-keys}

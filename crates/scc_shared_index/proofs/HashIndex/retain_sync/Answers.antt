@@ -1,5 +1,5 @@
 use Rattle.std.proofs.Common.{[]}
-use Rattle.scc_index.specs.IndexWalks.{ended}
+use Rattle.scc_owned.specs.IndexWalks.{ended}
 use Rattle.scc_shared_index.proofs.Joined.{callable-always, retains-always, retains-join}
 use Rattle.scc_stripes.proofs.Walks.{walked-none, walked-permuted}
 use Rattle.scc_shared_index.proofs.HashIndex.retain_sync.Goals as goal

@@ -1,4 +1,4 @@
-use Rattle.scc_map.proofs.Replies.{inserts-back}
+use Rattle.scc_owned.proofs.Replies.{inserts-back}
 use Rattle.scc_shared_map.proofs.HashMap.insert_sync.Goals as goal
 
 pub returns : goal.returns

@@ -1,5 +1,5 @@
 use Rattle.scc_common.specs.Contents.{entries}
-use Rattle.scc_map.proofs.Replies.{reads-equal}
+use Rattle.scc_owned.proofs.Replies.{reads-equal}
 use Rattle.scc_shared_map.proofs.HashMap.read_sync.Goals as goal
 
 pub returns : goal.returns

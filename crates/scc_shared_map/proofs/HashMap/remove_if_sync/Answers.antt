@@ -1,4 +1,4 @@
-use Rattle.scc_map.proofs.Replies.{if-map, removes-passed}
+use Rattle.scc_owned.proofs.Replies.{if-map, removes-passed}
 use Rattle.scc_shared_map.proofs.HashMap.remove_if_sync.Goals as goal
 
 pub returns-clause-key : goal.returns-clause-key

@@ -1,4 +1,4 @@
-use Rattle.scc_map.proofs.Replies.{removes-key}
+use Rattle.scc_owned.proofs.Replies.{removes-key}
 use Rattle.scc_shared_map.proofs.HashMap.remove_sync.Goals as goal
 
 pub returns : goal.returns

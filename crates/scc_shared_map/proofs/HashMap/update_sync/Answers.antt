@@ -1,4 +1,4 @@
-use Rattle.scc_map.proofs.Replies.{if-map}
+use Rattle.scc_owned.proofs.Replies.{if-map}
 use Rattle.scc_shared_map.proofs.HashMap.update_sync.Goals as goal
 
 pub returns : goal.returns

@@ -1,4 +1,4 @@
-use Rattle.scc_map.proofs.Replies.{upserts-back}
+use Rattle.scc_owned.proofs.Replies.{upserts-back}
 use Rattle.scc_shared_map.proofs.HashMap.upsert_sync.Goals as goal
 
 pub returns : goal.returns

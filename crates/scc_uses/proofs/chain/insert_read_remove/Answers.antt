@@ -1,5 +1,5 @@
 use Rattle.std.specs.Cmp.{nat_eq_equiv}
-use Rattle.scc_map.proofs.CallerLemmas.{inserted-removed}
+use Rattle.scc_owned.proofs.CallerLemmas.{inserted-removed}
 use Rattle.scc_uses.proofs.chain.insert_read_remove.Goals as goal
 
 pub returns-clause-pairs : goal.returns-clause-pairs

@@ -2,8 +2,8 @@ use Rattle.std.proofs.Common.{rules, Some, subst, sym, nat_eq}
 use Rattle.std.specs.Cmp.{nat_eq_equiv}
 use Rattle.scc_common.specs.Contents.{entries}
 use Rattle.scc_common.specs.Pairs.{find, FindsInstead}
-use Rattle.scc_map.proofs.CallerLemmas.{finds-modify_or_insert}
-use Rattle.scc_map.specs.Entries.{occupied_pair}
+use Rattle.scc_owned.proofs.CallerLemmas.{finds-modify_or_insert}
+use Rattle.scc_owned.specs.Held.{occupied_pair}
 use Rattle.scc_uses.specs.Counts.{one_more}
 use Rattle.scc_uses.proofs.Counting.{counted}
 use Rattle.scc_uses.proofs.counts.count_word.Goals as goal

@@ -3,9 +3,10 @@ use Rattle.std.specs.Cmp.{nat_eq_equiv}
 use borrow.Author.Tests.{eqb-true}
 use Rattle.scc_common.specs.Contents.{entries}
 use Rattle.scc_common.specs.Pairs.{FindsInstead}
-use Rattle.scc_map.proofs.CallerLemmas.{finds-or_insert}
-use Rattle.scc_map.specs.Entries.{IsEntryOf, OrInserts, occupied_pair}
-use Rattle.scc_map.specs.declared.held.HeldEntry.TheVariants.{Occupied, Vacant}
+use Rattle.scc_owned.proofs.CallerLemmas.{finds-or_insert}
+use Rattle.scc_owned.specs.Entries.{IsEntryOf, OrInserts}
+use Rattle.scc_owned.specs.Held.{occupied_pair}
+use Rattle.scc_owned.specs.declared.held.HeldEntry.TheVariants.{Occupied, Vacant}
 use Rattle.scc_uses.proofs.memo.get_or_insert.Goals as goal
 
 pub returns-clause-stored : goal.returns-clause-stored

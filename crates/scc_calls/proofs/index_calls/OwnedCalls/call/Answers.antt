@@ -47,7 +47,7 @@ returns-in-Ok-update g c =
       setting = (search rules);
       ok = (
           let raw : MovesResized (λ (s : State (g.row.K.Denot × g.row.V.Denot)). s.1) (IndexMoves g.K.PartialEq.eq g.K.Clone.is_clone) (ResizesTo (setting_of c.args.self.now)) (state_of c.args.self.now) c.args.call (Has true) (state_of c.self-1.given.0) = let still : c.update.new.self.guard.ghost_name ≡ c.in-Some.entry.guard.ghost_name = ap (λ (m : MutBor (Contents (g.row.K.Denot × g.row.V.Denot) g.row.H.Denot)). m.ghost_name) c.in-Ok-update.ensures.updated.same_guard in
-          let now = c.self-1.given.1 (sym c.in-Some.ensures.same_index ∙ sym still) in
+          let now = c.self-1.given.1 (sym c.in-Some.ensures.same_container ∙ sym still) in
           rw (now, c.in-Update.is) (updated g.met.K.Eq.laws g.K.Clone.is_clone c.args.self.now c.in-Update.k c.in-Update.v c.in-Some.entry c.update.new.self c.in-Some.ensures.entry c.in-Ok-update.ensures.updated) in
           answered (IndexStems g.V.Clone.is_clone) (IndexMoves g.K.PartialEq.eq g.K.Clone.is_clone) (λ (s : State (g.row.K.Denot × g.row.V.Denot)). s.1) (ResizesTo (setting_of c.args.self.now)) _ _ c.args.call (Has true) (Has true) (rw c.in-Update.is refl) raw);
       err = (search rules);

@@ -1,5 +1,5 @@
 use Rattle.std.proofs.Common.{rules}
-use Rattle.scc_index.proofs.Entries.{both-ok, map-err, map-ok}
+use Rattle.scc_owned.proofs.Inserting.{both-ok, map-err, map-ok}
 use Rattle.scc_ruled_index.proofs.entries.Entry.or_insert_with_key.Goals as goal
 
 pub insert_entry-requires : goal.insert_entry-requires

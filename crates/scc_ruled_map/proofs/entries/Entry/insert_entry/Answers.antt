@@ -1,5 +1,5 @@
 use Rattle.std.proofs.Common.{rules}
-use Rattle.scc_map.proofs.Entries.{both-ok}
+use Rattle.scc_owned.proofs.Inserting.{both-ok}
 use Rattle.scc_ruled_map.proofs.entries.Entry.insert_entry.Goals as goal
 
 pub returns-in-Vacant : goal.returns-in-Vacant

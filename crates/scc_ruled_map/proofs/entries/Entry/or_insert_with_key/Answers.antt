@@ -1,5 +1,5 @@
 use Rattle.std.proofs.Common.{rules}
-use Rattle.scc_map.proofs.Entries.{both-ok, map-ok, map-err}
+use Rattle.scc_owned.proofs.Inserting.{both-ok, map-ok, map-err}
 use Rattle.scc_ruled_map.proofs.entries.Entry.or_insert_with_key.Goals as goal
 
 pub insert_entry-requires : goal.insert_entry-requires

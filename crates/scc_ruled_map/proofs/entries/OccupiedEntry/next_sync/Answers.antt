@@ -1,6 +1,6 @@
 use Rattle.std.proofs.Common.{◌∙◌, refl, subst}
 use Rattle.std.specs.Sync.RwLock.{write_guard_value}
-use Rattle.scc_map.proofs.EntrySteps.{none-after}
+use Rattle.scc_owned.proofs.EntrySteps.{none-after}
 use Rattle.scc_rules.specs.Rules.{KeepsAll}
 use Rattle.scc_table.proofs.AtPlaces.{back-none, next-there}
 use Rattle.scc_table.specs.Places.{IsPlace}

@@ -1,4 +1,4 @@
-use Rattle.scc_map.proofs.Replies.{inserts-back}
+use Rattle.scc_owned.proofs.Replies.{inserts-back}
 use Rattle.scc_ruled_map.proofs.KeptPairs.{kept-inserted}
 use Rattle.scc_ruled_map.proofs.kept.Kept.insert_sync.Goals as goal
 

@@ -1,4 +1,4 @@
-use Rattle.scc_map.proofs.Replies.{if-map}
+use Rattle.scc_owned.proofs.Replies.{if-map}
 use Rattle.scc_ruled_map.proofs.KeptPairs.{kept-found, kept-removed_if, removes_if-kept}
 use Rattle.scc_ruled_map.proofs.kept.Kept.remove_if_sync.Goals as goal
 

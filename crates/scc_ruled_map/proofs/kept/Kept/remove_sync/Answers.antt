@@ -1,4 +1,4 @@
-use Rattle.scc_map.proofs.Replies.{removes-key}
+use Rattle.scc_owned.proofs.Replies.{removes-key}
 use Rattle.scc_ruled_map.proofs.KeptPairs.{kept-removed, removes-kept}
 use Rattle.scc_ruled_map.proofs.kept.Kept.remove_sync.Goals as goal
 

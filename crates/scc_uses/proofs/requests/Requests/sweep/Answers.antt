@@ -1,5 +1,5 @@
 use Rattle.std.proofs.Common.{rules}
-use Rattle.scc_map.proofs.Filtering.{takes-sort}
+use Rattle.scc_owned.proofs.Filtering.{takes-sort}
 use Rattle.scc_uses.proofs.WindowLemmas.{expires, swept, all_live, all_found}
 use Rattle.scc_uses.proofs.requests.Requests.sweep.Goals as goal
 

@@ -1,6 +1,6 @@
 use Rattle.std.proofs.Common.{rules, ℕ, nat_eq, true, false, BuildHasherDefault, FoldHasher}
 use Rattle.scc_common.specs.Contents.{Contents}
-use Rattle.scc_map.specs.Entries.{RestsRefused}
+use Rattle.scc_owned.specs.MapEntries.{RestsRefused}
 use Rattle.scc_uses.specs.declared.routing.Route.{Route}
 use Rattle.scc_uses.specs.Routing.{route_to, Offers, IsAsBefore}
 use Rattle.scc_uses.proofs.RouteLemmas.{no_route, offer_better, offer_worse, offer_first, offer_refused}

@@ -1,5 +1,5 @@
 use Rattle.std.proofs.Common.{rules, nat_eq, not}
-use Rattle.scc_map.proofs.Filtering.{retains-filter, finds-filtered}
+use Rattle.scc_owned.proofs.Filtering.{retains-filter, finds-filtered}
 use Rattle.std.specs.Cmp.{nat_eq_equiv}
 use Rattle.scc_uses.proofs.RouteLemmas.{withdrawn}
 use Rattle.scc_uses.proofs.routing.Routes.withdraw.Goals as goal

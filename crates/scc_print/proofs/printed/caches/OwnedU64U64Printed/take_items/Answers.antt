@@ -1,5 +1,5 @@
 use Rattle.std.proofs.Common.{◌≡◌, true, sym, rules, ◌++◌}
-use Rattle.scc_map.proofs.Filtering.{takes-sort}
+use Rattle.scc_owned.proofs.Filtering.{takes-sort}
 use Rattle.scc_print.proofs.Drained.{drained}
 use Rattle.scc_print.proofs.printed.caches.OwnedU64U64Printed.take_items.Goals as goal
 

@@ -1,4 +1,0 @@
-use Rattle.scc_index.proofs.Owned.has_room.Goals as goal
-
-pub returns : goal.returns
-returns g c = rw (← c.self.view_is) c.has_room.ensures

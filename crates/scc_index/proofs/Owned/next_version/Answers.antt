@@ -1,8 +1,0 @@
-use Rattle.std.proofs.Common.{◌≡◌, refl, rules, true}
-use Rattle.scc_index.proofs.Owned.next_version.Goals as goal
-
-pub returns-in-Ok-make-clause-made : goal.returns-in-Ok-make-clause-made
-returns-in-Ok-make-clause-made g c =
-    let stored : c.key-stored.result.now ≡ c.version_at.result.now.0 = c.key-stored.ensures in
-    let equal : g.K.PartialEq.eq c.in-Ok.key c.key-stored.result.now ≡ true = search rules in
-    (c.version_at.result.now, rw (← c.self.view_is) c.version_at.ensures, rw (c.in-Ok-make.ensures.ok, ← stored) c.in-Ok.ensures.cases, rw (c.in-Ok-make.ensures.ok, ← stored) equal, rw c.in-Ok-make.ensures.ok refl)

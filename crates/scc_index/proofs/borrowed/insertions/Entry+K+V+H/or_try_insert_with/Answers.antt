@@ -1,9 +1,0 @@
-use Rattle.std.proofs.Common.{Ok, Err, refl}
-use Rattle.scc_index.proofs.Entries.{tries-as}
-use Rattle.scc_index.proofs.borrowed.insertions.Entry+K+V+H.or_try_insert_with.Goals as goal
-
-pub returns : goal.returns
-returns g c = (
-  (refl, c.or_try_insert_with_key.follows.holds, c.or_try_insert_with_key.follows.holds-at-none),
-  record { inserts = tries-as g.K.PartialEq.eq _ (λ k v. goal.F-post g c.args.f (Ok v)) (λ k e. goal.F-post g c.args.f (Err e)) c.args.self c.or_try_insert_with_key.result c.or_try_insert_with_key.ensures.inserts (λ k v made. made.1) (λ k e made. made.1); kept = tt },
-)

@@ -1,4 +1,0 @@
-use Rattle.scc_map.proofs.Owned.replace_key_at.Goals as goal
-
-pub returns-clause-old : goal.returns-clause-old
-returns-clause-old g c = rw (← c.self.view_is) c.replace_key_at.ensures.old

@@ -1,8 +1,0 @@
-use Rattle.scc_map.proofs.EntrySteps.{stands-first}
-use Rattle.scc_map.proofs.held.HeldOccupied.first.Goals as goal
-
-pub at-requires : goal.at-requires
-at-requires g c = let at = rw c.look-2.ensures at c.in-Some.ensures in at.within
-
-pub returns-in-Some-clause-first : goal.returns-in-Some-clause-first
-returns-in-Some-clause-first g c = let at = rw c.look-2.ensures at c.in-Some.ensures in stands-first c.at.result _ _ c.at.ensures.guard c.at.ensures.place at.index
