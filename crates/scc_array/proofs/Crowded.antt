@@ -4,7 +4,7 @@ use Rattle.std.specs.declared.vec.Vec.{Vec}
 use Rattle.scc_array.proofs.Gets.{get-set_other}
 use Rattle.scc_array.proofs.Shelves.{bare-spilled, shelf-is, overflow-is, opened-count}
 use Rattle.scc_array.proofs.Windows.{same_or_not}
-use Rattle.scc_array.specs.Lists.{Opens, Pushes, ReservesList, were_there, were_made}
+use Rattle.scc_array.specs.Lists.{MakesLists, Pushes, ReservesList, were_there, were_made}
 use Rattle.scc_array.specs.Shelves.{shelf_of, spilled, list_room, shelves, HasListEach, IsFlagged}
 use Rattle.scc_array.specs.Windows.{Window}
 use Rattle.scc_array.specs.Shelf.{Shelf}
@@ -38,7 +38,7 @@ module _ {E A : Type 0} (ws : List (Window E)) (os : List (Vec E A)) (fs : List 
   flagged-more gs n more = record { flags = inr n; told = λ i down. kept.told i (more (i / 16) down) }
 
   -- the flags stay right if lists are made
-  pub flagged-opened : (ds : List (Vec E A)) (n : ℕ) → Opens os n ds → IsFlagged ws ds fs
+  pub flagged-opened : (ds : List (Vec E A)) (n : ℕ) → MakesLists os n ds → IsFlagged ws ds fs
   flagged-opened ds n (were_there h e) = subst (λ (l : List (Vec E A)). IsFlagged ws l fs) (sym e) kept
   flagged-opened ds n (were_made e l bare) = record { flags = kept.flags; told = λ i down. bare-spilled ws os ds (shelves ws os) refl (record { lists = inl e }) (length ws) refl bare i }
 
@@ -68,5 +68,5 @@ reserved-both {E} {A} ws os fs b n (Ok p) ds kept told up (u, v, entry_count, it
 reserved-both {E} {A} ws os fs b n (Err x) ds kept told up (u, v, entry_count, items, grown, changed) = subst (λ (l : List (Vec E A)). HasListEach ws l × IsFlagged ws l fs) (sym changed) (array-set ws os b v kept, flagged-list ws os fs told b v up)
 
 -- `HasListEach` holds if lists were made, or exist already
-pub opened-array : {E A : Type 0} (ws : List (Window E)) (os ds : List (Vec E A)) (n : ℕ) → HasListEach ws os → n ≡ length ws → Opens os n ds → HasListEach ws ds
+pub opened-array : {E A : Type 0} (ws : List (Window E)) (os ds : List (Vec E A)) (n : ℕ) → HasListEach ws os → n ≡ length ws → MakesLists os n ds → HasListEach ws ds
 opened-array ws os ds n kept count opens = record { lists = inr (opened-count ws os ds (shelves ws os) refl kept n count opens) }

@@ -4,12 +4,12 @@ use Rattle.std.specs.Prelude.{IfOk, IfErr, OnErr, slice_get}
 use Rattle.std.specs.Vec.{vec_capacity}
 use Rattle.std.specs.declared.vec.Vec.{Vec}
 use Rattle.scc_array.proofs.Shelves.{window-within, list-is, room-is, shelf-is, empty-list, seen-list, own-room, opened-view, opened-count}
-use Rattle.scc_array.specs.Lists.{Opens, Pushes}
+use Rattle.scc_array.specs.Lists.{MakesLists, Pushes}
 use Rattle.scc_array.specs.Shelves.{shelf_of, spilled, list_room, shelves, HasListEach}
 use Rattle.scc_array.specs.Windows.{Window, window_of}
 use Rattle.scc_array.specs.Shelf.{Shelf, with_overflow}
 
-module _ {E A : Type 0} (ws : List (Window E)) (os ds : List (Vec E A)) (bs : List (Shelf E)) (view : shelves ws os ≡ bs) (kept : HasListEach ws os) (n : ℕ) (count : n ≡ length ws) (opens : Opens os n ds)
+module _ {E A : Type 0} (ws : List (Window E)) (os ds : List (Vec E A)) (bs : List (Shelf E)) (view : shelves ws os ≡ bs) (kept : HasListEach ws os) (n : ℕ) (count : n ≡ length ws) (opens : MakesLists os n ds)
     (b : ℕ) (within : b < length bs) where
   now : shelves ws ds ≡ bs
   now = opened-view ws os ds bs view kept n count opens

@@ -7,7 +7,7 @@ use Rattle.std.specs.Vec.{vec_capacity}
 use Rattle.std.specs.declared.vec.Vec.{Vec}
 use native.Mathlib.Decide.{dec_lt}
 use Rattle.scc_array.proofs.Gets.{get-set, get-set_other, get-past, get-some, get-is}
-use Rattle.scc_array.specs.Lists.{AreBare, Opens, were_there, were_made}
+use Rattle.scc_array.specs.Lists.{AreBare, MakesLists, were_there, were_made}
 use Rattle.scc_array.proofs.Windows.{same_or_not}
 use Rattle.scc_array.specs.Shelves.{shelf_of, spilled, list_room, shelf_at, shelves, HasListEach}
 use Rattle.scc_array.specs.Windows.{Window, empty_window, window_of}
@@ -134,7 +134,7 @@ module _ {E A : Type 0} (ws : List (Window E)) (os ds : List (Vec E A)) (bs : Li
     | no k ↦ let past : slice_get ds i ≡ None = get-past ds i (omega arith) in (ap spilled past, ap list_room past)
   ]
 
-  pub opened-view : Opens os n ds → shelves ws ds ≡ bs
+  pub opened-view : MakesLists os n ds → shelves ws ds ≡ bs
   opened-view (were_there h e) = ap (shelves ws) e ∙ view
   opened-view (were_made e l bare) =
       shelves-are ws ds (shelves ws os) (length-shelves ws os) (λ i h.
@@ -143,6 +143,6 @@ module _ {E A : Type 0} (ws : List (Window E)) (os ds : List (Vec E A)) (bs : Li
       ∙ ap (λ (r : ℕ). record { slots = (window_of ws i).slots; tags = (window_of ws i).tags; overflow = spilled (slice_get os i); room = r }) (k.1 ∙ sym (ap (λ l. list_room (slice_get l i)) e))
       ∙ sym (shelf-there ws os i h)) ∙ view
 
-  pub opened-count : Opens os n ds → length ds ≡ length ws
+  pub opened-count : MakesLists os n ds → length ds ≡ length ws
   opened-count (were_there h e) = ap length e ∙ elim kept.lists [ inl z ↦ absurd (let l : length os ≡ 0 = ap length z in omega arith) | inr l ↦ l ]
   opened-count (were_made e l bare) = l ∙ count

@@ -10,9 +10,9 @@ module _ {E A : Type 0} where
     pub bare : (i : ℕ) (v : Vec E A) → i < length os → v ≡ slice_index_or os i v → (v.items ≡ []) × (vec_capacity v ≡ 0)
 
   -- the lists os if there were any, or else n empty lists
-  pub data Opens (os : List (Vec E A)) (n : ℕ) (ds : List (Vec E A)) : Type 0 where
-    were_there : 0 < length os → ds ≡ os → Opens os n ds
-    were_made : os ≡ [] → length ds ≡ n → AreBare ds → Opens os n ds
+  pub data MakesLists (os : List (Vec E A)) (n : ℕ) (ds : List (Vec E A)) : Type 0 where
+    were_there : 0 < length os → ds ≡ os → MakesLists os n ds
+    were_made : os ≡ [] → length ds ≡ n → AreBare ds → MakesLists os n ds
 
   -- on success list b has e at its end, and p is the slot of e, which counts on after 32 slots; otherwise e is handed
   -- back, and list b is as it was and had no room

@@ -17,12 +17,12 @@ unflagged (f ∷ fs) [] = []
 unflagged (f ∷ fs) (x ∷ xs) = cond f (unflagged fs xs) (x ∷ unflagged fs xs)
 
 -- the flags as truth values: a flag is up if it is 1
-abbrev pub ups : List ℕ → List Bool
-ups fs = map (λ x. x == 1) fs
+abbrev pub raised : List ℕ → List Bool
+raised fs = map (λ x. x == 1) fs
 
 -- 32 flags that are up
-abbrev pub all_up : List Bool
-all_up = replicate 32 true
+abbrev pub all_raised : List Bool
+all_raised = replicate 32 true
 
 module _ {E : Type 0} where
   -- the entries of a bucket whose flag is up, with their tags

@@ -1,6 +1,6 @@
 //! `Columns`: a row of 32 tags for each bucket, and 32 cells for its entries. The entries of a bucket fill its first
 //! slots. The tag of a free slot is 0.
-ghost use Rattle.scc_array.specs.Sifts.{all_up, unflagged_of, picked_of, ups, window_with};
+ghost use Rattle.scc_array.specs.Sifts.{all_raised, unflagged_of, picked_of, raised, window_with};
 ghost use Rattle.scc_array.specs.Takes.{TakesFirstOf};
 ghost use Rattle.scc_array.specs.Windows.{window_of, IsTagged, empty_window, pushed, popped_over, shifted_out, IsColumns};
 ghost use Rattle.scc_slots.specs.CellWords.{IsDrained};
@@ -195,9 +195,9 @@ impl<E> Columns<E> {
         requires bucket { bucket < length self.old }
         requires target { target < length into.old }
         requires room { length (window_of into.old target).slots + length (window_of self.old bucket).slots ≤ 32 }
-        ensures stays { self.new ≡ slice_set self.old bucket (unflagged_of (ups flags.now) (window_of self.old bucket)) }
+        ensures stays { self.new ≡ slice_set self.old bucket (unflagged_of (raised flags.now) (window_of self.old bucket)) }
         ensures moved { into.new ≡ slice_set into.old target
-            (window_with (window_of into.old target) (picked_of (ups flags.now) (window_of self.old bucket))) }
+            (window_with (window_of into.old target) (picked_of (raised flags.now) (window_of self.old bucket))) }
     {
         let first = into.count(target);
         let row = &mut self.tags[bucket];
@@ -211,9 +211,9 @@ impl<E> Columns<E> {
         requires bucket { bucket < length self.old }
         requires target { target < length into.old }
         requires room { length (window_of into.old target).slots + length (window_of self.old bucket).slots ≤ 32 }
-        ensures stays { self.new ≡ slice_set self.old bucket (unflagged_of all_up (window_of self.old bucket)) }
+        ensures stays { self.new ≡ slice_set self.old bucket (unflagged_of all_raised (window_of self.old bucket)) }
         ensures moved { into.new ≡ slice_set into.old target
-            (window_with (window_of into.old target) (picked_of all_up (window_of self.old bucket))) }
+            (window_with (window_of into.old target) (picked_of all_raised (window_of self.old bucket))) }
     {
         let entry_count = self.count(bucket);
         let first = into.count(target);

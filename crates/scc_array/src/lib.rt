@@ -16,7 +16,7 @@ mod sifting;
 pub mod tags;
 mod write;
 
-use crate::lists::{flag_of, open_lists, push_to, raise};
+use crate::lists::{flag_of, make_lists, push_to, raise};
 pub use columns::Columns;
 use scc_common::Keyed;
 use std::alloc::{AllocError, Global};
@@ -122,7 +122,7 @@ impl<E> Array<E> {
 
     /// Returns whether the bucket may have entries in its overflow list.
     #[inline(always)]
-    pub fn is_crowded(&self, bucket: usize) -> bool
+    pub fn may_overflow(&self, bucket: usize) -> bool
         requires { bucket < length self.now }
         ensures { IsFalse result → (shelf_of self.now bucket).overflow ≡ [] }
     {
@@ -136,7 +136,7 @@ impl<E> Array<E> {
         requires { bucket < length self.now }
         ensures { result ≡ length (shelf_of self.now bucket).overflow }
     {
-        if !self.is_crowded(bucket) {
+        if !self.may_overflow(bucket) {
             return 0;
         }
         if self.overflow.len() == 0 {
@@ -209,7 +209,7 @@ impl<E> Array<E> {
             Ok(()) => {}
             Err(_) => return Err(entry),
         }
-        match open_lists(&mut self.overflow, self.alloc, count) {
+        match make_lists(&mut self.overflow, self.alloc, count) {
             Ok(()) => {}
             Err(_) => return Err(entry),
         }
@@ -247,7 +247,7 @@ where
         match self.columns.find(bucket, key, tag) {
             Some(slot) => Some(slot),
             None => {
-                if !self.is_crowded(bucket) {
+                if !self.may_overflow(bucket) {
                     return None;
                 }
                 self.search_list(bucket, key)

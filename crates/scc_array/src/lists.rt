@@ -1,5 +1,5 @@
 //! The overflow lists, one a bucket, which are made when the first entry needs one.
-ghost use Rattle.scc_array.specs.Lists.{AreBare, AreSpent, Opens, Pushes, RaisesFlag, ReservesList};
+ghost use Rattle.scc_array.specs.Lists.{AreBare, AreSpent, MakesLists, Pushes, RaisesFlag, ReservesList};
 ghost use Rattle.std.specs.Prelude.{◌≡◌, ◌<◌, ◌≤◌, ◌+◌, ◌/◌, ◌^◌, ◌⊎◌, [], false, true, length, IfOk, OnOk, OnErr};
 
 use std::alloc::{AllocError, Global};
@@ -21,12 +21,12 @@ fn bare_lists<E>(alloc: Global, count: usize) -> Result<Vec<Vec<E>>, AllocError>
 }
 
 /// Makes `count` empty lists, if there are none.
-pub(crate) fn open_lists<E>(
+pub(crate) fn make_lists<E>(
     lists: &mut Vec<Vec<E>>,
     alloc: Global,
     count: usize,
 ) -> Result<(), AllocError>
-    ensures ok { OnOk result (Opens lists.old.items count lists.new.items) }
+    ensures ok { OnOk result (MakesLists lists.old.items count lists.new.items) }
     ensures err { OnErr result (lists.new.items ≡ lists.old.items) }
     ensures none { OnErr result (length lists.old.items ≡ 0) }
 {

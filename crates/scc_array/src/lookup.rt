@@ -26,7 +26,7 @@ where
         match self.columns.find_entry(bucket, key, tag) {
             Some(entry) => Some(entry),
             None => {
-                if !self.is_crowded(bucket) {
+                if !self.may_overflow(bucket) {
                     return None;
                 }
                 self.find_in_overflow(bucket, key)
@@ -63,7 +63,7 @@ where
         match self.columns.find_hinted(bucket, key, tag) {
             Some(entry) => Some(entry),
             None => {
-                if !self.is_crowded(bucket) {
+                if !self.may_overflow(bucket) {
                     return None;
                 }
                 match self.find_in_overflow(bucket, key) {

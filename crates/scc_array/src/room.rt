@@ -4,7 +4,7 @@ ghost use Rattle.scc_array.specs.Shelves.{shelf_of};
 ghost use Rattle.std.specs.Prelude.{◌≡◌, ◌≤◌, ◌<◌, ◌+◌, ◌^◌, length, slice_set, IfOk, IfErr, OnOk, OnErr};
 
 use crate::Array;
-use crate::lists::{open_lists, push_to, raise, reserve_in};
+use crate::lists::{make_lists, push_to, raise, reserve_in};
 use scc_common::Made;
 use std::alloc::{AllocError, Global};
 
@@ -63,7 +63,7 @@ impl<E> Array<E> {
             Ok(()) => {}
             Err(refused) => return Err(refused),
         }
-        match open_lists(&mut self.overflow, self.alloc, count) {
+        match make_lists(&mut self.overflow, self.alloc, count) {
             Ok(()) => {}
             Err(refused) => return Err(refused),
         }

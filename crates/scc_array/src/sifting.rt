@@ -1,7 +1,7 @@
 //! Parts the entries of a bucket: some move to other columns, and the others move up.
 ghost use Rattle.scc_array.specs.Shelves.{shelf_of};
 ghost use Rattle.scc_array.specs.Shifts.{Closes};
-ghost use Rattle.scc_array.specs.Sifts.{all_up, unflagged_of, picked_of, window_with, AreAt, AreUnflagged, AreLeft, MovesCell, ups, shelf_unflagged, shelf_with};
+ghost use Rattle.scc_array.specs.Sifts.{all_raised, unflagged_of, picked_of, window_with, AreAt, AreUnflagged, AreLeft, MovesCell, raised, shelf_unflagged, shelf_with};
 ghost use Rattle.scc_array.specs.Windows.{Window, window_of};
 ghost use Rattle.scc_slots.specs.CellWords.{IsFilled};
 ghost use Rattle.std.specs.Prelude.{◌≡◌, ◌<◌, ◌≤◌, ◌+◌, ◌^◌, ℕ, length, slice_index_or, None, ◌⊎◌, Bool, List, slice_set};
@@ -77,9 +77,9 @@ fn pick<E>(
     requires small { base + 32 < 2 ^ 64 }
     requires within { base + 32 ≤ length slots.old }
     requires entry_count { (w : Window E) × AreAt slots.old row.old base w × (first + length w.slots ≤ 32) }
-    ensures left { (w : Window E) → AreAt slots.old row.old base w → AreLeft slots.new row.new base (ups flags.now) w }
+    ensures left { (w : Window E) → AreAt slots.old row.old base w → AreLeft slots.new row.new base (raised flags.now) w }
     ensures moved { (w : Window E) → AreAt slots.old row.old base w
-        → into.new ≡ slice_set into.old target (window_with (window_of into.old target) (picked_of (ups flags.now) w)) }
+        → into.new ≡ slice_set into.old target (window_with (window_of into.old target) (picked_of (raised flags.now) w)) }
     ensures count { length slots.new ≡ length slots.old }
     ensures wide { length row.new ≡ length row.old }
     ensures others { (q : ℕ) → (q < base) ⊎ (base + 32 ≤ q)
@@ -101,7 +101,7 @@ fn pick<E>(
 /// Moves the entries of a row with gaps to its first slots, in order. `bits` must have a bit for each of these entries.
 /// The cells of the row begin at `base`.
 #[inline(always)]
-fn close_ranks<E>(slots: &mut Cells<E>, row: &mut [u8; 32], base: usize, bits: u32)
+fn close_gaps<E>(slots: &mut Cells<E>, row: &mut [u8; 32], base: usize, bits: u32)
     requires small { base + 32 < 2 ^ 64 }
     requires within { base + 32 ≤ length slots.old }
     requires entry_count { (fs : List Bool) × (w : Window E) × AreLeft slots.old row.old base fs w × AreUnflagged fs w bits }
@@ -141,9 +141,9 @@ pub(crate) fn sift<E>(
     requires within { base + 32 ≤ length slots.old }
     requires entry_count { (w : Window E) × AreAt slots.old row.old base w × (first + length w.slots ≤ 32) }
     ensures stays { (w : Window E) → AreAt slots.old row.old base w
-        → AreAt slots.new row.new base (unflagged_of (ups flags.now) w) }
+        → AreAt slots.new row.new base (unflagged_of (raised flags.now) w) }
     ensures moved { (w : Window E) → AreAt slots.old row.old base w
-        → into.new ≡ slice_set into.old target (window_with (window_of into.old target) (picked_of (ups flags.now) w)) }
+        → into.new ≡ slice_set into.old target (window_with (window_of into.old target) (picked_of (raised flags.now) w)) }
     ensures count { length slots.new ≡ length slots.old }
     ensures wide { length row.new ≡ length row.old }
     ensures others { (q : ℕ) → (q < base) ⊎ (base + 32 ≤ q)
@@ -151,7 +151,7 @@ pub(crate) fn sift<E>(
 {
     let rest = !tag_mask(row, 0) & !tag_mask(flags, 1);
     pick(slots, row, base, flags, into, target, first);
-    close_ranks(slots, row, base, rest);
+    close_gaps(slots, row, base, rest);
 }
 
 /// Moves all entries of a row to the end of the bucket `target` of `into`, in order. The row must hold `entry_count`
@@ -173,9 +173,9 @@ pub(crate) fn pour<E>(
     requires within { base + 32 ≤ length slots.old }
     requires entry_count { (w : Window E) × AreAt slots.old row.old base w × (entry_count ≡ length w.slots) }
     ensures stays { (w : Window E) → AreAt slots.old row.old base w → entry_count ≡ length w.slots
-        → AreAt slots.new row.new base (unflagged_of all_up w) }
+        → AreAt slots.new row.new base (unflagged_of all_raised w) }
     ensures moved { (w : Window E) → AreAt slots.old row.old base w → entry_count ≡ length w.slots
-        → into.new ≡ slice_set into.old target (window_with (window_of into.old target) (picked_of all_up w)) }
+        → into.new ≡ slice_set into.old target (window_with (window_of into.old target) (picked_of all_raised w)) }
     ensures count { length slots.new ≡ length slots.old }
     ensures wide { length row.new ≡ length row.old }
     ensures others { (q : ℕ) → (q < base) ⊎ (base + 32 ≤ q)
@@ -199,9 +199,9 @@ impl<E> Array<E> {
         requires bucket { bucket < length self.old }
         requires target { target < length into.old }
         requires room { length (shelf_of into.old target).slots + length (shelf_of self.old bucket).slots ≤ 32 }
-        ensures stays { self.new ≡ slice_set self.old bucket (shelf_unflagged (ups flags.now) (shelf_of self.old bucket)) }
+        ensures stays { self.new ≡ slice_set self.old bucket (shelf_unflagged (raised flags.now) (shelf_of self.old bucket)) }
         ensures moved { into.new ≡ slice_set into.old target
-            (shelf_with (shelf_of into.old target) (ups flags.now) (shelf_of self.old bucket)) }
+            (shelf_with (shelf_of into.old target) (raised flags.now) (shelf_of self.old bucket)) }
     {
         self.columns.split(bucket, flags, &mut into.columns, target);
     }
@@ -213,9 +213,9 @@ impl<E> Array<E> {
         requires bucket { bucket < length self.old }
         requires target { target < length into.old }
         requires room { length (shelf_of into.old target).slots + length (shelf_of self.old bucket).slots ≤ 32 }
-        ensures stays { self.new ≡ slice_set self.old bucket (shelf_unflagged all_up (shelf_of self.old bucket)) }
+        ensures stays { self.new ≡ slice_set self.old bucket (shelf_unflagged all_raised (shelf_of self.old bucket)) }
         ensures moved { into.new ≡ slice_set into.old target
-            (shelf_with (shelf_of into.old target) all_up (shelf_of self.old bucket)) }
+            (shelf_with (shelf_of into.old target) all_raised (shelf_of self.old bucket)) }
     {
         self.columns.pour(bucket, &mut into.columns, target);
     }

@@ -43,7 +43,7 @@ where
                 Some(u(own, value))
             }
             None => {
-                if !self.is_crowded(bucket) {
+                if !self.may_overflow(bucket) {
                     return None;
                 }
                 self.update_list(bucket, key, u)

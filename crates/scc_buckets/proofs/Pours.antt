@@ -7,19 +7,19 @@ use Rattle.std.proofs.lemmas.List.Elements.{filter-append}
 use native.Mathlib.Decide.{dec_lt}
 use Rattle.scc_array.specs.Shelf.{Shelf, shelf_entries, with_entry, ShelfHasRoom}
 use Rattle.scc_common.specs.Routing.{bucket_number, tag_of}
-use Rattle.scc_buckets.specs.Pour.{IsPacked, Extends, bound_for}
+use Rattle.scc_buckets.specs.Pour.{IsPacked, Extends, destined_for}
 
-pub bound_append : {E : Type 0} (hash : E → ℕ) (t k i : ℕ) (xs ys : List E) → bound_for hash t k i (xs ++ ys) ≡ bound_for hash t k i xs ++ bound_for hash t k i ys
-bound_append hash t k i xs ys = filter-append _ xs ys
+pub destined_append : {E : Type 0} (hash : E → ℕ) (t k i : ℕ) (xs ys : List E) → destined_for hash t k i (xs ++ ys) ≡ destined_for hash t k i xs ++ destined_for hash t k i ys
+destined_append hash t k i xs ys = filter-append _ xs ys
 
-pub bound_here : {E : Type 0} (hash : E → ℕ) (t k i : ℕ) (e : E) (es : List E) → i ≡ bucket_number t k (hash e) → bound_for hash t k i (e ∷ es) ≡ e ∷ bound_for hash t k i es
-bound_here hash t k i e es h = let s : (bucket_number t k (hash e) == i) ≡ true = eq-eqb _ _ (sym h) in rw s
+pub destined_here : {E : Type 0} (hash : E → ℕ) (t k i : ℕ) (e : E) (es : List E) → i ≡ bucket_number t k (hash e) → destined_for hash t k i (e ∷ es) ≡ e ∷ destined_for hash t k i es
+destined_here hash t k i e es h = let s : (bucket_number t k (hash e) == i) ≡ true = eq-eqb _ _ (sym h) in rw s
 
 not_equal : (a b : ℕ) → a ≢ b → (a == b) ≡ false
 not_equal a b h = search rules
 
-pub bound_other : {E : Type 0} (hash : E → ℕ) (t k i : ℕ) (e : E) (es : List E) → i ≢ bucket_number t k (hash e) → bound_for hash t k i (e ∷ es) ≡ bound_for hash t k i es
-bound_other hash t k i e es h = let s : (bucket_number t k (hash e) == i) ≡ false = not_equal _ _ (λ z. h (sym z)) in rw s
+pub destined_other : {E : Type 0} (hash : E → ℕ) (t k i : ℕ) (e : E) (es : List E) → i ≢ bucket_number t k (hash e) → destined_for hash t k i (e ∷ es) ≡ destined_for hash t k i es
+destined_other hash t k i e es h = let s : (bucket_number t k (hash e) == i) ≡ false = not_equal _ _ (λ z. h (sym z)) in rw s
 
 pub room_by : {E : Type 0} (b : Shelf E) → length b.slots ≤ 32 → length b.slots + length b.overflow < 32 + b.room → ShelfHasRoom b
 room_by b w h = elim (dec_lt (length b.slots) 32) [ yes q ↦ inl q | no q ↦ inr (omega arith) ]

@@ -3,7 +3,7 @@ use Rattle.std.specs.Prelude.{◌≡◌, ℕ, Bool, ◌*◌, ◌<◌, ◌≤◌,
 use Rattle.std.specs.List.{slice_get, slice_set, position}
 use Rattle.scc_common.specs.Contents.{Contents, entries, bucket_count, settings_of, minimum_of, refused_of, list_of, lists_of, overflow_of, IsMarked, IsNoteDown, IsNoteUp}
 use Rattle.scc_buckets.specs.Places.{IsSpot}
-use Rattle.scc_buckets.specs.Pour.{IsRegrouped, bound_for}
+use Rattle.scc_buckets.specs.Pour.{IsRegrouped, destined_for}
 use Rattle.scc_common.specs.Routing.{bucket_number}
 use Rattle.scc_common.specs.Sizes.{IsBucketCount, IsLawful, IsSmaller}
 use Rattle.scc_buckets.specs.declared.place.Place.{Place}
@@ -61,7 +61,7 @@ module _ {E S : Type 0} where
   pub record MayShrinkWithin (hash : E → ℕ) (c : Contents E S) (n : ℕ) : Type 0 where
     pub array : IsBucketCount n
     pub smaller : IsSmaller (minimum_of c) (length (entries c)) (bucket_count c) n
-    pub short : (i : ℕ) → i < n → length (bound_for hash (settings_of c).skipped n i (entries c)) ≤ 32
+    pub short : (i : ℕ) → i < n → length (destined_for hash (settings_of c).skipped n i (entries c)) ≤ 32
 
   -- the array shrinks if a shrink is allowed; if memory for it is refused, that is noted, and nothing else changes.
   -- The mark doesn't rise

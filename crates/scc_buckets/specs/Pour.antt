@@ -6,8 +6,8 @@ use Rattle.scc_common.specs.Routing.{bucket_number, tag_of}
 use Rattle.scc_array.specs.Shelf.{Shelf, shelf_entries}
 
 -- the entries es that belong to bucket i of n, in their order
-abbrev pub bound_for : {E : Type 0} → (E → ℕ) → ℕ → ℕ → ℕ → List E → List E
-bound_for hash t n i es = filter (λ e. bucket_number t n (hash e) == i) es
+abbrev pub destined_for : {E : Type 0} → (E → ℕ) → ℕ → ℕ → ℕ → List E → List E
+destined_for hash t n i es = filter (λ e. bucket_number t n (hash e) == i) es
 
 -- the overflow list of b is used only if all slots are, and its tags are those of its entries
 pub record IsPacked {E : Type 0} (hash : E → ℕ) (b : Shelf E) : Type 0 where
@@ -24,5 +24,5 @@ pub record Extends {E : Type 0} (hash : E → ℕ) (a b : Shelf E) (es : List E)
 -- d has n buckets, each with the entries of c that belong to it, in the order that they had in c
 pub record IsRegrouped {E S : Type 0} (hash : E → ℕ) (n : ℕ) (c d : Contents E S) : Type 0 where
   pub count : bucket_count d ≡ n
-  pub each : (i : ℕ) → i < n → list_of d i ≡ bound_for hash (settings_of c).skipped n i (entries c)
+  pub each : (i : ℕ) → i < n → list_of d i ≡ destined_for hash (settings_of c).skipped n i (entries c)
   pub settings : settings_of d ≡ settings_of c

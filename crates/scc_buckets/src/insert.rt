@@ -23,7 +23,7 @@ pub(crate) fn one_if(holds: bool) -> usize
 
 /// Returns whether the overflow lists hold the most entries allowed, if they hold `overflowing`.
 #[inline(always)]
-pub(crate) fn is_overflow_full(overflowing: usize) -> bool
+pub fn is_overflow_full(overflowing: usize) -> bool
     ensures full { IsTrue result → 2 ^ 62 - 1 ≤ overflowing }
     ensures room { (IsTrue result → ⊥) → overflowing < 2 ^ 62 - 1 }
 {

@@ -22,6 +22,7 @@ mod walk;
 mod write;
 
 use crate::place::{bucket_index, tag};
+pub use insert::{OVERFLOW_LIMIT, is_overflow_full};
 pub use place::Place;
 use scc_array::Array;
 use scc_common::Keyed;

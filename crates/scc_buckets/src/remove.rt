@@ -60,7 +60,7 @@ where
                 Some(entry)
             }
             None => {
-                if !self.buckets.is_crowded(bucket) {
+                if !self.buckets.may_overflow(bucket) {
                     return None;
                 }
                 match self.buckets.take_in_overflow(bucket, key) {

@@ -16,7 +16,7 @@ use Rattle.scc_buckets.specs.declared.place.Place.{Place}
 use Rattle.scc_table.specs.Bounded.{IsListedAt, IsPreparedBelow, GrowsBelow, makes, has_room, is_full, stays, denied, doubles}
 use Rattle.scc_table.specs.Places.{IsPlace, spot_of}
 use Rattle.scc_table.specs.TwoArrays.{waits_at}
-use Rattle.scc_table.proofs.OldSpots.{spot-own}
+use Rattle.scc_table.proofs.places.OldSpots.{spot-own}
 use Rattle.scc_cache.specs.CacheSteps.{IsFound, IsLacking, IsPresent, TakesAt, TakesThen, list_number}
 use Rattle.scc_cache.specs.Caches.{Cached, IsCacheState}
 use Rattle.scc_cache.specs.ListSteps.{list_for, with_list, IsMissing, IsThere, PutsPair}

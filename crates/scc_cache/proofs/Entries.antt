@@ -20,7 +20,7 @@ use Rattle.scc_common.specs.declared.guard.Guard as guard
 use Rattle.scc_buckets.specs.declared.place.Place.{Place}
 use Rattle.scc_array.specs.ShelfWrites.{length-write_at}
 use Rattle.scc_buckets.proofs.KeyWrites.{get-write_at}
-use Rattle.scc_table.proofs.AtPlaces.{place-prop}
+use Rattle.scc_table.proofs.places.Entries.{place-prop}
 use Rattle.scc_cache.specs.CacheSteps.{ChangesLists, IsFound, IsLastAt, IsPreparedForPut, PutsNew, list_number}
 use Rattle.scc_cache.specs.Caches.{Cached}
 use Rattle.scc_common.specs.declared.errors.InsertError.{InsertError}

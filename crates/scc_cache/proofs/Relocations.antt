@@ -11,10 +11,10 @@ use Rattle.scc_buckets.specs.declared.place.Place.{Place}
 use Rattle.scc_buckets.proofs.Bounds.{keeps-count, keeps-entries}
 use Rattle.scc_table.specs.Relocates.{Spreads, left_after}
 use Rattle.scc_table.specs.TwoArrays.{pending_targets, waits_at}
-use Rattle.scc_table.proofs.Finishing.{pending-is}
-use Rattle.scc_table.proofs.Placing.{none-left}
-use Rattle.scc_table.proofs.Same.{count-same, pending-same}
-use Rattle.scc_table.proofs.Targets.{targets-all, targets-length, targets-same, targets-without}
+use Rattle.scc_table.proofs.relocations.OneByOne.{pending-is}
+use Rattle.scc_table.proofs.insertions.Places.{none-left}
+use Rattle.scc_table.proofs.arrays.SameParts.{count-same, pending-same}
+use Rattle.scc_table.proofs.relocations.Targets.{targets-all, targets-length, targets-same, targets-without}
 use Rattle.scc_cache.specs.CacheSteps.{ChangesLists, IsLacking, IsLastAt, list_number}
 use Rattle.scc_cache.specs.Caches.{Cached}
 use Rattle.scc_cache.specs.Lends.{with_key_at, with_value_at}

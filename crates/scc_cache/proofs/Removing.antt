@@ -10,7 +10,7 @@ use Rattle.scc_array.specs.ShelfWrites.{write_at}
 use Rattle.scc_buckets.specs.Writes.{with_write_at_spot}
 use Rattle.scc_table.specs.Placed.{spot-with_write_at}
 use Rattle.scc_table.specs.Places.{index_of, spot_of, with_write_at}
-use Rattle.scc_table.proofs.AtPlaces.{value-unique, value-written}
+use Rattle.scc_table.proofs.places.Entries.{value-unique, value-written}
 use Rattle.scc_buckets.specs.declared.place.Place.{Place}
 use Rattle.scc_buckets.proofs.KeyWrites.{get-write_at}
 use Rattle.scc_buckets.proofs.Lookups.{find-position_none}

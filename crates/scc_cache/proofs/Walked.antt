@@ -6,7 +6,7 @@ use Rattle.std.proofs.lemmas.List.Elements.{filter-append}
 use Rattle.std.proofs.lemmas.List.Sorted.{IsPermutation-refl}
 use Rattle.scc_buckets.specs.Bounded.{IsListed}
 use Rattle.scc_common.specs.Contents.{Contents, Settings, entries, bucket_count, list_of, refused_of, settings_of, waiting_of}
-use Rattle.scc_buckets.specs.Pour.{bound_for}
+use Rattle.scc_buckets.specs.Pour.{destined_for}
 use Rattle.scc_common.specs.Routing.{bucket_number}
 use Rattle.scc_common.specs.Steps.{HoldsExactly}
 use Rattle.scc_cache.specs.CacheWalks.{GoesOver, LeavesPairs, ShrinksIfTaken}
@@ -16,7 +16,7 @@ use Rattle.scc_cache.specs.Lends.{with_value_at}
 use Rattle.scc_buckets.specs.Writes.{with_write_at_spot}
 use Rattle.scc_table.specs.Places.{IsPlace, index_of, spot_of}
 use Rattle.scc_buckets.specs.declared.place.Place.{Place}
-use Rattle.scc_table.proofs.Visits.{Visited, visited}
+use Rattle.scc_table.proofs.walks.Visits.{Visited, visited}
 
 not_equal : (a b : ℕ) → a ≢ b → (a == b) ≡ false
 not_equal a b h = search rules
@@ -63,7 +63,7 @@ module _ {E : Type 0} (number : E → ℕ) where
       ∙ flat-own i (suc b) k ls (own-tail b x ls o) (omega arith) (omega arith)
 
 -- the entries whose hashes lead to bucket i are list i
-pub listed-bound : {E S : Type 0} (hash : E → ℕ) (c : Contents E S) → IsListed hash c → (i : ℕ) → i < bucket_count c → bound_for hash (settings_of c).skipped (bucket_count c) i (entries c) ≡ list_of c i
+pub listed-bound : {E S : Type 0} (hash : E → ℕ) (c : Contents E S) → IsListed hash c → (i : ℕ) → i < bucket_count c → destined_for hash (settings_of c).skipped (bucket_count c) i (entries c) ≡ list_of c i
 unfolding list_of bucket_count entries
 listed-bound hash c h i l =
     let z : i ≡ 0 + i = omega arith in

@@ -4,7 +4,7 @@ use Rattle.std.specs.Borrow.{MutBor}
 use Rattle.std.specs.Fn.{Once, FnOnceReturnsAtMut}
 use Rattle.std.specs.List.Sorted.{IsPermutation}
 use Rattle.scc_common.specs.Contents.{Contents, entries, bucket_count, list_of, refused_of, settings_of}
-use Rattle.scc_buckets.specs.Pour.{bound_for}
+use Rattle.scc_buckets.specs.Pour.{destined_for}
 use Rattle.scc_cache.specs.CacheSteps.{ChangesLists, IsAbsent, ShrinksTo, TakesThen, list_number}
 use Rattle.scc_cache.specs.Caches.{Cached}
 use Rattle.scc_cache.specs.ListSteps.{Rewrites}
@@ -13,7 +13,7 @@ module _ {K V S : Type 0} (hash : K → ℕ) where
   -- es has the pairs of c, and the pairs of each list in the order of the list
   pub record GoesOver (c : Contents (K × V) S) (es : List (K × V)) : Type 0 where
     pub same : IsPermutation (entries c) es
-    pub order : (i : ℕ) → i < bucket_count c → bound_for (λ p. hash p.0) (settings_of c).skipped (bucket_count c) i es ≡ list_of c i
+    pub order : (i : ℕ) → i < bucket_count c → destined_for (λ p. hash p.0) (settings_of c).skipped (bucket_count c) i es ≡ list_of c i
 
   -- d has as many lists as c and the pairs es, the pairs of each list in the order of es; settings, maximum, note and
   -- mark are those of c

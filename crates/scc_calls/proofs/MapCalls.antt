@@ -7,7 +7,7 @@ use Rattle.std.proofs.lemmas.Bool.{cases_order}
 use Rattle.scc_common.specs.Contents.{Contents, bucket_count, entries, settings_of}
 use Rattle.scc_common.specs.Pairs.{find, without}
 use Rattle.scc_common.specs.Steps.{Holds, Prepares}
-use Rattle.scc_table.proofs.Same.{entries-same}
+use Rattle.scc_table.proofs.arrays.SameParts.{entries-same}
 use Rattle.scc_owned.specs.MapSteps.{Inserts, Upserts, Removes}
 use Rattle.scc_calls.specs.Resized.{MovesResized}
 use Rattle.scc_calls.specs.States.{State, ResizesTo, state_of, setting_of, setting_by}

@@ -7,7 +7,7 @@ use Rattle.std.proofs.lemmas.List.Elements.{filter_passes, All-get_or}
 use Rattle.scc_array.specs.Shelf.{Shelf, shelf_entries, empty_shelf}
 use Rattle.scc_buckets.proofs.Bare.{nil-left}
 use Rattle.scc_common.specs.Contents.{Contents, Settings, entries, bucket_count, list_of, lists_of, settings_of, refused_of, overflow_of, waiting_of, owed_of, IsUniqueBy}
-use Rattle.scc_buckets.specs.Pour.{bound_for, Extends}
+use Rattle.scc_buckets.specs.Pour.{destined_for, Extends}
 use Rattle.scc_common.specs.Routing.{bucket_number, tag_of}
 use Rattle.scc_buckets.specs.Tables.{IsOwn, IsBuckets}
 use Rattle.scc_buckets.proofs.Inserts.{table_set}
@@ -32,15 +32,15 @@ module _ {E : Type 0} (hash : E → ℕ) (t i : ℕ) (bs : List (Shelf E)) (b : 
 
   module _ (all_es : List E) (left : ℕ) (d : Shelf E) where
     bound : List E
-    bound = bound_for hash t (length bs) i all_es
+    bound = destined_for hash t (length bs) i all_es
 
-    pub landed-list : Landed hash (bound_for hash t (length bs) i all_es) left d → (shelf_entries d ≡ bound_for hash t (length bs) i all_es) ⊎ (shelf_entries d ≡ [])
+    pub landed-list : Landed hash (destined_for hash t (length bs) i all_es) left d → (shelf_entries d ≡ destined_for hash t (length bs) i all_es) ⊎ (shelf_entries d ≡ [])
     landed-list (all x few) = inl x.entries_are
     landed-list (nothing e) = inr (ap shelf_entries e)
 
-    pub landed-own : Landed hash (bound_for hash t (length bs) i all_es) left d → IsOwn hash t (length bs) i d
+    pub landed-own : Landed hash (destined_for hash t (length bs) i all_es) left d → IsOwn hash t (length bs) i d
     landed-own (all x few) =
-        let es = bound_for hash t (length bs) i all_es in
+        let es = destined_for hash t (length bs) i all_es in
         record {
           tagged = x.packed.tagged;
           within = x.packed.within;
@@ -51,9 +51,9 @@ module _ {E : Type 0} (hash : E → ℕ) (t i : ℕ) (bs : List (Shelf E)) (b : 
         }
     landed-own (nothing e) = subst (IsOwn hash t (length bs) i) (sym e) (record { tagged = refl; within = omega arith; routed = λ j x lj. absurd (omega arith) })
 
-    pub landed-spilled : Landed hash (bound_for hash t (length bs) i all_es) left d → length d.overflow ≤ left
+    pub landed-spilled : Landed hash (destined_for hash t (length bs) i all_es) left d → length d.overflow ≤ left
     landed-spilled (all x few) =
-        let n1 : length (shelf_entries d) ≡ length (bound_for hash t (length bs) i all_es) = ap length x.entries_are in
+        let n1 : length (shelf_entries d) ≡ length (destined_for hash t (length bs) i all_es) = ap length x.entries_are in
         let n2 : length (shelf_entries d) ≡ length d.slots + length d.overflow = length-append d.slots d.overflow in
         elim x.packed.last [
           | inl q ↦ omega arith
@@ -62,7 +62,7 @@ module _ {E : Type 0} (hash : E → ℕ) (t i : ℕ) (bs : List (Shelf E)) (b : 
     landed-spilled (nothing e) = let z : length d.overflow ≡ 0 = ap (λ x. length x.overflow) e in omega arith
 
     -- the table with the changed bucket is a table
-    pub landed-table : (count over : ℕ) → IsBuckets hash t bs count over → i < length bs → b ≡ get_or bs i b → shelf_entries b ≡ [] → over + left < 2 ^ 62 → Landed hash (bound_for hash t (length bs) i all_es) left d
+    pub landed-table : (count over : ℕ) → IsBuckets hash t bs count over → i < length bs → b ≡ get_or bs i b → shelf_entries b ≡ [] → over + left < 2 ^ 62 → Landed hash (destined_for hash t (length bs) i all_es) left d
         → IsBuckets hash t (set bs i d) (count + length (shelf_entries d)) (over + length d.overflow)
     landed-table count over table l at bare few landed =
         let none : length (shelf_entries b) ≡ 0 = ap length bare in
@@ -75,11 +75,11 @@ by_result3 : {X Y : Type 0} {P R Q : Type 0} (r : Result X Y) → OnOk r P → O
 by_result3 (Ok x) p s q = inl (p, s)
 by_result3 (Err y) p s q = inr q
 
-module _ {E : Type 0} (hash : E → ℕ) (t i : ℕ) (bs olds news : List (Shelf E)) (d : Shelf E) (left coming u n : ℕ) (tu : u ≡ t) (nu : n ≡ length bs) (most : length (bound_for hash t (length bs) i (flat_map shelf_entries olds)) ≤ coming) where
+module _ {E : Type 0} (hash : E → ℕ) (t i : ℕ) (bs olds news : List (Shelf E)) (d : Shelf E) (left coming u n : ℕ) (tu : u ≡ t) (nu : n ≡ length bs) (most : length (destined_for hash t (length bs) i (flat_map shelf_entries olds)) ≤ coming) where
   pub landed-from : {X Y : Type 0} (r : Result X Y) → OnOk r (Drains hash u n i olds empty_shelf news d) → OnOk r (coming ≤ 32 + left) → OnErr r (d ≡ record empty_shelf { room = d.room })
-      → Landed hash (bound_for hash t (length bs) i (flat_map shelf_entries olds)) left d
+      → Landed hash (destined_for hash t (length bs) i (flat_map shelf_entries olds)) left d
   landed-from r ok few stays = elim (by_result3 r ok few stays) [
-    | inl p ↦ all (subst (λ m. Extends hash empty_shelf d (bound_for hash t m i (flat_map shelf_entries olds))) nu (subst (λ m. Extends hash empty_shelf d (bound_for hash m n i (flat_map shelf_entries olds))) tu p.0.moved)) (let f = p.1 in omega arith)
+    | inl p ↦ all (subst (λ m. Extends hash empty_shelf d (destined_for hash t m i (flat_map shelf_entries olds))) nu (subst (λ m. Extends hash empty_shelf d (destined_for hash m n i (flat_map shelf_entries olds))) tu p.0.moved)) (let f = p.1 in omega arith)
     | inr q ↦ nothing q
   ]
 

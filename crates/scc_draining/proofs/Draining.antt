@@ -6,23 +6,23 @@ use Rattle.std.proofs.lemmas.List.Concat.{flat_map-append}
 use native.Mathlib.Decide.{dec_lt}
 use Rattle.scc_array.specs.Shelves.{shelf_of}
 use Rattle.scc_array.specs.Shelf.{Shelf, shelf_entries, empty_shelf}
-use Rattle.scc_buckets.specs.Pour.{bound_for, Extends, IsPacked}
+use Rattle.scc_buckets.specs.Pour.{destined_for, Extends, IsPacked}
 use Rattle.scc_common.specs.Routing.{bucket_number}
 use Rattle.scc_buckets.specs.Tables.{IsOwn}
 use Rattle.scc_buckets.proofs.PairSplits.{by_answer}
-use Rattle.scc_buckets.proofs.Pours.{bound_append}
+use Rattle.scc_buckets.proofs.Pours.{destined_append}
 use Rattle.scc_draining.specs.Moves.{AreOwn, Drains, IsWithinSources, Pulls, others_for}
 
 -- if no entry belongs to the bucket, all entries are others
-pub others-all : {E : Type 0} (hash : E → ℕ) (t n i : ℕ) (es : List E) → bound_for hash t n i es ≡ [] → others_for hash t n i es ≡ es
+pub others-all : {E : Type 0} (hash : E → ℕ) (t n i : ℕ) (es : List E) → destined_for hash t n i es ≡ [] → others_for hash t n i es ≡ es
 others-all hash t n i [] h = refl
 others-all hash t n i (e ∷ es) h =
     by_answer (bucket_number t n (hash e) == i) (λ q. absurd (let z = rw q at h in cc)) (λ q. let z = rw q at h in rw q (ap (λ r. e ∷ r) (others-all hash t n i es z)))
 
-bound-flat_none : {E : Type 0} (hash : E → ℕ) (t n i : ℕ) (bs : List (Shelf E)) → ((j : ℕ) → bound_for hash t n i (shelf_entries (shelf_of bs j)) ≡ []) → bound_for hash t n i (flat_map shelf_entries bs) ≡ []
-bound-flat_none hash t n i [] f = refl
-bound-flat_none hash t n i (b ∷ bs) f =
-    bound_append hash t n i (shelf_entries b) (flat_map shelf_entries bs) ∙ ap (λ z. z ++ bound_for hash t n i (flat_map shelf_entries bs)) (f 0) ∙ bound-flat_none hash t n i bs (λ j. f (suc j))
+destined-flat_none : {E : Type 0} (hash : E → ℕ) (t n i : ℕ) (bs : List (Shelf E)) → ((j : ℕ) → destined_for hash t n i (shelf_entries (shelf_of bs j)) ≡ []) → destined_for hash t n i (flat_map shelf_entries bs) ≡ []
+destined-flat_none hash t n i [] f = refl
+destined-flat_none hash t n i (b ∷ bs) f =
+    destined_append hash t n i (shelf_entries b) (flat_map shelf_entries bs) ∙ ap (λ z. z ++ destined_for hash t n i (flat_map shelf_entries bs)) (f 0) ∙ destined-flat_none hash t n i bs (λ j. f (suc j))
 
 pub flat-parts : {E : Type 0} (m : ℕ) (bs : List (Shelf E)) → flat_map shelf_entries bs ≡ flat_map shelf_entries (take m bs) ++ flat_map shelf_entries (drop m bs)
 flat-parts m bs = ap (flat_map shelf_entries) (sym (take-append-drop m bs)) ∙ flat_map-append shelf_entries (take m bs) (drop m bs)
@@ -48,23 +48,23 @@ pub record DrainsUntil {E : Type 0} (hash : E → ℕ) (t n i : ℕ) (olds : Lis
   pub left : (j : ℕ) → m ≤ j → shelf_of news j ≡ shelf_of olds j
   pub own : (j : ℕ) → j < length olds → IsOwn hash t (length olds) j (shelf_of news j)
   pub overflow : (j : ℕ) → length (shelf_of news j).overflow ≤ length (shelf_of olds j).overflow
-  pub moved : Extends hash a b (bound_for hash t n i (flat_map shelf_entries (take m olds)))
+  pub moved : Extends hash a b (destined_for hash t n i (flat_map shelf_entries (take m olds)))
 
 module _ {E : Type 0} (hash : E → ℕ) (t n i first last : ℕ) (olds : List (Shelf E)) (sources : IsWithinSources hash t n i first last olds) (a : Shelf E) where
-  pub before-none : bound_for hash t n i (flat_map shelf_entries (take first olds)) ≡ []
-  before-none = bound-flat_none hash t n i (take first olds) (λ j. elim (dec_lt j first) [
-    | yes q ↦ ap (λ z. bound_for hash t n i (shelf_entries z)) (get_or-take first olds j empty_shelf q) ∙ sources.none j (inl q)
-    | no q ↦ ap (λ z. bound_for hash t n i (shelf_entries z)) (get_or_past (take first olds) j empty_shelf (omega (arith, length-take first olds)))
+  pub before-none : destined_for hash t n i (flat_map shelf_entries (take first olds)) ≡ []
+  before-none = destined-flat_none hash t n i (take first olds) (λ j. elim (dec_lt j first) [
+    | yes q ↦ ap (λ z. destined_for hash t n i (shelf_entries z)) (get_or-take first olds j empty_shelf q) ∙ sources.none j (inl q)
+    | no q ↦ ap (λ z. destined_for hash t n i (shelf_entries z)) (get_or_past (take first olds) j empty_shelf (omega (arith, length-take first olds)))
   ])
 
-  after-none : bound_for hash t n i (flat_map shelf_entries (drop last olds)) ≡ []
-  after-none = bound-flat_none hash t n i (drop last olds) (λ j. ap (λ z. bound_for hash t n i (shelf_entries z)) (get_or-drop last olds j empty_shelf) ∙ sources.none (last + j) (inr (omega arith)))
+  after-none : destined_for hash t n i (flat_map shelf_entries (drop last olds)) ≡ []
+  after-none = destined-flat_none hash t n i (drop last olds) (λ j. ap (λ z. destined_for hash t n i (shelf_entries z)) (get_or-drop last olds j empty_shelf) ∙ sources.none (last + j) (inr (omega arith)))
 
   -- the target's entries in the buckets before `last` are all of the target's entries
-  pub take-all_bound : bound_for hash t n i (flat_map shelf_entries (take last olds)) ≡ bound_for hash t n i (flat_map shelf_entries olds)
+  pub take-all_bound : destined_for hash t n i (flat_map shelf_entries (take last olds)) ≡ destined_for hash t n i (flat_map shelf_entries olds)
   take-all_bound =
-      sym (ap (bound_for hash t n i) (flat-parts last olds) ∙ bound_append hash t n i (flat_map shelf_entries (take last olds)) (flat_map shelf_entries (drop last olds))
-      ∙ ap (λ z. bound_for hash t n i (flat_map shelf_entries (take last olds)) ++ z) after-none ∙ append-nil (bound_for hash t n i (flat_map shelf_entries (take last olds))))
+      sym (ap (destined_for hash t n i) (flat-parts last olds) ∙ destined_append hash t n i (flat_map shelf_entries (take last olds)) (flat_map shelf_entries (drop last olds))
+      ∙ ap (λ z. destined_for hash t n i (flat_map shelf_entries (take last olds)) ++ z) after-none ∙ append-nil (destined_for hash t n i (flat_map shelf_entries (take last olds))))
 
   pub drain-start : AreOwn hash t olds → IsPacked hash a → DrainsUntil hash t n i olds a olds a first
   drain-start own packed = record {
@@ -91,17 +91,17 @@ module _ {E : Type 0} (hash : E → ℕ) (t n i first last : ℕ) (olds : List (
         }
 
     module _ (m : ℕ) (p : DrainsUntil hash t n i olds a news b m) (l : m < last) where
-      pub drain-room : length (shelf_entries a) + length (bound_for hash t n i (flat_map shelf_entries olds)) ≤ 32 + a.room → length (shelf_entries b) + length (bound_for hash t n i (shelf_entries (shelf_of news m))) ≤ 32 + b.room
+      pub drain-room : length (shelf_entries a) + length (destined_for hash t n i (flat_map shelf_entries olds)) ≤ 32 + a.room → length (shelf_entries b) + length (destined_for hash t n i (shelf_entries (shelf_of news m))) ≤ 32 + b.room
       drain-room room =
           let q : m < length olds = omega (arith, sources.within) in
-          let xs = bound_for hash t n i (flat_map shelf_entries (take m olds)) in
-          let ys = bound_for hash t n i (shelf_entries (shelf_of olds m)) in
-          let zs = bound_for hash t n i (flat_map shelf_entries (drop (m + 1) olds)) in
-          let here : length (bound_for hash t n i (shelf_entries (shelf_of news m))) ≡ length ys = ap (λ z. length (bound_for hash t n i (shelf_entries z))) (p.left m (omega arith)) in
-          let split : bound_for hash t n i (flat_map shelf_entries olds) ≡ xs ++ (ys ++ zs) =
-          ap (bound_for hash t n i) (flat-parts m olds) ∙ bound_append hash t n i (flat_map shelf_entries (take m olds)) (flat_map shelf_entries (drop m olds))
-          ∙ ap (λ z. xs ++ z) (ap (bound_for hash t n i) (flat-left m olds q) ∙ bound_append hash t n i (shelf_entries (shelf_of olds m)) (flat_map shelf_entries (drop (m + 1) olds))) in
-          let n1 : length (bound_for hash t n i (flat_map shelf_entries olds)) ≡ length xs + length (ys ++ zs) = ap length split ∙ length-append xs (ys ++ zs) in
+          let xs = destined_for hash t n i (flat_map shelf_entries (take m olds)) in
+          let ys = destined_for hash t n i (shelf_entries (shelf_of olds m)) in
+          let zs = destined_for hash t n i (flat_map shelf_entries (drop (m + 1) olds)) in
+          let here : length (destined_for hash t n i (shelf_entries (shelf_of news m))) ≡ length ys = ap (λ z. length (destined_for hash t n i (shelf_entries z))) (p.left m (omega arith)) in
+          let split : destined_for hash t n i (flat_map shelf_entries olds) ≡ xs ++ (ys ++ zs) =
+          ap (destined_for hash t n i) (flat-parts m olds) ∙ destined_append hash t n i (flat_map shelf_entries (take m olds)) (flat_map shelf_entries (drop m olds))
+          ∙ ap (λ z. xs ++ z) (ap (destined_for hash t n i) (flat-left m olds q) ∙ destined_append hash t n i (shelf_entries (shelf_of olds m)) (flat_map shelf_entries (drop (m + 1) olds))) in
+          let n1 : length (destined_for hash t n i (flat_map shelf_entries olds)) ≡ length xs + length (ys ++ zs) = ap length split ∙ length-append xs (ys ++ zs) in
           let n2 : length (ys ++ zs) ≡ length ys + length zs = length-append ys zs in
           let n3 : length (shelf_entries b) ≡ length (shelf_entries a) + length xs = ap length p.moved.entries_are ∙ length-append (shelf_entries a) xs in
           omega (arith, p.moved.room)
@@ -114,9 +114,9 @@ module _ {E : Type 0} (hash : E → ℕ) (t n i first last : ℕ) (olds : List (
         drain-step =
             let q : m < length olds = omega (arith, sources.within) in
             let were = p.left m (omega arith) in
-            let one : bound_for hash t n i (flat_map shelf_entries (take (m + 1) olds)) ≡ bound_for hash t n i (flat_map shelf_entries (take m olds)) ++ bound_for hash t n i (shelf_entries (shelf_of news m)) =
-            ap (bound_for hash t n i) (flat-more m olds q) ∙ bound_append hash t n i (flat_map shelf_entries (take m olds)) (shelf_entries (shelf_of olds m))
-            ∙ ap (λ z. bound_for hash t n i (flat_map shelf_entries (take m olds)) ++ bound_for hash t n i (shelf_entries z)) (sym were) in
+            let one : destined_for hash t n i (flat_map shelf_entries (take (m + 1) olds)) ≡ destined_for hash t n i (flat_map shelf_entries (take m olds)) ++ destined_for hash t n i (shelf_entries (shelf_of news m)) =
+            ap (destined_for hash t n i) (flat-more m olds q) ∙ destined_append hash t n i (flat_map shelf_entries (take m olds)) (shelf_entries (shelf_of olds m))
+            ∙ ap (λ z. destined_for hash t n i (flat_map shelf_entries (take m olds)) ++ destined_for hash t n i (shelf_entries z)) (sym were) in
             record {
               count = ap length pulls.same ∙ length-set news m (shelf_of later m) ∙ p.count;
               done = λ j r. elim (dec_lt j m) [
@@ -138,5 +138,5 @@ module _ {E : Type 0} (hash : E → ℕ) (t n i first last : ℕ) (olds : List (
                   | no y ↦ let same : j ≡ m = omega arith in rw same (let o = p.overflow m in omega (arith, pulls.overflow))
                 ]
               ];
-              moved = subst (λ z. Extends hash a c z) (sym one) (extends-both hash a b c (bound_for hash t n i (flat_map shelf_entries (take m olds))) (bound_for hash t n i (shelf_entries (shelf_of news m))) p.moved pulls.moved);
+              moved = subst (λ z. Extends hash a c z) (sym one) (extends-both hash a b c (destined_for hash t n i (flat_map shelf_entries (take m olds))) (destined_for hash t n i (shelf_entries (shelf_of news m))) p.moved pulls.moved);
             }

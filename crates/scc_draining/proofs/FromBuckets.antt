@@ -7,7 +7,7 @@ use Rattle.std.proofs.lemmas.List.Sums.{get_or-le-sum_by}
 use native.Mathlib.Decide.{dec_lt}
 use Rattle.scc_array.specs.Shelves.{shelf_of}
 use Rattle.scc_array.specs.Shelf.{Shelf, shelf_entries, empty_shelf}
-use Rattle.scc_buckets.specs.Pour.{bound_for}
+use Rattle.scc_buckets.specs.Pour.{destined_for}
 use Rattle.scc_common.specs.Routing.{bucket_number}
 use Rattle.scc_common.specs.Sizes.{IsBucketCount}
 use Rattle.scc_buckets.specs.Tables.{IsOwn, IsBuckets, overflow_in}
@@ -34,7 +34,7 @@ within-sources hash t n i first last olds own order within only = record {
         let r = only t (hash (get_or es k d)) (eqb-true _ _ q) in
         absurd (outside first last j _ out ((own.own j l).routed k d lk) r.0 r.1))
         (λ q. q))
-    | no l ↦ ap (λ z. bound_for hash t n i (shelf_entries z)) (get_or_past olds j empty_shelf (omega arith))
+    | no l ↦ ap (λ z. destined_for hash t n i (shelf_entries z)) (get_or_past olds j empty_shelf (omega arith))
   ];
 }
 

@@ -7,10 +7,10 @@ use Rattle.scc_array.proofs.Windows.{same_or_not}
 use Rattle.scc_array.specs.Shelves.{shelf_of}
 use Rattle.scc_array.proofs.ListsLemmas.{get-is, get-left}
 use Rattle.scc_array.specs.Shelf.{Shelf, shelf_entries}
-use Rattle.scc_buckets.specs.Pour.{bound_for}
+use Rattle.scc_buckets.specs.Pour.{destined_for}
 use Rattle.scc_common.specs.Routing.{bucket_number}
 use Rattle.scc_buckets.proofs.PairSplits.{by_answer}
-use Rattle.scc_buckets.proofs.Pours.{bound_append}
+use Rattle.scc_buckets.proofs.Pours.{destined_append}
 use Rattle.scc_draining.specs.Moves.{AreJoined, AreOwn, AreSiblings, IsWithinSources}
 use Rattle.scc_draining.proofs.Counted.{total-start, total-end}
 use Rattle.scc_draining.proofs.Draining.{flat-left, flat-more, flat-parts}
@@ -48,15 +48,15 @@ no-parts [] ys e = (refl, e)
 no-parts (x ∷ xs) ys e = absurd (let z : x ∷ (xs ++ ys) ≡ [] = e in cc)
 
 -- if no entry of an array belongs to a bucket, no entry of one old bucket belongs to it
-none-there : {E : Type 0} (hash : E → ℕ) (t n i j : ℕ) (olds : List (Shelf E)) → j < length olds → bound_for hash t n i (flat_map shelf_entries olds) ≡ [] → bound_for hash t n i (shelf_entries (shelf_of olds j)) ≡ []
+none-there : {E : Type 0} (hash : E → ℕ) (t n i j : ℕ) (olds : List (Shelf E)) → j < length olds → destined_for hash t n i (flat_map shelf_entries olds) ≡ [] → destined_for hash t n i (shelf_entries (shelf_of olds j)) ≡ []
 none-there hash t n i j olds l none =
     let xs = flat_map shelf_entries (take j olds) in
     let ys = shelf_entries (shelf_of olds j) in
     let zs = flat_map shelf_entries (drop (j + 1) olds) in
     let parts : flat_map shelf_entries olds ≡ xs ++ (ys ++ zs) = flat-parts j olds ∙ ap (λ r. xs ++ r) (flat-left j olds l) in
-    let all = sym (ap (bound_for hash t n i) parts ∙ bound_append hash t n i xs (ys ++ zs)) ∙ none in
+    let all = sym (ap (destined_for hash t n i) parts ∙ destined_append hash t n i xs (ys ++ zs)) ∙ none in
     let later = (no-parts _ _ all).1 in
-    (no-parts _ _ (sym (bound_append hash t n i ys zs) ∙ later)).0
+    (no-parts _ _ (sym (destined_append hash t n i ys zs) ∙ later)).0
 
 module _ {E : Type 0} (hash : E → ℕ) (t n i : ℕ) where
   are-joined : (first last : ℕ) (olds : List (Shelf E)) → AreOwn hash t olds → last ≤ length olds
@@ -72,7 +72,7 @@ module _ {E : Type 0} (hash : E → ℕ) (t n i : ℕ) where
 
   -- if the array doubled and no entry of the sibling is left, the one old bucket has only entries of the target
   alone-joined : (first last k : ℕ) (olds : List (Shelf E)) → AreOwn hash t olds → last ≤ length olds → n ≡ 2 * length olds → last ≡ first + 1 → (i ≡ 2 * first) ⊎ (i ≡ 2 * first + 1) → AreSiblings i k
-      → bound_for hash t n k (flat_map shelf_entries olds) ≡ [] → AreJoined hash t n i first last olds
+      → destined_for hash t n k (flat_map shelf_entries olds) ≡ [] → AreJoined hash t n i first last olds
   alone-joined first last k olds own within twice next from two none = record {
     all = λ j low high.
         let es = shelf_entries (shelf_of olds j) in
@@ -92,7 +92,7 @@ module _ {E : Type 0} (hash : E → ℕ) (t n i : ℕ) where
   pub whole-joined : (first last : ℕ) (olds : List (Shelf E)) (flags : List Bool) (whole : Bool) → AreOwn hash t olds → last ≤ length olds
       → (n < length olds → (s h : ℕ) → first ≤ bucket_number s (length olds) h → bucket_number s (length olds) h < last → bucket_number s n h ≡ i)
       → (n ≡ 2 * length olds → (last ≡ first + 1) × ((i ≡ 2 * first) ⊎ (i ≡ 2 * first + 1)))
-      → ((k : ℕ) → k < n → get_or flags k false ≡ false → bound_for hash t n k (flat_map shelf_entries olds) ≡ [])
+      → ((k : ℕ) → k < n → get_or flags k false ≡ false → destined_for hash t n k (flat_map shelf_entries olds) ≡ [])
       → (IsTrue whole → (n < length olds) ⊎ ((n ≡ 2 * length olds) × (k : ℕ) × (AreSiblings i k) × (k < n) × (get_or flags k false ≡ false)))
       → IsTrue whole → AreJoined hash t n i first last olds
   whole-joined first last olds flags whole own within joined doubled not_waiting answer is = elim (answer is) [
@@ -103,7 +103,7 @@ module _ {E : Type 0} (hash : E → ℕ) (t n i : ℕ) where
   ]
 
   -- each entry of such an old bucket belongs to the target
-  pub joined-flag : (s : Shelf E) (k : ℕ) (e : E) → bound_for hash t n i (shelf_entries s) ≡ shelf_entries s → slice_get s.slots k ≡ Some e → true ≡ (bucket_number t n (hash e) == i)
+  pub joined-flag : (s : Shelf E) (k : ℕ) (e : E) → destined_for hash t n i (shelf_entries s) ≡ shelf_entries s → slice_get s.slots k ≡ Some e → true ≡ (bucket_number t n (hash e) == i)
   joined-flag s k e all got =
       let es = shelf_entries s in
       let there : slice_get es k ≡ Some e = get-left s.slots s.overflow k e got in
@@ -111,8 +111,8 @@ module _ {E : Type 0} (hash : E → ℕ) (t n i : ℕ) where
       sym p ∙ ap (λ y. bucket_number t n (hash y) == i) (sym (get-is es k e e there))
 
   -- the entries of the target in these old buckets are counted by the lengths of the buckets
-  pub total-joined : (first last : ℕ) (olds : List (Shelf E)) → AreJoined hash t n i first last olds → last ≤ length olds → length (bound_for hash t n i (flat_map shelf_entries (take first olds))) ≡ 0
-      → (k : ℕ) → first + k ≤ last → length (flat_map shelf_entries (take first olds)) + length (bound_for hash t n i (flat_map shelf_entries (take (first + k) olds))) ≡ length (flat_map shelf_entries (take (first + k) olds))
+  pub total-joined : (first last : ℕ) (olds : List (Shelf E)) → AreJoined hash t n i first last olds → last ≤ length olds → length (destined_for hash t n i (flat_map shelf_entries (take first olds))) ≡ 0
+      → (k : ℕ) → first + k ≤ last → length (flat_map shelf_entries (take first olds)) + length (destined_for hash t n i (flat_map shelf_entries (take (first + k) olds))) ≡ length (flat_map shelf_entries (take (first + k) olds))
   total-joined first last olds joined within none zero l = let z : first + 0 ≡ first = omega arith in rw z (omega (arith, none))
   total-joined first last olds joined within none (suc k) l =
       let m = first + k in
@@ -122,11 +122,11 @@ module _ {E : Type 0} (hash : E → ℕ) (t n i : ℕ) where
       let next : first + suc k ≡ m + 1 = omega arith in
       let all = flat-more m olds (omega arith) in
       let n1 = ap length all ∙ length-append xs ys in
-      let n2 = ap (λ z. length (bound_for hash t n i z)) all ∙ ap length (bound_append hash t n i xs ys) ∙ length-append (bound_for hash t n i xs) (bound_for hash t n i ys) ∙ ap (λ z. length (bound_for hash t n i xs) + length z) (joined.all m (omega arith) (omega arith)) in
+      let n2 = ap (λ z. length (destined_for hash t n i z)) all ∙ ap length (destined_append hash t n i xs ys) ∙ length-append (destined_for hash t n i xs) (destined_for hash t n i ys) ∙ ap (λ z. length (destined_for hash t n i xs) + length z) (joined.all m (omega arith) (omega arith)) in
       rw next (omega (arith, rest, n1, n2))
 
   pub total-row : (first last : ℕ) (olds : List (Shelf E)) → IsWithinSources hash t n i first last olds → AreJoined hash t n i first last olds
-      → length (flat_map shelf_entries (take first olds)) + length (bound_for hash t n i (flat_map shelf_entries olds)) ≡ length (flat_map shelf_entries (take last olds))
+      → length (flat_map shelf_entries (take first olds)) + length (destined_for hash t n i (flat_map shelf_entries olds)) ≡ length (flat_map shelf_entries (take last olds))
   total-row first last olds sources joined =
       let end : first + (last - first) ≡ last = omega (arith, sources.order) in
       let row = total-joined first last olds joined sources.within (total-start hash t n i first last olds sources) (last - first) (omega (arith, end)) in

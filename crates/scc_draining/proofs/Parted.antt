@@ -6,7 +6,7 @@ use Rattle.scc_array.specs.Shelves.{shelf_of}
 use Rattle.scc_array.specs.Sifts.{picked, unflagged, shelf_unflagged, shelf_with}
 use Rattle.scc_array.specs.Shelf.{Shelf, shelf_entries}
 use Rattle.scc_buckets.proofs.Arrays.{put-is, put-own}
-use Rattle.scc_buckets.specs.Pour.{bound_for, IsPacked}
+use Rattle.scc_buckets.specs.Pour.{destined_for, IsPacked}
 use Rattle.scc_common.specs.Routing.{bucket_number, tag_of}
 use Rattle.scc_buckets.specs.Tables.{IsOwn}
 use Rattle.scc_draining.specs.Moves.{others_for, Pulls}
@@ -82,8 +82,8 @@ module _ {E : Type 0} (hash : E → ℕ) (t n i j : ℕ) (olds : List (Shelf E))
   all-slots : shelf_entries s ≡ xs
   all-slots = ap (λ o. xs ++ o) bare ∙ append-nil xs
 
-  bound-picked : bound_for hash t n i (shelf_entries s) ≡ picked fs xs
-  bound-picked = ap (bound_for hash t n i) all-slots ∙ sym (picked-filter (λ e. bucket_number t n (hash e) == i) fs xs flags)
+  destined-picked : destined_for hash t n i (shelf_entries s) ≡ picked fs xs
+  destined-picked = ap (destined_for hash t n i) all-slots ∙ sym (picked-filter (λ e. bucket_number t n (hash e) == i) fs xs flags)
 
   others-kept : unflagged fs xs ++ s.overflow ≡ others_for hash t n i (shelf_entries s)
   others-kept = ap (λ o. unflagged fs xs ++ o) bare ∙ append-nil (unflagged fs xs) ∙ kept-filter (λ e. bucket_number t n (hash e) == i) fs xs flags ∙ ap (others_for hash t n i) (sym all-slots)
@@ -126,5 +126,5 @@ module _ {E : Type 0} (hash : E → ℕ) (t n i j : ℕ) (olds : List (Shelf E))
           kept = ap shelf_entries here ∙ others-kept;
           own = rw here kept-own;
           overflow = let e = ap (λ (z : Shelf E). length z.overflow) here in omega arith;
-          moved = rw is (record { entries_are = with-entries ∙ ap (λ z. shelf_entries a ++ z) (sym bound-picked); room = omega arith; packed = with-packed });
+          moved = rw is (record { entries_are = with-entries ∙ ap (λ z. shelf_entries a ++ z) (sym destined-picked); room = omega arith; packed = with-packed });
         }

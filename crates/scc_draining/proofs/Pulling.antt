@@ -9,10 +9,10 @@ use Rattle.scc_array.specs.Shelves.{shelf_of}
 use Rattle.scc_array.specs.Shelf.{Shelf, shelf_entries, empty_shelf, with_entry, without_slot, ShelfHasRoom}
 use native.Mathlib.Decide.{dec_lt}
 use Rattle.scc_array.proofs.ListsLemmas.{get-right}
-use Rattle.scc_buckets.specs.Pour.{bound_for, Extends, IsPacked}
+use Rattle.scc_buckets.specs.Pour.{destined_for, Extends, IsPacked}
 use Rattle.scc_common.specs.Routing.{bucket_number, tag_of}
 use Rattle.scc_buckets.specs.Tables.{IsOwn}
-use Rattle.scc_buckets.proofs.Pours.{bound_append, bound_here, bound_other, extends_push, room_by}
+use Rattle.scc_buckets.proofs.Pours.{destined_append, destined_here, destined_other, extends_push, room_by}
 use Rattle.scc_buckets.proofs.Removes.{entries_without, overflow_without, own_without}
 use Rattle.scc_draining.specs.Moves.{others_for, Pulls}
 
@@ -38,7 +38,7 @@ pub record PullsUntil {E : Type 0} (hash : E → ℕ) (t n i j : ℕ) (olds : Li
   pub stayed : place ≡ length (others_for hash t n i (take k (shelf_entries (shelf_of olds j))))
   pub own : IsOwn hash t (length olds) j (shelf_of news j)
   pub overflow : length (shelf_of news j).overflow ≤ length (shelf_of olds j).overflow
-  pub moved : Extends hash a b (bound_for hash t n i (take k (shelf_entries (shelf_of olds j))))
+  pub moved : Extends hash a b (destined_for hash t n i (take k (shelf_entries (shelf_of olds j))))
 
 module _ {E : Type 0} (hash : E → ℕ) (t n i j : ℕ) (olds : List (Shelf E)) (a : Shelf E) where
   pub pull-start : IsOwn hash t (length olds) j (shelf_of olds j) → IsPacked hash a → PullsUntil hash t n i j olds a olds a 0 0
@@ -61,7 +61,7 @@ module _ {E : Type 0} (hash : E → ℕ) (t n i j : ℕ) (olds : List (Shelf E))
           kept = p.kept ∙ ap (λ z. others_for hash t n i z ++ drop k es) all ∙ ap (λ z. others_for hash t n i es ++ z) (drop_all k es l) ∙ append-nil (others_for hash t n i es);
           own = p.own;
           overflow = p.overflow;
-          moved = subst (λ z. Extends hash a b (bound_for hash t n i z)) all p.moved;
+          moved = subst (λ z. Extends hash a b (destined_for hash t n i z)) all p.moved;
         }
 
     -- at most as many entries stayed as were looked at
@@ -102,8 +102,8 @@ module _ {E : Type 0} (hash : E → ℕ) (t n i j : ℕ) (olds : List (Shelf E))
             let os = others_for hash t n i (take k es) in
             let one : others_for hash t n i (take (k + 1) es) ≡ os ++ e ∷ [] =
             ap (others_for hash t n i) seen-more ∙ others_append hash t n i (take k es) (e ∷ []) ∙ ap (λ z. os ++ z) (others_other hash t n i e [] ne) in
-            let none : bound_for hash t n i (take (k + 1) es) ≡ bound_for hash t n i (take k es) =
-            ap (bound_for hash t n i) seen-more ∙ bound_append hash t n i (take k es) (e ∷ []) ∙ ap (λ z. bound_for hash t n i (take k es) ++ z) (bound_other hash t n i e [] ne) ∙ append-nil (bound_for hash t n i (take k es)) in
+            let none : destined_for hash t n i (take (k + 1) es) ≡ destined_for hash t n i (take k es) =
+            ap (destined_for hash t n i) seen-more ∙ destined_append hash t n i (take k es) (e ∷ []) ∙ ap (λ z. destined_for hash t n i (take k es) ++ z) (destined_other hash t n i e [] ne) ∙ append-nil (destined_for hash t n i (take k es)) in
             record {
               same = p.same;
               kept = p.kept ∙ ap (λ z. os ++ z) seen-left ∙ sym (append_assoc os (e ∷ []) (drop (k + 1) es)) ∙ ap (λ z. z ++ drop (k + 1) es) (sym one);
@@ -114,20 +114,20 @@ module _ {E : Type 0} (hash : E → ℕ) (t n i j : ℕ) (olds : List (Shelf E))
             }
 
         module _ (h : i ≡ bucket_number t n (hash e)) where
-          bound-more : bound_for hash t n i (take (k + 1) (shelf_entries (shelf_of olds j))) ≡ bound_for hash t n i (take k (shelf_entries (shelf_of olds j))) ++ e ∷ []
-          bound-more =
+          destined-more : destined_for hash t n i (take (k + 1) (shelf_entries (shelf_of olds j))) ≡ destined_for hash t n i (take k (shelf_entries (shelf_of olds j))) ++ e ∷ []
+          destined-more =
               let es = shelf_entries (shelf_of olds j) in
-              ap (bound_for hash t n i) seen-more ∙ bound_append hash t n i (take k es) (e ∷ []) ∙ ap (λ z. bound_for hash t n i (take k es) ++ z) (bound_here hash t n i e [] h)
+              ap (destined_for hash t n i) seen-more ∙ destined_append hash t n i (take k es) (e ∷ []) ∙ ap (λ z. destined_for hash t n i (take k es) ++ z) (destined_here hash t n i e [] h)
 
           -- the bucket has room for the entry
-          pub pull-room : length (shelf_entries a) + length (bound_for hash t n i (shelf_entries (shelf_of olds j))) ≤ 32 + a.room → ShelfHasRoom b
+          pub pull-room : length (shelf_entries a) + length (destined_for hash t n i (shelf_entries (shelf_of olds j))) ≤ 32 + a.room → ShelfHasRoom b
           pull-room room =
               let es = shelf_entries (shelf_of olds j) in
-              let bs = bound_for hash t n i (take k es) in
-              let all : bound_for hash t n i es ≡ bs ++ (e ∷ bound_for hash t n i (drop (k + 1) es)) =
-              ap (bound_for hash t n i) (sym (take-append-drop k es)) ∙ bound_append hash t n i (take k es) (drop k es)
-              ∙ ap (λ z. bs ++ z) (ap (bound_for hash t n i) seen-left ∙ bound_here hash t n i e (drop (k + 1) es) h) in
-              let n1 : length (bound_for hash t n i es) ≡ length bs + (1 + length (bound_for hash t n i (drop (k + 1) es))) = ap length all ∙ length-append bs (e ∷ bound_for hash t n i (drop (k + 1) es)) ∙ omega arith in
+              let bs = destined_for hash t n i (take k es) in
+              let all : destined_for hash t n i es ≡ bs ++ (e ∷ destined_for hash t n i (drop (k + 1) es)) =
+              ap (destined_for hash t n i) (sym (take-append-drop k es)) ∙ destined_append hash t n i (take k es) (drop k es)
+              ∙ ap (λ z. bs ++ z) (ap (destined_for hash t n i) seen-left ∙ destined_here hash t n i e (drop (k + 1) es) h) in
+              let n1 : length (destined_for hash t n i es) ≡ length bs + (1 + length (destined_for hash t n i (drop (k + 1) es))) = ap length all ∙ length-append bs (e ∷ destined_for hash t n i (drop (k + 1) es)) ∙ omega arith in
               let n2 : length (shelf_entries b) ≡ length (shelf_entries a) + length bs = ap length p.moved.entries_are ∙ length-append (shelf_entries a) bs in
               let n3 : length (shelf_entries b) ≡ length b.slots + length b.overflow = length-append b.slots b.overflow in
               let big : length b.slots + length b.overflow < 32 + b.room = omega (arith, p.moved.room) in
@@ -154,5 +154,5 @@ module _ {E : Type 0} (hash : E → ℕ) (t n i j : ℕ) (olds : List (Shelf E))
                 own = subst (IsOwn hash t (length olds) j) (sym here) (own_without s place pull-within hash t (length olds) j p.own);
                 overflow = let fewer = overflow_without s place pull-within in let eq : length (shelf_of later j).overflow ≡ length (without_slot s place).overflow = ap (λ z. length z.overflow) here in
                     elim (dec_lt place (length s.slots)) [ yes q ↦ let z = fewer.0 q in omega (arith, p.overflow) | no q ↦ let z = fewer.1 (omega arith) in omega (arith, p.overflow) ];
-                moved = subst (λ z. Extends hash a c z) (sym bound-more) (extends_push hash a b c e (bound_for hash t n i (take k es)) p.moved put more);
+                moved = subst (λ z. Extends hash a c z) (sym destined-more) (extends_push hash a b c e (destined_for hash t n i (take k es)) p.moved put more);
               }

@@ -4,10 +4,10 @@ use Rattle.std.specs.List.{flat_map, slice_get}
 use Rattle.std.proofs.lemmas.List.{append-nil, take_all}
 use Rattle.scc_array.specs.Shelves.{shelf_of}
 use Rattle.scc_array.specs.Shelf.{Shelf, shelf_entries}
-use Rattle.scc_buckets.specs.Pour.{bound_for}
+use Rattle.scc_buckets.specs.Pour.{destined_for}
 use Rattle.scc_common.specs.Routing.{bucket_number}
 use Rattle.scc_buckets.proofs.Arrays.{take-got}
-use Rattle.scc_buckets.proofs.Pours.{bound_append, bound_here, bound_other}
+use Rattle.scc_buckets.proofs.Pours.{destined_append, destined_here, destined_other}
 use Rattle.scc_draining.specs.Stepping.{entries_before}
 use Rattle.scc_draining.proofs.Draining.{flat-more}
 
@@ -31,13 +31,13 @@ module _ {E : Type 0} (olds : List (Shelf E)) (j : ℕ) where
 
   module _ (hash : E → ℕ) (t n i s : ℕ) (e : E) (got : slice_get (shelf_entries (shelf_of olds j)) s ≡ Some e) where
     -- an entry of another bucket is skipped
-    pub bound-skip : i ≢ bucket_number t n (hash e) → bound_for hash t n i (entries_before olds j (s + 1)) ≡ bound_for hash t n i (entries_before olds j s)
-    bound-skip ne =
-        let bs = bound_for hash t n i (entries_before olds j s) in
-        ap (bound_for hash t n i) (before-more s e got) ∙ bound_append hash t n i (entries_before olds j s) (e ∷ []) ∙ ap (λ z. bs ++ z) (bound_other hash t n i e [] ne) ∙ append-nil bs
+    pub destined-skip : i ≢ bucket_number t n (hash e) → destined_for hash t n i (entries_before olds j (s + 1)) ≡ destined_for hash t n i (entries_before olds j s)
+    destined-skip ne =
+        let bs = destined_for hash t n i (entries_before olds j s) in
+        ap (destined_for hash t n i) (before-more s e got) ∙ destined_append hash t n i (entries_before olds j s) (e ∷ []) ∙ ap (λ z. bs ++ z) (destined_other hash t n i e [] ne) ∙ append-nil bs
 
     -- an entry of this bucket is counted
-    pub bound-count : i ≡ bucket_number t n (hash e) → bound_for hash t n i (entries_before olds j (s + 1)) ≡ bound_for hash t n i (entries_before olds j s) ++ e ∷ []
-    bound-count h =
-        let bs = bound_for hash t n i (entries_before olds j s) in
-        ap (bound_for hash t n i) (before-more s e got) ∙ bound_append hash t n i (entries_before olds j s) (e ∷ []) ∙ ap (λ z. bs ++ z) (bound_here hash t n i e [] h)
+    pub destined-count : i ≡ bucket_number t n (hash e) → destined_for hash t n i (entries_before olds j (s + 1)) ≡ destined_for hash t n i (entries_before olds j s) ++ e ∷ []
+    destined-count h =
+        let bs = destined_for hash t n i (entries_before olds j s) in
+        ap (destined_for hash t n i) (before-more s e got) ∙ destined_append hash t n i (entries_before olds j s) (e ∷ []) ∙ ap (λ z. bs ++ z) (destined_here hash t n i e [] h)

@@ -4,7 +4,7 @@ use Rattle.std.specs.List.{filter, flat_map}
 use Rattle.scc_array.specs.Shelves.{shelf_of}
 use Rattle.scc_array.specs.Shelf.{Shelf, shelf_entries}
 use Rattle.scc_common.specs.Contents.{Contents, bucket_count, lists_of, refused_of, settings_of}
-use Rattle.scc_buckets.specs.Pour.{bound_for, Extends, IsPacked}
+use Rattle.scc_buckets.specs.Pour.{destined_for, Extends, IsPacked}
 use Rattle.scc_common.specs.Routing.{bucket_number}
 use Rattle.scc_buckets.specs.Tables.{IsOwn}
 
@@ -28,17 +28,17 @@ pub record Pulls {E : Type 0} (hash : E → ℕ) (t n i j : ℕ) (olds : List (S
   pub kept : shelf_entries (shelf_of news j) ≡ others_for hash t n i (shelf_entries (shelf_of olds j))
   pub own : IsOwn hash t (length olds) j (shelf_of news j)
   pub overflow : length (shelf_of news j).overflow ≤ length (shelf_of olds j).overflow
-  pub moved : Extends hash a b (bound_for hash t n i (shelf_entries (shelf_of olds j)))
+  pub moved : Extends hash a b (destined_for hash t n i (shelf_entries (shelf_of olds j)))
 
 -- only the old buckets from `first` up to before `last` hold entries that belong to bucket i of n
 pub record IsWithinSources {E : Type 0} (hash : E → ℕ) (t n i first last : ℕ) (olds : List (Shelf E)) : Type 0 where
   pub order : first ≤ last
   pub within : last ≤ length olds
-  pub none : (j : ℕ) → (j < first) ⊎ (last ≤ j) → bound_for hash t n i (shelf_entries (shelf_of olds j)) ≡ []
+  pub none : (j : ℕ) → (j < first) ⊎ (last ≤ j) → destined_for hash t n i (shelf_entries (shelf_of olds j)) ≡ []
 
 -- the old buckets from `first` up to before `last` hold only entries that belong to bucket i of n
 pub record AreJoined {E : Type 0} (hash : E → ℕ) (t n i first last : ℕ) (olds : List (Shelf E)) : Type 0 where
-  pub all : (j : ℕ) → first ≤ j → j < last → bound_for hash t n i (shelf_entries (shelf_of olds j)) ≡ shelf_entries (shelf_of olds j)
+  pub all : (j : ℕ) → first ≤ j → j < last → destined_for hash t n i (shelf_entries (shelf_of olds j)) ≡ shelf_entries (shelf_of olds j)
 
 -- the entries that belong to bucket i of n stand in the old buckets from `first` up to before `last`, if `whole` alone
 -- there, and each old bucket holds only its own entries
@@ -57,7 +57,7 @@ pub record IsPullable {E : Type 0} (hash : E → ℕ) (t n i j : ℕ) (olds into
   pub own : IsOwn hash t (length olds) j (shelf_of olds j)
   pub target : i < length into
   pub packed : IsPacked hash (shelf_of into i)
-  pub room : length (shelf_entries (shelf_of into i)) + length (bound_for hash t n i (shelf_entries (shelf_of olds j))) ≤ 32 + (shelf_of into i).room
+  pub room : length (shelf_entries (shelf_of into i)) + length (destined_for hash t n i (shelf_entries (shelf_of olds j))) ≤ 32 + (shelf_of into i).room
 
 -- i and k are the two buckets that share an old bucket when the array doubles
 abbrev pub AreSiblings : ℕ → ℕ → Type 0
@@ -70,13 +70,13 @@ pub record Drains {E : Type 0} (hash : E → ℕ) (t n i : ℕ) (olds : List (Sh
   pub kept : (j : ℕ) → j < length olds → shelf_entries (shelf_of news j) ≡ others_for hash t n i (shelf_entries (shelf_of olds j))
   pub own : AreOwn hash t news
   pub overflow : (j : ℕ) → length (shelf_of news j).overflow ≤ length (shelf_of olds j).overflow
-  pub moved : Extends hash a b (bound_for hash t n i (flat_map shelf_entries olds))
+  pub moved : Extends hash a b (destined_for hash t n i (flat_map shelf_entries olds))
 
 -- the n entries of the old array that belong to bucket i have become its list, in order; the old array keeps the
 -- others, in order
 pub record TakesOver {E S : Type 0} (hash : E → ℕ) (i n : ℕ) (c : Contents E S) (olds : List (Shelf E)) (d : Contents E S) (news : List (Shelf E)) : Type 0 where
-  pub lists : lists_of d ≡ slice_set (lists_of c) i (bound_for hash (settings_of c).skipped (bucket_count c) i (flat_map shelf_entries olds))
-  pub moved : n ≡ length (bound_for hash (settings_of c).skipped (bucket_count c) i (flat_map shelf_entries olds))
+  pub lists : lists_of d ≡ slice_set (lists_of c) i (destined_for hash (settings_of c).skipped (bucket_count c) i (flat_map shelf_entries olds))
+  pub moved : n ≡ length (destined_for hash (settings_of c).skipped (bucket_count c) i (flat_map shelf_entries olds))
   pub settings : settings_of d ≡ settings_of c
   pub refused : refused_of d ≡ refused_of c
   pub count : length news ≡ length olds

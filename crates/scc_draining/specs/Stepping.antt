@@ -3,7 +3,7 @@ use Rattle.std.specs.Prelude.{◌≡◌, ℕ, ◌<◌, List, ◌++◌, length, t
 use Rattle.std.specs.List.{flat_map}
 use Rattle.scc_array.specs.Shelves.{shelf_of}
 use Rattle.scc_array.specs.Shelf.{Shelf, shelf_entries}
-use Rattle.scc_buckets.specs.Pour.{bound_for}
+use Rattle.scc_buckets.specs.Pour.{destined_for}
 use Rattle.scc_common.specs.Routing.{bucket_number}
 
 -- the entries of the old array before slot s of bucket j, in the order of the buckets
@@ -17,4 +17,4 @@ pub record StandsNext {E : Type 0} (hash : E → ℕ) (t n i : ℕ) (olds : List
   pub within : j < length olds
   pub here : slice_get (shelf_entries (shelf_of olds j)) s ≡ Some entry
   pub target : bucket_number t n (hash entry) ≡ i
-  pub before : bound_for hash t n i (entries_before olds j s) ≡ bound_for hash t n i (entries_before olds a b)
+  pub before : destined_for hash t n i (entries_before olds j s) ≡ destined_for hash t n i (entries_before olds a b)

@@ -1,15 +1,15 @@
 //! Counts of the entries of a bucket that belong to a bucket of another array, and the limit of overflow lists.
-ghost use Rattle.scc_buckets.specs.Pour.{bound_for};
+ghost use Rattle.scc_buckets.specs.Pour.{destined_for};
 ghost use Rattle.scc_common.specs.Contents.{bucket_count, key_hash, list_of};
 ghost use Rattle.std.specs.Prelude.{◌≡◌, ◌<◌, ◌≤◌, length, take, ◌+◌, ◌-◌, ◌^◌, ◌⊎◌, IsTrue};
 
 use scc_buckets::place::bucket_index;
-use scc_buckets::{Buckets, Place};
+use scc_buckets::{Buckets, OVERFLOW_LIMIT, Place, is_overflow_full};
 use scc_common::Keyed;
 use std::hash::{BuildHasher, Hash};
 
 /// Returns how many of the first `first` entries of `bucket` belong to the bucket `target` of `count`.
-pub fn count_bound<E: Keyed, H: BuildHasher>(
+pub fn count_destined<E: Keyed, H: BuildHasher>(
     table: &Buckets<E, H>,
     bucket: usize,
     first: usize,
@@ -22,7 +22,7 @@ where
     requires within { bucket < bucket_count table.now }
     requires first { first ≤ length (list_of table.now bucket) }
     requires bits { skipped < 64 }
-    ensures { result ≡ length (bound_for
+    ensures { result ≡ length (destined_for
         (λ e. key_hash H.BuildHasher H.Hasher.Hasher E.Key.hash_input table.now (E.key_of e)) skipped count target
         (take first (list_of table.now bucket))) }
 {
@@ -36,9 +36,6 @@ where
     found
 }
 
-/// The number of entries in the overflow lists of both arrays is always less than this.
-const OVERFLOW_LIMIT: usize = 1 << 62;
-
 /// Returns how many more entries may stand in overflow lists, if `overflowing` and `aside` entries stand there.
 pub(crate) fn left_of(overflowing: usize, aside: usize) -> usize
     requires { overflowing + aside < 2 ^ 62 }
@@ -49,11 +46,11 @@ pub(crate) fn left_of(overflowing: usize, aside: usize) -> usize
 
 /// Returns whether a bucket of `listed` entries can't take one more: its slots are full, and the overflow lists of the
 /// two arrays hold the most entries allowed, `spilled` and `aside`.
-pub fn is_overflow_full(listed: usize, spilled: usize, aside: usize) -> bool
+pub fn has_no_room(listed: usize, spilled: usize, aside: usize) -> bool
     requires { spilled + aside < 2 ^ 62 }
     ensures full { IsTrue result → 32 ≤ listed }
     ensures past { IsTrue result → 2 ^ 62 - 1 ≤ spilled + aside }
     ensures room { (IsTrue result → ⊥) → (listed < 32) ⊎ (spilled + aside < 2 ^ 62 - 1) }
 {
-    listed >= 32 && spilled + aside >= OVERFLOW_LIMIT - 1
+    listed >= 32 && is_overflow_full(spilled + aside)
 }

@@ -7,7 +7,7 @@ mod make;
 mod relocate;
 mod walk;
 
-pub use count::{count_bound, is_overflow_full};
+pub use count::{count_destined, has_no_room};
 pub use make::{fresh_waiting, insert_clones_of};
 pub use relocate::{count_all, move_target, sources};
 pub use walk::{end_past, spot_from};

@@ -1,8 +1,8 @@
 //! The moves of the entries of one bucket of the new array out of the old one.
 ghost use Rattle.scc_array.specs.Shelf.{empty_shelf, shelf_entries};
 ghost use Rattle.scc_array.specs.Shelves.{shelf_of};
-ghost use Rattle.scc_array.specs.Sifts.{ups};
-ghost use Rattle.scc_buckets.specs.Pour.{IsPacked, bound_for};
+ghost use Rattle.scc_array.specs.Sifts.{raised};
+ghost use Rattle.scc_buckets.specs.Pour.{IsPacked, destined_for};
 ghost use Rattle.scc_buckets.specs.Tables.{overflow_in};
 ghost use Rattle.scc_common.specs.Contents.{bucket_count, key_hash, list_of, lists_of, settings_of, overflow_of};
 ghost use Rattle.scc_common.specs.Routing.{bucket_number};
@@ -48,7 +48,7 @@ where
     requires bits { task.skipped < 64 }
     requires source { source < length old.now }
     ensures { (j : ℕ) (e : E) → slice_get (shelf_of old.now source).slots j ≡ Some e
-        → slice_get (ups flags.new) j ≡ Some (bucket_number task.skipped count (key_hash H.BuildHasher H.Hasher.Hasher
+        → slice_get (raised flags.new) j ≡ Some (bucket_number task.skipped count (key_hash H.BuildHasher H.Hasher.Hasher
         E.Key.hash_input table.now (E.key_of e)) == task.target) }
 {
     let slots = old.slot_count(source);
@@ -106,7 +106,7 @@ where
     E::Key: Eq + Hash,
     requires pullable { IsPullable (λ e. key_hash H.BuildHasher H.Hasher.Hasher E.Key.hash_input table.now (E.key_of
         e)) task.skipped count task.target source old.old into.old }
-    requires joined { IsTrue task.whole → bound_for (λ e. key_hash H.BuildHasher H.Hasher.Hasher E.Key.hash_input
+    requires joined { IsTrue task.whole → destined_for (λ e. key_hash H.BuildHasher H.Hasher.Hasher E.Key.hash_input
         table.now (E.key_of e)) task.skipped count task.target (shelf_entries (shelf_of old.old source)) ≡ shelf_entries
         (shelf_of old.old source) }
     ensures pulls { Pulls (λ e. key_hash H.BuildHasher H.Hasher.Hasher E.Key.hash_input table.now (E.key_of e))
@@ -148,7 +148,7 @@ where
     requires target { task.target < length into.old }
     requires packed { IsPacked (λ e. key_hash H.BuildHasher H.Hasher.Hasher E.Key.hash_input table.now (E.key_of e))
         (shelf_of into.old task.target) }
-    requires room { length (shelf_entries (shelf_of into.old task.target)) + length (bound_for (λ e. key_hash
+    requires room { length (shelf_entries (shelf_of into.old task.target)) + length (destined_for (λ e. key_hash
         H.BuildHasher H.Hasher.Hasher E.Key.hash_input table.now (E.key_of e)) task.skipped count task.target (flat_map
         shelf_entries old.old)) ≤ 32 + (shelf_of into.old task.target).room }
     ensures drains { Drains (λ e. key_hash H.BuildHasher H.Hasher.Hasher E.Key.hash_input table.now (E.key_of e))
@@ -204,7 +204,7 @@ where
     requires target { task.target < length into.old }
     requires empty { shelf_of into.old task.target
         ≡ record empty_shelf { room = (shelf_of into.old task.target).room } }
-    requires coming { length (bound_for (λ e. key_hash H.BuildHasher H.Hasher.Hasher E.Key.hash_input table.now
+    requires coming { length (destined_for (λ e. key_hash H.BuildHasher H.Hasher.Hasher E.Key.hash_input table.now
         (E.key_of e)) task.skipped count task.target (flat_map shelf_entries old.old)) ≤ coming }
     ensures { Fills (λ e. key_hash H.BuildHasher H.Hasher.Hasher E.Key.hash_input table.now (E.key_of e)) task.skipped
         count task.target coming left into.old old.old result into.new old.new }
@@ -232,11 +232,11 @@ where
     requires skips { task.skipped ≡ (settings_of current.old).skipped }
     requires target { task.target < bucket_count current.old }
     requires bare { list_of current.old task.target ≡ [] }
-    requires coming { length (bound_for (λ e. key_hash H.BuildHasher H.Hasher.Hasher E.Key.hash_input current.old
+    requires coming { length (destined_for (λ e. key_hash H.BuildHasher H.Hasher.Hasher E.Key.hash_input current.old
         (E.key_of e)) task.skipped (bucket_count current.old) task.target (flat_map shelf_entries old.old)) ≤ coming }
     requires aside { overflow_of current.old + aside < 2 ^ 62 }
     requires unique { IsDistinct E.Key.eq (map E.key_of (flat_map (λ l. l) (slice_set (lists_of current.old) task.target
-        (bound_for (λ e. key_hash H.BuildHasher H.Hasher.Hasher E.Key.hash_input current.old (E.key_of e)) task.skipped
+        (destined_for (λ e. key_hash H.BuildHasher H.Hasher.Hasher E.Key.hash_input current.old (E.key_of e)) task.skipped
         (bucket_count current.old) task.target (flat_map shelf_entries old.old))))) }
     ensures { MovesTarget (λ e. key_hash H.BuildHasher H.Hasher.Hasher E.Key.hash_input current.old (E.key_of e))
         task.target coming aside current.old old.old result current.new old.new }
@@ -326,7 +326,7 @@ where
     requires bits { skipped < 64 }
     requires source { source < length old.now }
     requires few { length (shelf_entries (shelf_of old.now source)) < 2 ^ 63 }
-    ensures { result ≡ length (bound_for (λ e. key_hash H.BuildHasher H.Hasher.Hasher E.Key.hash_input table.now
+    ensures { result ≡ length (destined_for (λ e. key_hash H.BuildHasher H.Hasher.Hasher E.Key.hash_input table.now
         (E.key_of e)) skipped count target (shelf_entries (shelf_of old.now source))) }
 {
     let entry_count = old.bucket_len(source);
@@ -360,7 +360,7 @@ where
     requires own { AreOwn (λ e. key_hash H.BuildHasher H.Hasher.Hasher E.Key.hash_input table.now (E.key_of e)) skipped
         old.now }
     requires most { length (flat_map shelf_entries old.now) < 2 ^ 64 }
-    ensures { result ≡ length (bound_for (λ e. key_hash H.BuildHasher H.Hasher.Hasher E.Key.hash_input table.now
+    ensures { result ≡ length (destined_for (λ e. key_hash H.BuildHasher H.Hasher.Hasher E.Key.hash_input table.now
         (E.key_of e)) skipped count target (flat_map shelf_entries old.now)) }
 {
     let mut found = 0;
@@ -399,9 +399,9 @@ where
     requires drainable { IsDrainable (λ e. key_hash H.BuildHasher H.Hasher.Hasher E.Key.hash_input table.now (E.key_of
         e)) task.skipped count task.target task.first task.last task.whole old.now }
     requires most { length (flat_map shelf_entries old.now) < 2 ^ 64 }
-    ensures enough { length (bound_for (λ e. key_hash H.BuildHasher H.Hasher.Hasher E.Key.hash_input table.now (E.key_of
+    ensures enough { length (destined_for (λ e. key_hash H.BuildHasher H.Hasher.Hasher E.Key.hash_input table.now (E.key_of
         e)) task.skipped count task.target (flat_map shelf_entries old.now)) ≤ result }
-    ensures exact { 32 < result → result ≡ length (bound_for (λ e. key_hash H.BuildHasher H.Hasher.Hasher
+    ensures exact { 32 < result → result ≡ length (destined_for (λ e. key_hash H.BuildHasher H.Hasher.Hasher
         E.Key.hash_input table.now (E.key_of e)) task.skipped count task.target (flat_map shelf_entries old.now)) }
 {
     if task.last - task.first == 1 && old.bucket_len(task.first) <= 32 {
@@ -448,14 +448,14 @@ where
     requires aside { overflow_of current.old + aside < 2 ^ 62 }
     requires flags { length waiting.now ≡ bucket_count current.old }
     requires not_waiting { (i : ℕ) → i < bucket_count current.old → slice_index_or waiting.now i false ≡ false →
-        bound_for
+        destined_for
         (λ e. key_hash H.BuildHasher H.Hasher.Hasher E.Key.hash_input current.old (E.key_of e)) skipped (bucket_count
         current.old) i (flat_map shelf_entries old.old) ≡ [] }
     requires unique { IsDistinct E.Key.eq (map E.key_of (flat_map (λ l. l) (slice_set (lists_of current.old) target
-        (bound_for (λ e. key_hash H.BuildHasher H.Hasher.Hasher E.Key.hash_input current.old (E.key_of e)) skipped
+        (destined_for (λ e. key_hash H.BuildHasher H.Hasher.Hasher E.Key.hash_input current.old (E.key_of e)) skipped
         (bucket_count current.old) target (flat_map shelf_entries old.old))))) }
     ensures { MovesTarget (λ e. key_hash H.BuildHasher H.Hasher.Hasher E.Key.hash_input current.old (E.key_of e)) target
-        (length (bound_for (λ e. key_hash H.BuildHasher H.Hasher.Hasher E.Key.hash_input current.old (E.key_of e))
+        (length (destined_for (λ e. key_hash H.BuildHasher H.Hasher.Hasher E.Key.hash_input current.old (E.key_of e))
         skipped (bucket_count current.old) target (flat_map shelf_entries old.old))) aside current.old old.old result
         current.new old.new }
 {

@@ -1,7 +1,7 @@
 //! Steps from entry to entry of one target in the old array.
 ghost use Rattle.scc_array.specs.Shelf.{shelf_entries};
 ghost use Rattle.scc_array.specs.Shelves.{shelf_of};
-ghost use Rattle.scc_buckets.specs.Pour.{bound_for};
+ghost use Rattle.scc_buckets.specs.Pour.{destined_for};
 ghost use Rattle.scc_common.specs.Contents.{key_hash};
 ghost use Rattle.scc_draining.specs.Stepping.{entries_before, StandsNext};
 ghost use Rattle.std.specs.List.{flat_map};
@@ -39,10 +39,10 @@ where
     requires bits { skipped < 64 }
     requires source { source < length old.now }
     requires few { length (shelf_entries (shelf_of old.now source)) < 2 ^ 63 }
-    ensures { MatchOption result (bound_for
+    ensures { MatchOption result (destined_for
         (λ e. key_hash H.BuildHasher H.Hasher.Hasher E.Key.hash_input table.now (E.key_of e)) skipped count target
         (entries_before old.now source slot)
-        ≡ bound_for (λ e. key_hash H.BuildHasher H.Hasher.Hasher E.Key.hash_input table.now (E.key_of e)) skipped
+        ≡ destined_for (λ e. key_hash H.BuildHasher H.Hasher.Hasher E.Key.hash_input table.now (E.key_of e)) skipped
         count target (flat_map shelf_entries (take (source + 1) old.now)))
         (λ s. StandsNext (λ e. key_hash H.BuildHasher H.Hasher.Hasher E.Key.hash_input table.now (E.key_of e)) skipped
         count target old.now source slot source s) }
@@ -74,10 +74,10 @@ where
     requires order { first < last }
     requires within { last ≤ length old.now }
     requires few { (j : ℕ) → length (shelf_entries (shelf_of old.now j)) < 2 ^ 63 }
-    ensures { MatchOption result (bound_for
+    ensures { MatchOption result (destined_for
         (λ e. key_hash H.BuildHasher H.Hasher.Hasher E.Key.hash_input table.now (E.key_of e)) skipped count target
         (entries_before old.now first slot)
-        ≡ bound_for (λ e. key_hash H.BuildHasher H.Hasher.Hasher E.Key.hash_input table.now (E.key_of e)) skipped
+        ≡ destined_for (λ e. key_hash H.BuildHasher H.Hasher.Hasher E.Key.hash_input table.now (E.key_of e)) skipped
         count target (flat_map shelf_entries (take last old.now)))
         (λ r. StandsNext (λ e. key_hash H.BuildHasher H.Hasher.Hasher E.Key.hash_input table.now (E.key_of e)) skipped
         count target old.now first slot r.0 r.1) }

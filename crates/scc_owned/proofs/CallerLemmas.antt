@@ -26,11 +26,11 @@ use Rattle.scc_owned.specs.declared.held.HeldVacant.{HeldVacant}
 use Rattle.scc_owned.specs.MapSteps.{Removes}
 use Rattle.scc_owned.specs.Lookups.{pair_lookups-lawful}
 use Rattle.scc_owned.proofs.HeldEntries.{occupied-by}
-use Rattle.scc_table.proofs.AtPlaces.{entry_of-get}
+use Rattle.scc_table.proofs.places.Entries.{entry_of-get}
 use Rattle.scc_buckets.proofs.PairWrites.{IsPlaceOf}
 use Rattle.scc_buckets.proofs.Lookups.{place-of_find, find-IsPermutation, find-without, distinct-IsPermutation, distinct-remove_entry}
 pub use Rattle.scc_buckets.proofs.PairSplits.{by_answer, cond-true, cond-false}
-pub use Rattle.scc_table.proofs.Replies.{find-key}
+pub use Rattle.scc_table.proofs.places.Replies.{find-key}
 use Rattle.scc_buckets.proofs.PairSplits.{found-place}
 use Rattle.std.proofs.lemmas.List.Sorted.{IsPermutation-sym, IsPermutation-trans}
 use Rattle.std.proofs.lemmas.Map.Keys.{IsDistinct-tail}

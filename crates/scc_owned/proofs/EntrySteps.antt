@@ -12,9 +12,9 @@ use Rattle.scc_buckets.specs.declared.place.Place.{Place}
 use Rattle.scc_common.specs.Steps.{HoldsExactly}
 use Rattle.scc_common.specs.declared.entry.Keyed as keyed
 use Rattle.scc_common.specs.declared.guard.Guard as guard
-use Rattle.scc_table.proofs.AtPlaces.{splits-there, front-none, next-there, past-there}
+use Rattle.scc_table.proofs.places.Entries.{splits-there, front-none, next-there, past-there}
 use Rattle.scc_common.specs.PairWalks.{PassesAt, PassesFirst}
-use Rattle.scc_table.proofs.WalkReached.{passes-at}
+use Rattle.scc_table.proofs.walks.Steps.{passes-at}
 use Rattle.scc_owned.specs.Held.{occupied_front, occupied_pair}
 use Rattle.scc_owned.specs.Lends.{pair_keys}
 use Rattle.scc_owned.specs.EntrySteps.{StandsIn, IsNext, IsNextPastRemoved}

@@ -15,7 +15,7 @@ use Rattle.scc_common.specs.declared.entry.Keyed as keyed
 use Rattle.scc_common.specs.declared.guard.Guard as guard
 use Rattle.scc_buckets.specs.Placed as spots
 use Rattle.scc_table.specs.Places.{IsFoundAt, IsPlace, index_of}
-use Rattle.scc_table.proofs.AtPlaces.{place-prop, entry_of-is}
+use Rattle.scc_table.proofs.places.Entries.{place-prop, entry_of-is}
 use Rattle.scc_owned.specs.Held.{occupied_pair}
 use Rattle.scc_owned.specs.Lookups.{Lookups, AreLawful, IsFirst, IsOccupiedAt}
 use Rattle.scc_owned.specs.declared.held.HeldOccupied.{HeldOccupied}

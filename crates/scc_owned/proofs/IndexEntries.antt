@@ -12,8 +12,8 @@ use Rattle.scc_common.specs.declared.guard.Guard as guard
 use Rattle.scc_array.specs.ShelfWrites.{put_whole}
 use Rattle.scc_table.specs.Placed.{front_of, back_of, IsPlace-with_write_at}
 use Rattle.scc_table.specs.Places.{IsPlace, with_write_at}
-use Rattle.scc_table.proofs.AtPlaces.{splits-there, written-there}
-use Rattle.scc_table.proofs.Relocations.{waiting-write}
+use Rattle.scc_table.proofs.places.Entries.{splits-there, written-there}
+use Rattle.scc_table.proofs.relocations.AfterWrites.{waiting-write}
 use Rattle.scc_owned.specs.Held.{occupied_pair}
 use Rattle.scc_owned.specs.IndexEntries.{IsUpdated}
 use Rattle.scc_owned.specs.Lends.{pair_keys}

@@ -16,7 +16,7 @@ use Rattle.scc_fallible.specs.declared.TryInsertError.{TryInsertError}
 use Rattle.scc_fallible.specs.declared.TryInsertError.TheVariants.{Failed, Memory as NoMemory}
 use Rattle.scc_common.specs.declared.entry.Keyed as keyed
 use Rattle.scc_common.specs.declared.guard.Guard as guard
-use Rattle.scc_table.proofs.AtPlaces.{put-there}
+use Rattle.scc_table.proofs.places.Entries.{put-there}
 use Rattle.scc_owned.specs.Held.{Occupied, Vacant, entry_guard, entry_key}
 use Rattle.scc_owned.specs.Insertions.{Memory, FailsAtVacant, IsGrownFor, InsertsAtVacant, InsertsThrough, IsInserted, OrInserts, OrInsertsSome, RefusesSome, TriesThrough}
 use Rattle.scc_owned.specs.declared.held.HeldOccupied.{HeldOccupied}

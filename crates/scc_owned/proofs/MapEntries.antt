@@ -9,8 +9,8 @@ use Rattle.scc_common.specs.Pairs.{with_pair_value}
 use Rattle.scc_common.specs.declared.guard.Guard as guard
 use Rattle.scc_buckets.specs.declared.place.Place.{Place}
 use Rattle.scc_table.specs.Places.{IsPlace, with_write_at}
-use Rattle.scc_table.proofs.AtPlaces.{place-prop, written-there}
-use Rattle.scc_table.proofs.Relocations.{waiting-write}
+use Rattle.scc_table.proofs.places.Entries.{place-prop, written-there}
+use Rattle.scc_table.proofs.relocations.AfterWrites.{waiting-write}
 use Rattle.scc_owned.specs.Lends.{pair_keys}
 use Rattle.scc_owned.specs.MapEntries.{IsWritten, written_map, still_within, with_value}
 use Rattle.scc_owned.specs.declared.held.HeldOccupied.{HeldOccupied}

@@ -11,7 +11,7 @@ use Rattle.scc_owned.specs.Entries.{Exists, Memory}
 use Rattle.scc_owned.specs.MapSteps.{RemovesIf}
 use Rattle.scc_owned.specs.MapSteps.{Inserts, Upserts, Removes}
 use Rattle.scc_common.specs.Replies.{HasKey, PassesWith}
-pub use Rattle.scc_table.proofs.Replies.{find-key, if-map, reads-equal}
+pub use Rattle.scc_table.proofs.places.Replies.{find-key, if-map, reads-equal}
 
 module _ {K V S : Type 0} (eq : K → K → Bool) where
   pub inserts-back : (hash : K → ℕ) (c : Contents (K × V) S) (p : K × V) (r : Result (Unit {0}) (InsertError K V)) (d : Contents (K × V) S) → Inserts eq hash c p r d → IfErr r (λ e. (e ≡ Exists p) ⊎ (e ≡ Memory p))

@@ -6,8 +6,8 @@ use Rattle.std.specs.Fn.{Once}
 use Rattle.std.specs.Map.{set_value}
 use Rattle.std.specs.Prelude.{IfSome, IfNone}
 use Rattle.scc_table.specs.Updates.{UpdatesFirst}
-use Rattle.scc_table.proofs.AtPlaces.{noted-write, place-found, value-written, value-unique}
-use Rattle.scc_table.proofs.Relocations.{waiting-write}
+use Rattle.scc_table.proofs.places.Entries.{noted-write, place-found, value-written, value-unique}
+use Rattle.scc_table.proofs.relocations.AfterWrites.{waiting-write}
 use Rattle.scc_owned.specs.MapSteps.{UpdatesAt}
 use Rattle.scc_owned.proofs.CallerLemmas.{finds-set_value}
 use Rattle.scc_common.specs.Contents.{Contents, bucket_count, entries, refused_of, settings_of, waiting_of}

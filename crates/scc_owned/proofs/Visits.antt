@@ -10,8 +10,8 @@ use Rattle.scc_buckets.proofs.Placed.{take-more, drop-here, take-removed, drop-r
 use Rattle.scc_buckets.proofs.Standing.{index-below}
 use Rattle.scc_common.proofs.WalkLemmas.{turn-first, turn-others}
 use Rattle.scc_owned.specs.IndexWalks.{Retains, kept, removed}
-use Rattle.scc_table.proofs.Reached.{reached}
-use Rattle.scc_table.proofs.Visits.{shorter}
+use Rattle.scc_table.proofs.walks.Reach.{reached}
+use Rattle.scc_table.proofs.walks.Visits.{shorter}
 
 module _ {K V S : Type 0} (m : Contents (K × V) S) (p : Place) (q : K × V) (within : IsPlace m p) (got : slice_get (entries m) (index_of m p) ≡ Some q) where
   here : drop (index_of m p) (entries m) ≡ q ∷ drop (suc (index_of m p)) (entries m)

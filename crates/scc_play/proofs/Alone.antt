@@ -99,11 +99,11 @@ module _ {C H S W A R K X : Type 0} (machine : Machine C H S W A R K X) where
       → (p : IsPlayed machine route request 1 1 calls text)
       → IsOutput (machine.moves p.setting) (machine.resizes p.setting) (machine.empty 0) items machine.order machine.reply machine.content (all_calls calls) text
   one-output items seen route request calls text own p =
-      let hs = single p.histories p.divided in
+      let hs = single p.histories p.stripe_count in
       let h = hs.0 in
       let replays : Replays (machine.moves p.setting) (machine.resizes p.setting) (machine.empty 0 ∷ []) (h ∷ []) (map machine.state p.ends) = rw hs.1 at p.replays in
       let end = replayed (machine.moves p.setting) (machine.resizes p.setting) machine.state (machine.empty 0) h p.ends replays in
-      let told = single p.replies p.crew in
+      let told = single p.replies p.worker_count in
       let merge : IsMergeOrder (h ∷ []) p.places = rw hs.1 at p.order.0 in
       let steps : steps_at p.histories p.places ≡ map (λ x. (0, x)) h = ap (λ l. steps_at l p.places) hs.1 ∙ merged h (steps_at (h ∷ []) p.places) (merge_of _ (h ∷ []) p.places merge) in
       let there : slice_get p.replies 0 ≡ Some told.0 = ap (λ l. slice_get l 0) told.1 in

@@ -4,7 +4,8 @@ use Rattle.std.proofs.lemmas.List.{drop_more, drop_all}
 use Rattle.std.specs.List.{sum_by}
 use Rattle.scc_recorded.proofs.Same.{sum-of-map}
 use Rattle.scc_history.specs.declared.log.Receipt.{Receipt}
-use Rattle.scc_play.specs.Answered.{AreAnswered, IsAnswered, IsJoint, number_of}
+use Rattle.scc_play.specs.Answered.{AreAnswered, IsAnswered, IsJoint}
+use Rattle.scc_recorded.specs.Adds.{number_or_zero}
 
 module _ {A R K : Type 0} (key_of : A → Option K) (counted : R → Option ℕ) (count : ℕ → R) (stripes : ℕ) where
   -- if call i is answered, and the calls after it are answered, the calls from i on are answered
@@ -21,7 +22,7 @@ module _ {A R K : Type 0} (key_of : A → Option K) (counted : R → Option ℕ)
 module _ {A R K : Type 0} (key_of : A → Option K) (counted : R → Option ℕ) (count : ℕ → R) where
   -- if several stripes reply to a call that counts, the joint reply is the sum of their counts
   pub several-count : (records : List (Receipt A R)) (first : Receipt A R) (n total : ℕ) → length records ≢ 1 → 0 < length records → counted (get_or records 0 first).reply ≡ Some n
-      → total ≡ min 18446744073709551615 (sum_by (λ r. number_of (counted r.reply)) records) → IsJoint key_of counted count (map (λ r. r.reply) records) (count total)
+      → total ≡ min 18446744073709551615 (sum_by (λ r. number_or_zero (counted r.reply)) records) → IsJoint key_of counted count (map (λ r. r.reply) records) (count total)
   several-count [] first n total one some c t = absurd (omega (arith, some))
   several-count (r ∷ []) first n total one some c t = absurd (one refl)
-  several-count (r ∷ s ∷ more) first n total one some c t = rw c (ap count (t ∙ ap (λ k. min 18446744073709551615 k) (sym (sum-of-map (λ x. number_of (counted x)) (λ x. x.reply) (r ∷ s ∷ more)))))
+  several-count (r ∷ s ∷ more) first n total one some c t = rw c (ap count (t ∙ ap (λ k. min 18446744073709551615 k) (sym (sum-of-map (λ x. number_or_zero (counted x)) (λ x. x.reply) (r ∷ s ∷ more)))))

@@ -46,7 +46,7 @@ module _ {H S W A R K X C Q V : Type 0} (machine : Machine C H S W A R K X) (rou
         → AreTold machine.key_of machine.counted machine.count stripes calls number receipts told 0 passes all
         → ((items : List X) × IsPermutation (flat_map machine.shown parts) items × IsSorted machine.order items × (text ≡ output_of machine.reply machine.content (map told all) items (sum_by calls_in histories)))
         → ∥ ((r : Request H) × (chosen ≡ Some r) × IsPlayed machine (route r.hasher) r workers stripes calls text) ∥₁
-    assembled many counted none-opened crew alike replays routed merges ordered stamps matches zeros known tells shows =
+    assembled many counted none-opened worker_count alike replays routed merges ordered stamps matches zeros known tells shows =
         let starts : map machine.empty opened ≡ replicate stripes (machine.empty 0) = all-empty machine.empty opened zeros ∙ ap (λ n. replicate n (machine.empty 0)) none-opened in
         ∥∥₁_elim alike squash₁ (λ a. ∥∥₁_map (replays a.3.0 a.3.2) (λ each. (
           a.0,
@@ -59,7 +59,7 @@ module _ {H S W A R K X C Q V : Type 0} (machine : Machine C H S W A R K X) (rou
             replies = map told all;
             items = shows.0;
             made = a.3.1;
-            divided = many;
+            stripe_count = many;
             replays = subst (λ s. Replays (machine.moves a.3.0) (machine.resizes a.3.0) s histories (map machine.state parts)) starts each;
             routed = subst (λ h. CallsRouted machine.key_of (route h stripes) 0 histories) (sym a.2) (subst (λ n. CallsRouted machine.key_of (route hasher n) 0 histories) counted routed);
             merges = λ places m.
@@ -68,7 +68,7 @@ module _ {H S W A R K X C Q V : Type 0} (machine : Machine C H S W A R K X) (rou
             known = known;
             order = ordered;
             stamps = stamps;
-            crew = length-map all told ∙ told-length machine.key_of machine.counted machine.count stripes calls number receipts told 0 passes all tells ∙ crew;
+            worker_count = length-map all told ∙ told-length machine.key_of machine.counted machine.count stripes calls number receipts told 0 passes all tells ∙ worker_count;
             answered = λ worker rs at.
                 subst (λ w. AreAnswered machine.key_of machine.counted machine.count stripes (calls_by w calls) (calls_of w (steps_at histories order)) rs) (zero-add worker)
                 (answered-from eq req exact rexact machine.key_of machine.counted machine.count stripes calls number receipts told (λ n. calls_of n (steps_at histories order)) 0 passes all tells matches worker rs at);

@@ -39,14 +39,14 @@ module _ {C H S W A R K X : Type 0} (machine : Machine C H S W A R K X) (moves :
     replies = p.replies;
     items = p.items;
     made = p.made;
-    divided = p.divided;
+    stripe_count = p.stripe_count;
     replays = replays-as (machine.resizes p.setting) (one p.setting) _ _ _ p.replays;
     routed = p.routed;
     merges = λ order m. ∥∥₁_map (p.merges order m) (λ r. merged-as (machine.whole_resizes p.setting stripes) (all p.setting stripes) _ _ _ r);
     known = p.known;
     order = p.order;
     stamps = p.stamps;
-    crew = p.crew;
+    worker_count = p.worker_count;
     answered = p.answered;
     same = p.same;
     rising = p.rising;

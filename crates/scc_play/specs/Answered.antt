@@ -3,6 +3,7 @@ use Rattle.std.specs.Prelude.{◌≡◌, ℕ, List, [], ◌∷◌, ◌++◌, len
 use Rattle.std.specs.List.{AllByRecursion, sum_by}
 use Rattle.scc_history.specs.Stamps.{receipt}
 use Rattle.scc_history.specs.declared.log.Receipt.{Receipt}
+use Rattle.scc_recorded.specs.Adds.{number_or_zero}
 use Rattle.scc_script.specs.declared.line.WorkerCall.{WorkerCall}
 
 -- the calls of one worker, in their order
@@ -14,17 +15,12 @@ calls_by worker (c ∷ calls) = if c.worker == worker then c.call ∷ calls_by w
 abbrev pub AreInOrder : {A R : Type 0} → List (Receipt A R) → Type 0
 AreInOrder records = (i : ℕ) → IfSome (slice_get records i) (λ r. r.stripe ≡ i)
 
--- the number in a reply, or 0 if the reply has none
-abbrev pub number_of : Option ℕ → ℕ
-number_of None = 0
-number_of (Some n) = n
-
 module _ {A R K : Type 0} (key_of : A → Option K) (counted : R → Option ℕ) (count : ℕ → R) where
   -- the reply to a call of several stripes, by the number in the first reply: the sum of the numbers, if the first
   -- reply has one; else the first reply
   abbrev pub joint_by : Option ℕ → R → List R → R
   joint_by None first replies = first
-  joint_by (Some n) first replies = count (min 18446744073709551615 (sum_by (λ r. number_of (counted r)) replies))
+  joint_by (Some n) first replies = count (min 18446744073709551615 (sum_by (λ r. number_or_zero (counted r)) replies))
 
   -- the reply to a call of all stripes, from the replies of the stripes: the only reply, or the joint reply of several
   abbrev pub IsJoint : List R → R → Type 0

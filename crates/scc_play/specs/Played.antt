@@ -51,14 +51,14 @@ pub record IsPlayed {C H S W A R K X : Type 0} (machine : Machine C H S W A R K 
   pub replies : List (List R)
   pub items : List X
   pub made : IsMadeFor machine.limits request setting
-  pub divided : length histories ≡ stripes
+  pub stripe_count : length histories ≡ stripes
   pub replays : Replays (machine.moves setting) (machine.resizes setting) (replicate stripes (machine.empty 0)) histories (map machine.state ends)
   pub routed : CallsRouted machine.key_of (route stripes) 0 histories
   pub merges : (order : List (ℕ × ℕ)) → IsMergeOrder histories order → ∥ Run (machine.whole_moves setting stripes) (machine.whole_resizes setting stripes) (machine.whole (replicate stripes (machine.empty 0))) (steps_at histories order) (machine.whole (map machine.state ends)) ∥₁
   pub known : AllByRecursion (AllByRecursion (IsMadeBy workers)) histories
   pub order : IsStampOrder histories places
   pub stamps : StampsRise histories places
-  pub crew : length replies ≡ workers
+  pub worker_count : length replies ≡ workers
   pub answered : (worker : ℕ) (told : List R) → slice_get replies worker ≡ Some told
       → AreAnswered machine.key_of machine.counted machine.count stripes (calls_by worker calls) (calls_of worker (steps_at histories places)) told
   pub same : IsPermutation (flat_map machine.shown ends) items

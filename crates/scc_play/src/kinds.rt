@@ -3,13 +3,13 @@
 ghost use Rattle.std.specs.Prelude.{◌≡◌, IfOk, Some};
 ghost use Rattle.scc_recorded.specs.Setups.{request_of};
 ghost use Rattle.scc_calls.specs.Copies.{AreSame};
-ghost use Rattle.scc_script.specs.Grammar.{IsCrew, IsDivision};
+ghost use Rattle.scc_script.specs.Grammar.{IsWorkerCount, IsStripeCount};
 ghost use Rattle.scc_play.specs.Ended.{IfPlayed};
 ghost use Rattle.scc_play.specs.Kinds.{MapPlayed, SetPlayed, IndexPlayed, CachePlayed, MapPlayedFor, SetPlayedFor, IndexPlayedFor, CachePlayedFor};
 
-use crate::crew::{passes_of, workers_of};
+use crate::worker::{passes_of, workers_of};
 use crate::ends::End;
-use crate::stripes::{divided, finish_run};
+use crate::stripes::{calls_of_workers, finish_run};
 use scc_cache::Owned as OwnedCache;
 use scc_calls::{CacheCall, IndexCall, MapCall, SetCall};
 use scc_common::Shared;
@@ -67,10 +67,10 @@ where
     requires receipts { (receipts.name ≡ L.name) × (receipts.parts ≡ L.parts) × (receipts.parts ≡ workers) }
     requires records { (records.name ≡ M.name) × (records.parts ≡ M.parts) × (records.parts ≡ stripes) }
     requires site { (M.chosen ≡ Some (request_of 0 256 hasher stripes)) × (M.all ≡ stripes) }
-    requires crew { IsCrew workers × IsDivision stripes }
+    requires counts { IsWorkerCount workers × IsStripeCount stripes }
     ensures { IfOk result (λ e. IfPlayed e (MapPlayedFor M.chosen workers stripes calls.now)) }
 {
-    let lists = divided::<OwnedMap<u64, u64, Shared<Same>>>(alloc, workers, calls)?;
+    let lists = calls_of_workers::<OwnedMap<u64, u64, Shared<Same>>>(alloc, workers, calls)?;
     let Ok((recorded, handed)) = Recorded::<OwnedMap<u64, u64, Shared<Same>>, L, M>::open(
         alloc,
         setup_of(hasher),
@@ -81,11 +81,11 @@ where
     ) else {
         return Err(AllocError);
     };
-    let mut crew = workers_of(rt, alloc, &recorded, handed, lists.as_slice())?;
-    if run(rt, alloc, crew.as_mut_slice(), &Open).is_err() {
+    let mut running = workers_of(rt, alloc, &recorded, handed, lists.as_slice())?;
+    if run(rt, alloc, running.as_mut_slice(), &Open).is_err() {
         return Err(AllocError);
     }
-    let passes = passes_of(alloc, crew)?;
+    let passes = passes_of(alloc, running)?;
     are_exact::<OwnedMap<u64, u64, Shared<Same>>>();
     finish_run(alloc, workers, stripes, calls, recorded.close(), passes)
 }
@@ -98,7 +98,7 @@ pub(crate) fn play_map<R: Threads + Wait + Sync>(
     stripes: usize,
     calls: &[WorkerCall<MapCall<u64, u64>>],
 ) -> Result<End, AllocError>
-    requires { IsCrew workers × IsDivision stripes }
+    requires { IsWorkerCount workers × IsStripeCount stripes }
     ensures { IfOk result (λ e. IfPlayed e (MapPlayed workers stripes calls.now)) }
 {
     play_map_in::<Brand, Brand, R>(
@@ -131,10 +131,10 @@ where
     requires receipts { (receipts.name ≡ L.name) × (receipts.parts ≡ L.parts) × (receipts.parts ≡ workers) }
     requires records { (records.name ≡ M.name) × (records.parts ≡ M.parts) × (records.parts ≡ stripes) }
     requires site { (M.chosen ≡ Some (request_of 0 256 hasher stripes)) × (M.all ≡ stripes) }
-    requires crew { IsCrew workers × IsDivision stripes }
+    requires counts { IsWorkerCount workers × IsStripeCount stripes }
     ensures { IfOk result (λ e. IfPlayed e (SetPlayedFor M.chosen workers stripes calls.now)) }
 {
-    let lists = divided::<OwnedSet<u64, Shared<Same>>>(alloc, workers, calls)?;
+    let lists = calls_of_workers::<OwnedSet<u64, Shared<Same>>>(alloc, workers, calls)?;
     let Ok((recorded, handed)) = Recorded::<OwnedSet<u64, Shared<Same>>, L, M>::open(
         alloc,
         setup_of(hasher),
@@ -145,11 +145,11 @@ where
     ) else {
         return Err(AllocError);
     };
-    let mut crew = workers_of(rt, alloc, &recorded, handed, lists.as_slice())?;
-    if run(rt, alloc, crew.as_mut_slice(), &Open).is_err() {
+    let mut running = workers_of(rt, alloc, &recorded, handed, lists.as_slice())?;
+    if run(rt, alloc, running.as_mut_slice(), &Open).is_err() {
         return Err(AllocError);
     }
-    let passes = passes_of(alloc, crew)?;
+    let passes = passes_of(alloc, running)?;
     are_exact::<OwnedSet<u64, Shared<Same>>>();
     finish_run(alloc, workers, stripes, calls, recorded.close(), passes)
 }
@@ -162,7 +162,7 @@ pub(crate) fn play_set<R: Threads + Wait + Sync>(
     stripes: usize,
     calls: &[WorkerCall<SetCall<u64>>],
 ) -> Result<End, AllocError>
-    requires { IsCrew workers × IsDivision stripes }
+    requires { IsWorkerCount workers × IsStripeCount stripes }
     ensures { IfOk result (λ e. IfPlayed e (SetPlayed workers stripes calls.now)) }
 {
     play_set_in::<Brand, Brand, R>(
@@ -195,10 +195,10 @@ where
     requires receipts { (receipts.name ≡ L.name) × (receipts.parts ≡ L.parts) × (receipts.parts ≡ workers) }
     requires records { (records.name ≡ M.name) × (records.parts ≡ M.parts) × (records.parts ≡ stripes) }
     requires site { (M.chosen ≡ Some (request_of 0 256 hasher stripes)) × (M.all ≡ stripes) }
-    requires crew { IsCrew workers × IsDivision stripes }
+    requires counts { IsWorkerCount workers × IsStripeCount stripes }
     ensures { IfOk result (λ e. IfPlayed e (IndexPlayedFor M.chosen workers stripes calls.now)) }
 {
-    let lists = divided::<OwnedIndex<u64, u64, Shared<Same>>>(alloc, workers, calls)?;
+    let lists = calls_of_workers::<OwnedIndex<u64, u64, Shared<Same>>>(alloc, workers, calls)?;
     let Ok((recorded, handed)) = Recorded::<OwnedIndex<u64, u64, Shared<Same>>, L, M>::open(
         alloc,
         setup_of(hasher),
@@ -209,11 +209,11 @@ where
     ) else {
         return Err(AllocError);
     };
-    let mut crew = workers_of(rt, alloc, &recorded, handed, lists.as_slice())?;
-    if run(rt, alloc, crew.as_mut_slice(), &Open).is_err() {
+    let mut running = workers_of(rt, alloc, &recorded, handed, lists.as_slice())?;
+    if run(rt, alloc, running.as_mut_slice(), &Open).is_err() {
         return Err(AllocError);
     }
-    let passes = passes_of(alloc, crew)?;
+    let passes = passes_of(alloc, running)?;
     are_exact::<OwnedIndex<u64, u64, Shared<Same>>>();
     finish_run(alloc, workers, stripes, calls, recorded.close(), passes)
 }
@@ -226,7 +226,7 @@ pub(crate) fn play_index<R: Threads + Wait + Sync>(
     stripes: usize,
     calls: &[WorkerCall<IndexCall<u64, u64>>],
 ) -> Result<End, AllocError>
-    requires { IsCrew workers × IsDivision stripes }
+    requires { IsWorkerCount workers × IsStripeCount stripes }
     ensures { IfOk result (λ e. IfPlayed e (IndexPlayed workers stripes calls.now)) }
 {
     play_index_in::<Brand, Brand, R>(
@@ -259,10 +259,10 @@ where
     requires receipts { (receipts.name ≡ L.name) × (receipts.parts ≡ L.parts) × (receipts.parts ≡ workers) }
     requires records { (records.name ≡ M.name) × (records.parts ≡ M.parts) × (records.parts ≡ stripes) }
     requires site { (M.chosen ≡ Some (request_of 0 256 hasher stripes)) × (M.all ≡ stripes) }
-    requires crew { IsCrew workers × IsDivision stripes }
+    requires counts { IsWorkerCount workers × IsStripeCount stripes }
     ensures { IfOk result (λ e. IfPlayed e (CachePlayedFor M.chosen workers stripes calls.now)) }
 {
-    let lists = divided::<OwnedCache<u64, u64, Shared<Same>>>(alloc, workers, calls)?;
+    let lists = calls_of_workers::<OwnedCache<u64, u64, Shared<Same>>>(alloc, workers, calls)?;
     let Ok((recorded, handed)) = Recorded::<OwnedCache<u64, u64, Shared<Same>>, L, M>::open(
         alloc,
         setup_of(hasher),
@@ -273,11 +273,11 @@ where
     ) else {
         return Err(AllocError);
     };
-    let mut crew = workers_of(rt, alloc, &recorded, handed, lists.as_slice())?;
-    if run(rt, alloc, crew.as_mut_slice(), &Open).is_err() {
+    let mut running = workers_of(rt, alloc, &recorded, handed, lists.as_slice())?;
+    if run(rt, alloc, running.as_mut_slice(), &Open).is_err() {
         return Err(AllocError);
     }
-    let passes = passes_of(alloc, crew)?;
+    let passes = passes_of(alloc, running)?;
     are_exact::<OwnedCache<u64, u64, Shared<Same>>>();
     finish_run(alloc, workers, stripes, calls, recorded.close(), passes)
 }
@@ -290,7 +290,7 @@ pub(crate) fn play_cache<R: Threads + Wait + Sync>(
     stripes: usize,
     calls: &[WorkerCall<CacheCall<u64, u64>>],
 ) -> Result<End, AllocError>
-    requires { IsCrew workers × IsDivision stripes }
+    requires { IsWorkerCount workers × IsStripeCount stripes }
     ensures { IfOk result (λ e. IfPlayed e (CachePlayed workers stripes calls.now)) }
 {
     play_cache_in::<Brand, Brand, R>(

@@ -4,8 +4,8 @@ ghost use Rattle.std.specs.List.{AllByRecursion};
 ghost use Rattle.std.specs.String.{string_bytes};
 ghost use Rattle.std.specs.Io.KnownBytes.{Appends};
 ghost use Rattle.scc_print.specs.Finished.{MapOutput, SetOutput, IndexOutput, CacheOutput};
-ghost use Rattle.scc_script.specs.Grammar.{script_of, IsCrew, IsDivision};
-ghost use Rattle.scc_script.specs.Scripts.{HasCrew, meaning_of};
+ghost use Rattle.scc_script.specs.Grammar.{script_of, IsWorkerCount, IsStripeCount};
+ghost use Rattle.scc_script.specs.Scripts.{HasCounts, meaning_of};
 ghost use Rattle.scc_play.specs.Endings.{WritesAnswer, AnswersBy, Ends, HasOwners, all_calls, bad_line_text, finish_text};
 ghost use Rattle.scc_play.specs.Ended.{IfPlayed, MatchEnd};
 ghost use Rattle.scc_play.specs.Kinds.{MapPlayed, SetPlayed, IndexPlayed, CachePlayed};
@@ -139,7 +139,7 @@ fn answer_map<R: Threads + Wait + Sync>(
     stripes: usize,
     calls: &[WorkerCall<MapCall<u64, u64>>],
 ) -> Result<Answer, AllocError>
-    requires crew { IsCrew workers × IsDivision stripes }
+    requires counts { IsWorkerCount workers × IsStripeCount stripes }
     requires owners { AllByRecursion (λ c. c.worker < workers) calls.now }
     ensures { IfOk result (λ a. AnswersBy (MapOutput (all_calls calls.now)) (MapPlayed workers stripes calls.now)
         workers stripes a.status (string_bytes a.text)) }
@@ -155,7 +155,7 @@ fn answer_set<R: Threads + Wait + Sync>(
     stripes: usize,
     calls: &[WorkerCall<SetCall<u64>>],
 ) -> Result<Answer, AllocError>
-    requires crew { IsCrew workers × IsDivision stripes }
+    requires counts { IsWorkerCount workers × IsStripeCount stripes }
     requires owners { AllByRecursion (λ c. c.worker < workers) calls.now }
     ensures { IfOk result (λ a. AnswersBy (SetOutput (all_calls calls.now)) (SetPlayed workers stripes calls.now)
         workers stripes a.status (string_bytes a.text)) }
@@ -171,7 +171,7 @@ fn answer_index<R: Threads + Wait + Sync>(
     stripes: usize,
     calls: &[WorkerCall<IndexCall<u64, u64>>],
 ) -> Result<Answer, AllocError>
-    requires crew { IsCrew workers × IsDivision stripes }
+    requires counts { IsWorkerCount workers × IsStripeCount stripes }
     requires owners { AllByRecursion (λ c. c.worker < workers) calls.now }
     ensures { IfOk result (λ a. AnswersBy (IndexOutput (all_calls calls.now)) (IndexPlayed workers stripes calls.now)
         workers stripes a.status (string_bytes a.text)) }
@@ -187,7 +187,7 @@ fn answer_cache<R: Threads + Wait + Sync>(
     stripes: usize,
     calls: &[WorkerCall<CacheCall<u64, u64>>],
 ) -> Result<Answer, AllocError>
-    requires crew { IsCrew workers × IsDivision stripes }
+    requires counts { IsWorkerCount workers × IsStripeCount stripes }
     requires owners { AllByRecursion (λ c. c.worker < workers) calls.now }
     ensures { IfOk result (λ a. AnswersBy (CacheOutput (all_calls calls.now)) (CachePlayed workers stripes calls.now)
         workers stripes a.status (string_bytes a.text)) }
@@ -201,7 +201,7 @@ fn answer_by_kind<R: Threads + Wait + Sync>(
     alloc: Global,
     script: Script,
 ) -> Result<Answer, AllocError>
-    requires crew { HasCrew script }
+    requires counts { HasCounts script }
     requires owners { HasOwners (meaning_of script) }
     ensures { IfOk result (λ a. WritesAnswer (meaning_of script) a.status (string_bytes a.text)) }
 {

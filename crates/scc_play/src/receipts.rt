@@ -1,7 +1,8 @@
 //! The replies to a worker's calls, from the receipts of these calls.
 ghost use Rattle.std.specs.Prelude.{◌≡◌, ℕ, ◌<◌, length, map, min, IfOk, IfSome, true, drop};
 ghost use Rattle.std.specs.List.{AllByRecursion, sum_by};
-ghost use Rattle.scc_play.specs.Answered.{AreAnswered, AreInOrder, IsAnswered, IsJoint, number_of, calls_by};
+ghost use Rattle.scc_play.specs.Answered.{AreAnswered, AreInOrder, IsAnswered, IsJoint, calls_by};
+ghost use Rattle.scc_recorded.specs.Adds.{number_or_zero};
 
 use scc_history::Receipt;
 use scc_print::printed::Printed;
@@ -51,7 +52,7 @@ fn are_in_order<A, R>(receipts: &[Receipt<A, R>]) -> bool
 
 // Returns the sum of the numbers in the replies of `receipts`, at most `usize::MAX`.
 fn sum_of<P: Printed>(receipts: &[Receipt<P::Call, P::Reply>]) -> usize
-    ensures { result ≡ min 18446744073709551615 (sum_by (λ r. number_of (P.counted r.reply)) receipts.now) }
+    ensures { result ≡ min 18446744073709551615 (sum_by (λ r. number_or_zero (P.counted r.reply)) receipts.now) }
 {
     let mut sum: usize = 0;
     for receipt in receipts {
@@ -105,7 +106,7 @@ fn reply_of<P: Printed>(
 }
 
 // Returns the number of records that `call` makes.
-fn records_of<P: Printed>(stripes: usize, call: &P::Call) -> usize {
+fn record_count<P: Printed>(stripes: usize, call: &P::Call) -> usize {
     match P::key(call) {
         Some(_) => 1,
         None => stripes,
@@ -127,7 +128,7 @@ pub(crate) fn replies_of<P: Printed>(
     let mut replies = Vec::new(alloc);
     let mut rest = receipts;
     for call in calls {
-        let count = records_of::<P>(stripes, call);
+        let count = record_count::<P>(stripes, call);
         if rest.len() < count {
             return Ok(None);
         }

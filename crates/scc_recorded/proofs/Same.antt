@@ -52,7 +52,7 @@ module _ {L M : Type 0} where
   }
 
 module _ {C L M K H A R T : Type 0} {m : calls.Ghosts C K H A R T} {h : hash.Ghosts K} {g : eq.Ghosts K} {b : builder.Ghosts H T} {w : hasher.Ghosts T} {call_clones : clone.Ghosts A} {call_equality : eq.Ghosts A} {reply_clones : clone.Ghosts R} {reply_equality : eq.Ghosts R} {crew : ledgers.Ghosts L} {site : sites.Ghosts M H} {rows : ledgers.Ghosts M} where
-  pub closed-same : (x y : Closed C L M K H A R T m h g b w call_clones call_equality reply_clones reply_equality crew site rows) → y.stripes ≡ x.stripes → y.hasher ≡ x.hasher → y.passes ≡ x.passes → y.count ≡ x.count → y.alloc ≡ x.alloc → y.handed ≡ x.handed → y.divided ≡ x.divided → y ≡ x
+  pub closed-same : (x y : Closed C L M K H A R T m h g b w call_clones call_equality reply_clones reply_equality crew site rows) → y.stripes ≡ x.stripes → y.hasher ≡ x.hasher → y.passes ≡ x.passes → y.count ≡ x.count → y.alloc ≡ x.alloc → y.handed ≡ x.handed → y.stripe_count ≡ x.stripe_count → y ≡ x
   closed-same x y s k p n a d v = λ i. record {
     stripes = s i;
     hasher = k i;
@@ -60,12 +60,12 @@ module _ {C L M K H A R T : Type 0} {m : calls.Ghosts C K H A R T} {h : hash.Gho
     count = n i;
     alloc = a i;
     handed = d i;
-    divided = v i;
+    stripe_count = v i;
     placed = is_prop→PathP (λ j. ∥ ((r : Request H) × (site.chosen ≡ Some r) × (r.hasher ≡ k j)) ∥₁) (λ j. squash₁) y.placed x.placed i;
     some = is_prop→PathP (λ j. 0 < vec_len (s j)) (λ j. hlevel props) y.some x.some i;
     all = is_prop→PathP (λ j. vec_len (s j) ≡ site.all) (λ j. hlevel props) y.all x.all i;
     handed_all = is_prop→PathP (λ j. (d j).count ≡ p j) (λ j. hlevel props) y.handed_all x.handed_all i;
-    divided_all = is_prop→PathP (λ j. (v j).count ≡ vec_len (s j)) (λ j. hlevel props) y.divided_all x.divided_all i;
+    stripe_count_all = is_prop→PathP (λ j. (v j).count ≡ vec_len (s j)) (λ j. hlevel props) y.stripe_count_all x.stripe_count_all i;
   }
 
 maps : {X Y Z : Type 0} (f : Y → Z) (made : X → Y) (xs : List X) → map f (map made xs) ≡ map (λ x. f (made x)) xs

@@ -21,6 +21,6 @@ abbrev pub IsOf : {G S A R : Type 0} → (A → A → Type 0) → (G → S → A
 IsOf is_clone moves call r = is_clone call r.call × MayAnswer moves call r.reply
 
 -- the number in a reply, or 0 if the reply has none
-abbrev pub number_of : Option ℕ → ℕ
-number_of None = 0
-number_of (Some n) = n
+abbrev pub number_or_zero : Option ℕ → ℕ
+number_or_zero None = 0
+number_or_zero (Some n) = n

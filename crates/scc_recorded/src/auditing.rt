@@ -27,7 +27,7 @@ impl<C: Calls, L: Ledger, M: Site<C::Hasher>> Closed<C, L, M> {
             count,
             alloc: _,
             handed: _,
-            divided: _,
+            stripe_count: _,
         } = self;
         let Count { receipts, records } = count;
         Pass::audit_all(passes, receipts);

@@ -20,12 +20,12 @@ pub struct Closed<C: Calls, L: Ledger, M: Site<C::Hasher>> {
     pub(crate) count: Count<L, M>,
     pub(crate) alloc: Global,
     pub(crate) handed: PartCount<L>,
-    pub(crate) divided: PartCount<M>,
+    pub(crate) stripe_count: PartCount<M>,
     pub ghost placed: { ∥ ((r : Request C.Hasher) × (M.chosen ≡ Some r) × (r.hasher ≡ hasher)) ∥₁ },
     pub ghost some: { 0 < vec_len stripes },
     pub ghost all: { vec_len stripes ≡ M.all },
     pub ghost handed_all: { handed.count ≡ passes },
-    pub ghost divided_all: { divided.count ≡ vec_len stripes },
+    pub ghost stripe_count_all: { stripe_count.count ≡ vec_len stripes },
 }
 
 impl<C: Calls + Drop, L: Ledger, M: Site<C::Hasher>> Recorded<C, L, M>
@@ -47,7 +47,7 @@ where
             alloc,
             room,
             handed,
-            divided,
+            stripe_count,
         } = self;
         let mut locks = locks;
         let StripeRoom { list } = room.into_inner();
@@ -63,7 +63,7 @@ where
             count: count.into_inner(),
             alloc,
             handed,
-            divided,
+            stripe_count,
         }
     }
 }

@@ -128,7 +128,7 @@ where
             count: _,
             alloc: _,
             handed: _,
-            divided: _,
+            stripe_count: _,
         } = self;
         move_out(stripes, &mut parts, &mut histories, &mut opened);
         Ok(Finished {

@@ -49,13 +49,13 @@ pub struct Recorded<C: Calls, L: Ledger, M: Site<C::Hasher>> {
     pub(crate) alloc: Global,
     pub(crate) room: Mutex<StripeRoom<C, M>>,
     pub(crate) handed: PartCount<L>,
-    pub(crate) divided: PartCount<M>,
+    pub(crate) stripe_count: PartCount<M>,
     pub ghost placed: { ∥ ((r : Request C.Hasher) × (M.chosen ≡ Some r) × (r.hasher ≡ hasher)) ∥₁ },
     pub ghost number: { vec_len locks ≡ stripes },
     pub ghost some: { 0 < stripes },
     pub ghost all: { M.all ≡ stripes },
     pub ghost handed_all: { handed.count ≡ passes },
-    pub ghost divided_all: { divided.count ≡ stripes },
+    pub ghost stripe_count_all: { stripe_count.count ≡ stripes },
     pub ghost numbers: { map (λ l. l.number) locks.items ≡ range_with_len 0 stripes },
 }
 

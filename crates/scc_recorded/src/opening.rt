@@ -69,7 +69,7 @@ where
             alloc,
             room: Mutex::new(StripeRoom { list }),
             handed: PartCount::new(passes),
-            divided: PartCount::new(stripes),
+            stripe_count: PartCount::new(stripes),
         };
         Ok((recorded, handed))
     }

@@ -1,6 +1,6 @@
 //! Calls on every stripe, one after another.
 ghost use Rattle.scc_calls.specs.Copies.{ClonesEqual};
-ghost use Rattle.scc_recorded.specs.Adds.{Adds, IsOf, number_of};
+ghost use Rattle.scc_recorded.specs.Adds.{Adds, IsOf, number_or_zero};
 ghost use Rattle.std.specs.List.{sum_by};
 ghost use Rattle.std.specs.Prelude.{◌≡◌, ℕ, ◌<◌, Err, OnOk, OnErr, IfOk, min, length, drop};
 
@@ -53,7 +53,7 @@ impl<C: WholeCalls, L: Ledger, M: Site<C::Hasher>> Recorded<C, L, M> {
             pass.old.log.receipts.items pass.new.log.receipts.items) }
         ensures room { result ≡ Err CallError.Container → ⊥ }
         ensures sum { IfOk result (λ n. n ≡ min 18446744073709551615
-            (sum_by (λ r. number_of (C.counted r.reply))
+            (sum_by (λ r. number_or_zero (C.counted r.reply))
             (drop (length pass.old.log.receipts.items) pass.new.log.receipts.items))) }
     {
         let before = pass.log.receipts.len();
@@ -69,7 +69,7 @@ impl<C: WholeCalls, L: Ledger, M: Site<C::Hasher>> Recorded<C, L, M> {
 
 // Returns the sum of the numbers in the replies of `receipts`, at most `usize::MAX`.
 fn sum_of<C: WholeCalls>(receipts: &[Receipt<C::Call, C::Reply>]) -> usize
-    ensures { result ≡ min 18446744073709551615 (sum_by (λ r. number_of (C.counted r.reply)) receipts.now) }
+    ensures { result ≡ min 18446744073709551615 (sum_by (λ r. number_or_zero (C.counted r.reply)) receipts.now) }
 {
     let mut sum: usize = 0;
     for receipt in receipts {

@@ -15,7 +15,7 @@ use Rattle.scc_common.specs.Pairs.{find}
 use Rattle.scc_common.specs.Steps.{Holds, HoldsExactly, IsUnchanged}
 use Rattle.scc_common.specs.declared.errors.InsertError.{InsertError}
 use Rattle.scc_common.specs.declared.errors.InsertError.TheVariants.{Exists, Memory}
-use Rattle.scc_table.proofs.Replies.{find-key}
+use Rattle.scc_table.proofs.places.Replies.{find-key}
 use Rattle.scc_owned.specs.IndexSteps.{RemovesIf, Inserts, Removes}
 use Rattle.scc_stripes.specs.Minimums.{FollowsMinimum}
 use Rattle.scc_rules.specs.Rules.{AllKeep, IsKeptAt, KeepsAll, ReadsKept}

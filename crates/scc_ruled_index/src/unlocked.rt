@@ -46,7 +46,7 @@ impl<K: Eq + Hash + Drop, V: Drop, R: Rule<K, V>, H: BuildHasher + Drop> Unlocke
 
     /// Inserts clones of all pairs of `from`, up to the first pair that can't be inserted. Returns whether all pairs
     /// were inserted.
-    pub(crate) fn put_all(&mut self, from: &Kept<K, V, R, H>) -> bool
+    pub(crate) fn insert_all(&mut self, from: &Kept<K, V, R, H>) -> bool
     where
         K: Clone,
         V: Clone,
@@ -57,7 +57,7 @@ impl<K: Eq + Hash + Drop, V: Drop, R: Rule<K, V>, H: BuildHasher + Drop> Unlocke
         let mut at = index.first_place();
         while let Some(place) = at {
             let (k, v) = index.pair_at(place);
-            if !self.put_clones(k, v) {
+            if !self.insert_clones(k, v) {
                 return false;
             }
             at = index.next_place(place);
@@ -67,7 +67,7 @@ impl<K: Eq + Hash + Drop, V: Drop, R: Rule<K, V>, H: BuildHasher + Drop> Unlocke
 
     /// Inserts clones of `k` and `v`, and returns whether it did. It does unless a clone fails, a key equals the clone
     /// of `k`, or memory is refused.
-    fn put_clones(&mut self, k: &K, v: &V) -> bool
+    fn insert_clones(&mut self, k: &K, v: &V) -> bool
     where
         K: Clone,
         V: Clone,

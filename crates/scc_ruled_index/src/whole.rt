@@ -92,7 +92,7 @@ impl<K: Eq + Hash + Clone + Drop, V: Clone + Drop, R: Rule<K, V>, H: BuildHasher
     {
         let mut made = Unlocked::alike(self.alloc, self, self.capacity(rt))?;
         for stripe in 0..self.stripes.stripes() {
-            if !made.put_all(&self.stripes.read(rt, stripe)) {
+            if !made.insert_all(&self.stripes.read(rt, stripe)) {
                 return Err(MakeError);
             }
         }

@@ -14,8 +14,8 @@ use Rattle.scc_common.specs.PairWalks.{PassesAt, PassesFirst}
 use Rattle.scc_rules.specs.declared.Rule as rule
 use Rattle.scc_table.specs.Placed.{entry_of, front_of, IsPlace-with_write_at}
 use Rattle.scc_table.specs.Places.{IsPlace, IsInsertedAt, index_of, spot_of, with_write_at}
-use Rattle.scc_table.proofs.WalkReached.{passes-at}
-use Rattle.scc_table.proofs.AtPlaces.{entry_of-is, put-there, written-there}
+use Rattle.scc_table.proofs.walks.Steps.{passes-at}
+use Rattle.scc_table.proofs.places.Entries.{entry_of-is, put-there, written-there}
 use Rattle.scc_common.specs.declared.errors.InsertError.{InsertError}
 use Rattle.scc_common.specs.declared.errors.InsertError.TheVariants.{Memory}
 use Rattle.scc_fallible.specs.declared.TryInsertError.{TryInsertError}

@@ -10,7 +10,7 @@ use Rattle.scc_rules.specs.Rules.{AllKeep, IsKept, KeepsAll}
 use Rattle.scc_rules.proofs.Lists.{all-append, all-got, all-moved, all-parts}
 use Rattle.scc_table.specs.Placed.{entry_of, front_of, back_of, IsPlace-with_write_at}
 use Rattle.scc_table.specs.Places.{IsPlace, IsInsertedAt, index_of, with_write_at}
-use Rattle.scc_table.proofs.AtPlaces.{entry_of-get, entry_of-is, place-found, splits-there, written-there}
+use Rattle.scc_table.proofs.places.Entries.{entry_of-get, entry_of-is, place-found, splits-there, written-there}
 use Rattle.scc_table.specs.Places.{IsFoundAt}
 use Rattle.scc_rules.specs.Rules.{IsKeptAt}
 use Rattle.scc_ruled_map.proofs.KeptPairs.{kept-found}

@@ -165,25 +165,25 @@ kind_of_name name =
     None)))
 
 -- a number of workers that is allowed: 1 to 16
-abbrev pub is_crew : ℕ → Bool
-is_crew workers = nat_lt 0 workers && nat_lt workers 17
+abbrev pub is_worker_count : ℕ → Bool
+is_worker_count workers = nat_lt 0 workers && nat_lt workers 17
 
 -- a number of stripes that is allowed: 1, 2, 4, 8 or 16, and at most 4 for a cache
-abbrev pub is_division : Kind → ℕ → Bool
-is_division Cache stripes = (stripes == 1) || ((stripes == 2) || (stripes == 4))
-is_division kind stripes = (stripes == 1) || ((stripes == 2) || ((stripes == 4) || ((stripes == 8) || (stripes == 16))))
+abbrev pub is_stripe_count : Kind → ℕ → Bool
+is_stripe_count Cache stripes = (stripes == 1) || ((stripes == 2) || (stripes == 4))
+is_stripe_count kind stripes = (stripes == 1) || ((stripes == 2) || ((stripes == 4) || ((stripes == 8) || (stripes == 16))))
 
 -- a number of workers that is allowed, as a fact
-abbrev pub IsCrew : ℕ → Type 0
-IsCrew workers = (0 < workers) × (workers ≤ 16)
+abbrev pub IsWorkerCount : ℕ → Type 0
+IsWorkerCount workers = (0 < workers) × (workers ≤ 16)
 
 -- a number of stripes that is allowed for some kind, as a fact
-abbrev pub IsDivision : ℕ → Type 0
-IsDivision stripes = (stripes ≡ 1) ⊎ (stripes ≡ 2) ⊎ (stripes ≡ 4) ⊎ (stripes ≡ 8) ⊎ (stripes ≡ 16)
+abbrev pub IsStripeCount : ℕ → Type 0
+IsStripeCount stripes = (stripes ≡ 1) ⊎ (stripes ≡ 2) ⊎ (stripes ≡ 4) ⊎ (stripes ≡ 8) ⊎ (stripes ≡ 16)
 
 -- the header of this kind and these numbers, if the numbers are allowed
 abbrev pub header_of_numbers : Kind → ℕ → ℕ → Option Header
-header_of_numbers kind workers stripes = cond (is_crew workers && is_division kind stripes) (Some (record { kind = kind; workers = workers; stripes = stripes })) None
+header_of_numbers kind workers stripes = cond (is_worker_count workers && is_stripe_count kind stripes) (Some (record { kind = kind; workers = workers; stripes = stripes })) None
 
 -- the first line: a kind, the number of workers and the number of stripes
 abbrev pub header_of_fields : List (List ℕ) → Option Header

@@ -1,6 +1,6 @@
 -- What the parser's result says of a script.
 use Rattle.std.specs.Prelude.{ℕ, List, Result, Ok, Err}
-use Rattle.scc_script.specs.Grammar.{IsCrew, IsDivision, Meaning, map_calls, set_calls, index_calls, cache_calls, bad_line}
+use Rattle.scc_script.specs.Grammar.{IsWorkerCount, IsStripeCount, Meaning, map_calls, set_calls, index_calls, cache_calls, bad_line}
 use Rattle.scc_script.specs.declared.line.WorkerCall.{WorkerCall}
 use Rattle.scc_script.specs.declared.script.Lines.{Lines}
 use Rattle.scc_script.specs.declared.script.Lines.TheVariants as lines
@@ -21,9 +21,9 @@ meaning_of (Cache workers stripes calls) = cache_calls workers stripes calls.ite
 meaning_of (BadLine number) = bad_line number
 
 -- a script without a bad line has allowed numbers of workers and of stripes
-abbrev pub HasCrew : Script → Type 0
-HasCrew (Map workers stripes calls) = IsCrew workers × IsDivision stripes
-HasCrew (Set workers stripes calls) = IsCrew workers × IsDivision stripes
-HasCrew (Index workers stripes calls) = IsCrew workers × IsDivision stripes
-HasCrew (Cache workers stripes calls) = IsCrew workers × IsDivision stripes
-HasCrew (BadLine number) = Unit {0}
+abbrev pub HasCounts : Script → Type 0
+HasCounts (Map workers stripes calls) = IsWorkerCount workers × IsStripeCount stripes
+HasCounts (Set workers stripes calls) = IsWorkerCount workers × IsStripeCount stripes
+HasCounts (Index workers stripes calls) = IsWorkerCount workers × IsStripeCount stripes
+HasCounts (Cache workers stripes calls) = IsWorkerCount workers × IsStripeCount stripes
+HasCounts (BadLine number) = Unit {0}

@@ -1,7 +1,7 @@
 //! Reads a whole script.
 ghost use Rattle.std.specs.Prelude.{◌≡◌, IfOk};
-ghost use Rattle.scc_script.specs.Grammar.{script_of, calls_of_lines, lines_of, meaning_of_kind, IsCrew, IsDivision};
-ghost use Rattle.scc_script.specs.Scripts.{meaning_of, calls_or_line, HasCrew};
+ghost use Rattle.scc_script.specs.Grammar.{script_of, calls_of_lines, lines_of, meaning_of_kind, IsWorkerCount, IsStripeCount};
+ghost use Rattle.scc_script.specs.Scripts.{meaning_of, calls_or_line, HasCounts};
 
 use crate::line::{Header, Kind, WorkerCall, parse_header, parse_line};
 use crate::lines::first_line;
@@ -55,10 +55,10 @@ fn parse_calls<C: Named>(alloc: Global, workers: usize, text: &[u8]) -> Result<L
 
 // Returns what the lines behind the header are. Fails if memory is refused.
 fn parse_rest(alloc: Global, header: Header, rest: &[u8]) -> Result<Script, AllocError>
-    requires { IsCrew header.workers × IsDivision header.stripes }
+    requires { IsWorkerCount header.workers × IsStripeCount header.stripes }
     ensures value { IfOk result (λ script. meaning_of script
         ≡ meaning_of_kind header.kind header.workers header.stripes (lines_of rest.now)) }
-    ensures crew { IfOk result HasCrew }
+    ensures counts { IfOk result HasCounts }
 {
     let workers = header.workers;
     let stripes = header.stripes;
@@ -87,7 +87,7 @@ fn parse_rest(alloc: Global, header: Header, rest: &[u8]) -> Result<Script, Allo
 /// Returns the calls of all lines in their order, or the number of the first bad line. Fails if memory is refused.
 pub fn parse_script(alloc: Global, text: &[u8]) -> Result<Script, AllocError>
     ensures value { IfOk result (λ script. meaning_of script ≡ script_of text.now) }
-    ensures crew { IfOk result HasCrew }
+    ensures counts { IfOk result HasCounts }
 {
     if text.is_empty() {
         return Ok(Script::BadLine(1));

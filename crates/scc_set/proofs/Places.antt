@@ -11,7 +11,7 @@ use Rattle.scc_table.specs.Places.{StandsAt}
 use Rattle.scc_common.specs.Steps.{Holds, HoldsExactly}
 use Rattle.scc_buckets.specs.declared.place.Place.{Place}
 use Rattle.scc_buckets.proofs.Mapped.{entries-mapped, length-mapped, Holds-mapped, HoldsExactly-mapped}
-use Rattle.scc_table.proofs.MappedPlaces.{index_of-mapped, StandsAt-mapped}
+use Rattle.scc_table.proofs.places.Mapped.{index_of-mapped, StandsAt-mapped}
 use Rattle.scc_set.specs.Keys.{of_map}
 use Rattle.scc_set.specs.SetWalks.{Declines}
 

@@ -20,7 +20,7 @@ use Rattle.scc_common.specs.Pairs.{find as find_pair, without as without_pair, F
 use Rattle.scc_buckets.proofs.Mapped.{entries-mapped, bucket_count-mapped, settings_of-mapped, refused_of-mapped, pending_of-mapped, length-mapped, HoldsExactly-mapped, IsUnchanged-mapped, Holds-mapped, Rests-mapped, Reserves-mapped, Releases-mapped, HasRoomBy-mapped, HasRoomBy-from_mapped, GrowsWhenDue-mapped, ShrinksWhenDue-mapped}
 use Rattle.scc_table.specs.Arrays.{ShrinksByRule}
 use Rattle.scc_table.specs.Relocations.{RelocatesTwo}
-use Rattle.scc_table.proofs.MappedRelocations.{waiting_of-mapped, RelocatesNone-mapped, RelocatesTwo-mapped}
+use Rattle.scc_table.proofs.relocations.Mapped.{waiting_of-mapped, RelocatesNone-mapped, RelocatesTwo-mapped}
 use Rattle.scc_common.specs.declared.errors.InsertError.{InsertError}
 use Rattle.scc_common.specs.declared.errors.InsertError.TheVariants.{Exists, Memory}
 use Rattle.scc_owned.specs.Sizes.{ReservesOrRefuses, ReleasesOrRefuses}

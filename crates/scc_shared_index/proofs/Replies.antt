@@ -9,7 +9,7 @@ use Rattle.scc_common.specs.declared.errors.InsertError.{InsertError}
 use Rattle.scc_owned.specs.Entries.{Exists, Memory}
 use Rattle.scc_owned.specs.IndexSteps.{RemovesIf, Inserts}
 use Rattle.scc_common.specs.Replies.{HasKey}
-use Rattle.scc_table.proofs.Replies.{find-key}
+use Rattle.scc_table.proofs.places.Replies.{find-key}
 use Rattle.scc_shared_index.specs.Replies.{PassesOn}
 
 module _ {K V S : Type 0} (eq : K → K → Bool) where

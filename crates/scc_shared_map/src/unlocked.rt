@@ -44,7 +44,7 @@ impl<K: Eq + Hash + Drop, V: Drop, H: BuildHasher + Drop> Unlocked<K, V, H> {
 
     /// Inserts clones of all pairs of `from`, up to the first pair that can't be inserted. Returns whether all pairs
     /// were inserted.
-    pub(crate) fn put_all(&mut self, from: &Owned<K, V, Shared<H>>) -> bool
+    pub(crate) fn insert_all(&mut self, from: &Owned<K, V, Shared<H>>) -> bool
     where
         K: Clone,
         V: Clone,
@@ -53,7 +53,7 @@ impl<K: Eq + Hash + Drop, V: Drop, H: BuildHasher + Drop> Unlocked<K, V, H> {
         let mut at = from.first_place();
         while let Some(place) = at {
             let (k, v) = from.pair_at(place);
-            if !self.put_clones(k, v) {
+            if !self.insert_clones(k, v) {
                 return false;
             }
             at = from.next_place(place);
@@ -63,7 +63,7 @@ impl<K: Eq + Hash + Drop, V: Drop, H: BuildHasher + Drop> Unlocked<K, V, H> {
 
     /// Inserts clones of `k` and `v`, and returns whether it did. It does unless a clone fails, a key equals the clone
     /// of `k`, or memory is refused.
-    fn put_clones(&mut self, k: &K, v: &V) -> bool
+    fn insert_clones(&mut self, k: &K, v: &V) -> bool
     where
         K: Clone,
         V: Clone,

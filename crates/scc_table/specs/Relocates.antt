@@ -2,7 +2,7 @@
 use Rattle.std.specs.Prelude.{◌≡◌, ◌≢◌, ◌==◌, ℕ, ◌+◌, ◌-◌, ◌*◌, ◌<◌, ◌≤◌, ◌++◌, List, length, drop, not}
 use Rattle.std.specs.List.{filter, All}
 use Rattle.scc_common.specs.Contents.{Contents, entries, bucket_count, list_of, settings_of, waiting_of, owed_of, pending_of}
-use Rattle.scc_buckets.specs.Pour.{bound_for}
+use Rattle.scc_buckets.specs.Pour.{destined_for}
 use Rattle.scc_common.specs.Sizes.{IsArraySize, IsSmaller}
 use Rattle.scc_table.specs.TwoArrays.{pending_targets, IsWaiting}
 
@@ -52,8 +52,8 @@ module _ {E S : Type 0} where
 
   -- no bucket of n would hold more than 32 of the entries
   pub record AreShortAmong (hash : E → ℕ) (n : ℕ) (c : Contents E S) : Type 0 where
-    pub short : (i : ℕ) → i < n → length (bound_for hash (settings_of c).skipped n i (entries c)) ≤ 32
+    pub short : (i : ℕ) → i < n → length (destined_for hash (settings_of c).skipped n i (entries c)) ≤ 32
 
   -- no bucket of n but bucket k would hold more than 32 of the entries
   pub record AreShortBut (hash : E → ℕ) (n k : ℕ) (c : Contents E S) : Type 0 where
-    pub short : (i : ℕ) → i < n → i ≢ k → length (bound_for hash (settings_of c).skipped n i (entries c)) ≤ 32
+    pub short : (i : ℕ) → i < n → i ≢ k → length (destined_for hash (settings_of c).skipped n i (entries c)) ≤ 32

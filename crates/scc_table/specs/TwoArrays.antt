@@ -5,7 +5,7 @@ use Rattle.std.specs.List.{filter, flat_map, range_with_len, sum_by, IsDistinct}
 use Rattle.scc_table.specs.declared.Draining as code
 use Rattle.scc_array.specs.Shelf.{Shelf, shelf_entries}
 use Rattle.scc_common.specs.Contents.{Contents, entries, bucket_count, list_of, lists_of, settings_of, refused_of, overflow_of, waiting_of, owed_of, pending_of}
-use Rattle.scc_buckets.specs.Pour.{bound_for}
+use Rattle.scc_buckets.specs.Pour.{destined_for}
 use Rattle.scc_common.specs.Routing.{bucket_number}
 use Rattle.scc_common.specs.Sizes.{IsBucketCount}
 use Rattle.scc_buckets.specs.Tables.{overflow_in}
@@ -50,7 +50,7 @@ module _ {E S : Type 0} where
     pub multiples : (ws ≡ []) ⊎ AreMultiples (length olds) (bucket_count c)
     pub sized : (ws ≡ []) ⊎ IsBucketCount (length olds)
     pub own : AreOwn hash (settings_of c).skipped olds
-    pub not_waiting : (i : ℕ) → waits_at ws i ≡ false → bound_for hash (settings_of c).skipped (bucket_count c) i (flat_map shelf_entries olds) ≡ []
+    pub not_waiting : (i : ℕ) → waits_at ws i ≡ false → destined_for hash (settings_of c).skipped (bucket_count c) i (flat_map shelf_entries olds) ≡ []
     pub bare : (i : ℕ) → waits_at ws i ≡ true → list_of c i ≡ []
 
   -- bucket i waits

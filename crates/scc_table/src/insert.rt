@@ -1,4 +1,4 @@
 //! Insertions of new keys into a table of two arrays.
 
-mod ladder;
+mod attempts;
 mod prepare;

@@ -6,7 +6,7 @@ use crate::expect::expect_eq;
 use scc::hash_map::Owned;
 use scc::recorded::{MapCall, Recorded, Setup, Shared, Site};
 use scc_play::ends::End;
-use scc_play::stripes::finish_run;
+use scc_play::finishing::finish_run;
 use scc_script::line::WorkerCall;
 use scc_script::same::Same;
 use std::alloc::Global;

@@ -38,7 +38,7 @@ impl<G: Guard<Inner = Index<K, V, H>>, N, K: Eq + Hash, V, H: BuildHasher> HeldO
         let place = self.place;
         match self.guard.look().next_version(place, value) {
             Ok(version) => {
-                self.guard.lend().put_at(place, version);
+                self.guard.lend().replace_at(place, version);
                 Ok(())
             }
             Err(value) => {

@@ -74,7 +74,7 @@ impl<K: Eq + Hash, V, H: BuildHasher> Index<K, V, H> {
     }
 
     /// Puts `version` in the place of the version at `place`, whose key must equal its key.
-    pub fn put_at(&mut self, place: Place, version: SharedVersion<K, V>)
+    pub fn replace_at(&mut self, place: Place, version: SharedVersion<K, V>)
     where
         K: Drop,
         V: Drop,

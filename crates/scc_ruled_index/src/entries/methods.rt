@@ -47,7 +47,7 @@ impl<'a, K: Eq + Hash, V, R: Rule<K, V>, H: BuildHasher> OccupiedEntry<'a, K, V,
         let place = self.place;
         match self.guard.look().next_version(place, value) {
             Ok(version) => {
-                self.guard.put_at(place, version);
+                self.guard.replace_at(place, version);
                 Ok(())
             }
             Err(value) => Err(value),

@@ -15,7 +15,7 @@ use std::hash::{BuildHasher, Hash};
 
 impl<K: Eq + Hash, V, R: Rule<K, V>, H: BuildHasher> Kept<K, V, R, H> {
     /// Puts `version`, which must keep the rule, in the place of the version at `place`, whose key must equal its key.
-    pub(crate) fn put_at(&mut self, place: Place, version: SharedVersion<K, V>)
+    pub(crate) fn replace_at(&mut self, place: Place, version: SharedVersion<K, V>)
     where
         K: Drop,
         V: Drop,
@@ -25,7 +25,7 @@ impl<K: Eq + Hash, V, R: Rule<K, V>, H: BuildHasher> Kept<K, V, R, H> {
         requires kept { R.holds version.0 version.1 }
         ensures new { self.new ≡ with_write_at put_whole self.old place version }
     {
-        self.index.put_at(place, version)
+        self.index.replace_at(place, version)
     }
 
     /// Removes the version at `place`. Then the array may shrink.

@@ -1,6 +1,6 @@
 //! Growths and shrinks after which no list holds more than 32 entries.
 ghost use Rattle.scc_buckets.specs.Bounded.{IsListed, MayShrinkWithin, ShrinksBounded};
-ghost use Rattle.scc_buckets.specs.Pour.{bound_for};
+ghost use Rattle.scc_buckets.specs.Pour.{destined_for};
 ghost use Rattle.scc_common.specs.Contents.{entries, bucket_count, key_hash, settings_of, IsUniqueBy};
 ghost use Rattle.scc_common.specs.Sizes.{IsBucketCount};
 ghost use Rattle.scc_table.specs.Growths.{DoublesWithin, FindsBucketWithin};
@@ -135,7 +135,7 @@ where
         requires listed { IsListed (λ e. key_hash H.BuildHasher H.Hasher.Hasher E.Key.hash_input self.now
             (E.key_of e)) self.now }
         ensures { IsTrue result ↔ ((i : ℕ) → i < count
-            → length (bound_for (λ e. key_hash H.BuildHasher H.Hasher.Hasher E.Key.hash_input self.now (E.key_of e))
+            → length (destined_for (λ e. key_hash H.BuildHasher H.Hasher.Hasher E.Key.hash_input self.now (E.key_of e))
             (settings_of self.now).skipped count i (entries self.now)) ≤ 32) }
     {
         let spread = self.bucket_count() / count;
@@ -155,7 +155,7 @@ where
         requires spread { count * spread ≡ bucket_count self.now }
         requires some { 0 < spread }
         requires within { target < count }
-        ensures { result ≡ length (bound_for
+        ensures { result ≡ length (destined_for
             (λ e. key_hash H.BuildHasher H.Hasher.Hasher E.Key.hash_input self.now (E.key_of e))
             (settings_of self.now).skipped count target (entries self.now)) }
     {

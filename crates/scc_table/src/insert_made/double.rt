@@ -1,6 +1,6 @@
 //! The insertion of an entry that is made, into an array that doubles.
 ghost use Rattle.scc_array.specs.Shelf.{empty_shelf};
-ghost use Rattle.scc_buckets.specs.Pour.{bound_for};
+ghost use Rattle.scc_buckets.specs.Pour.{destined_for};
 ghost use Rattle.scc_buckets.specs.Insertions.{IsNewIn};
 ghost use Rattle.scc_common.specs.Contents.{entries, bucket_count, key_hash, list_of, pending_of, settings_of, waiting_of};
 ghost use Rattle.scc_common.specs.Routing.{bucket_number};
@@ -16,7 +16,7 @@ use scc_array::Array;
 use scc_buckets::Place;
 use scc_buckets::place::bucket_index;
 use scc_common::{Keyed, Made};
-use scc_draining::count_bound;
+use scc_draining::count_destined;
 use std::hash::{BuildHasher, Hash};
 
 impl<E: Keyed, H: BuildHasher> Table<E, H>
@@ -25,12 +25,12 @@ where
 {
     /// Returns whether the bucket of `hash` would hold 32 entries or more after a doubling. `bucket` must be the bucket
     /// of `hash` in the current array, and not wait.
-    pub(crate) fn is_crowded(&self, bucket: usize, hash: u64) -> bool
+    pub(crate) fn is_full_once_doubled(&self, bucket: usize, hash: u64) -> bool
         requires within { bucket < bucket_count self.now }
         requires routed { bucket ≡ bucket_number (settings_of self.now).skipped (bucket_count self.now) hash }
         requires not_waiting { waits_at (waiting_of self.now) bucket ≡ false }
         requires below { 32 * bucket_count self.now < 2 ^ 63 }
-        ensures { result ≡ false → length (bound_for
+        ensures { result ≡ false → length (destined_for
             (λ e. key_hash H.BuildHasher H.Hasher.Hasher E.Key.hash_input self.now (E.key_of e))
             (settings_of self.now).skipped (2 * bucket_count self.now)
             (bucket_number (settings_of self.now).skipped (2 * bucket_count self.now) hash) (entries self.now)) < 32 }
@@ -39,7 +39,7 @@ where
         let count = 2 * self.bucket_count();
         let target = bucket_index(hash, self.skipped, count);
         let entry_count = self.list_len(bucket);
-        count_bound(
+        count_destined(
             &self.current,
             bucket,
             entry_count,
@@ -53,7 +53,7 @@ where
     /// key must have the hash `hash`. Relocates the bucket of `hash` at once, and then the first waiting bucket; all
     /// others wait. If memory for the bucket of `hash` is refused, that is noted, the array stays, and the result is
     /// `place`.
-    fn double_around(&mut self, place: Place, fresh: Array<E>, flags: Vec<bool>, hash: u64) -> Place
+    fn double_and_relocate(&mut self, place: Place, fresh: Array<E>, flags: Vec<bool>, hash: u64) -> Place
         requires within { place.bucket < bucket_count self.old }
         requires slot { place.slot < length (list_of self.old place.bucket) }
         requires hashed { (e : E) → slice_get (list_of self.old place.bucket) place.slot ≡ Some e
@@ -68,7 +68,7 @@ where
         self.list_facts();
         let count = 2 * self.bucket_count();
         let bucket = bucket_index(hash, self.skipped, count);
-        let slot = count_bound(
+        let slot = count_destined(
             &self.current,
             place.bucket,
             place.slot,
@@ -106,7 +106,7 @@ where
         requires more { bucket_count self.old < count }
         requires empty { fresh ≡ replicate count empty_shelf }
         requires flags { flags.items ≡ replicate count true }
-        requires room { length (bound_for (λ e. key_hash H.BuildHasher H.Hasher.Hasher E.Key.hash_input self.old
+        requires room { length (destined_for (λ e. key_hash H.BuildHasher H.Hasher.Hasher E.Key.hash_input self.old
             (E.key_of e)) (settings_of self.old).skipped count
             (bucket_number (settings_of self.old).skipped count hash) (entries self.old)) < 32 }
         requires hashed { hash ≡ key_hash H.BuildHasher H.Hasher.Hasher E.Key.hash_input self.old (E.key_of entry) }
@@ -144,7 +144,7 @@ where
         requires more { bucket_count self.old < count }
         requires empty { fresh ≡ replicate count empty_shelf }
         requires flags { flags.items ≡ replicate count true }
-        requires room { length (bound_for (λ e. key_hash H.BuildHasher H.Hasher.Hasher E.Key.hash_input self.old
+        requires room { length (destined_for (λ e. key_hash H.BuildHasher H.Hasher.Hasher E.Key.hash_input self.old
             (E.key_of e)) (settings_of self.old).skipped count
             (bucket_number (settings_of self.old).skipped count hash) (entries self.old)) < 32 }
         requires hashed { hash ≡ key_hash H.BuildHasher H.Hasher.Hasher E.Key.hash_input self.old
@@ -165,10 +165,10 @@ where
     }
 
     /// Inserts an entry made of `parts`, whose key is new, into `bucket`, and then doubles the array by
-    /// `double_around`. Returns the place of the entry. `bucket` must be the bucket of `hash`. If the entry can't be
+    /// `double_and_relocate`. Returns the place of the entry. `bucket` must be the bucket of `hash`. If the entry can't be
     /// inserted, `parts` are handed back, the growth is noted as refused, and nothing else changes.
     #[cold]
-    pub(crate) fn insert_made_crowded(
+    pub(crate) fn insert_made_and_double(
         &mut self,
         bucket: usize,
         fresh: Array<E>,
@@ -187,7 +187,7 @@ where
             parts result self.new }
     {
         match self.insert_made_in(bucket, hash, parts) {
-            Ok(place) => Ok(self.double_around(place, fresh, flags, hash)),
+            Ok(place) => Ok(self.double_and_relocate(place, fresh, flags, hash)),
             Err(back) => {
                 fresh.destroy_empty();
                 self.note(true);

@@ -24,17 +24,17 @@ returns-in-Some g c =
     let found : find p xs ≡ Some c.in-Some.entry.now = ap (find p) (sym (slots-are ws os bs c.self.view_is b c.requires.bucket)) ∙ sym c.in-Some.ensures in
     sym (find-append p xs ys ∙ ap (λ o. option_or o (find p ys)) found)
 
-pub returns-then-not-is_crowded : goal.returns-then-not-is_crowded
-returns-then-not-is_crowded g c =
+pub returns-then-not-may_overflow : goal.returns-then-not-may_overflow
+returns-then-not-may_overflow g c =
     let ws = c.self.inside.columns in let os = c.self.inside.overflow.items in let bs = c.args.self.now in let b = c.args.bucket in
     let p = λ (e : g.row.E.Denot). g.E.Key.PartialEq.eq c.args.key.now (g.E.Keyed.key_of e) in
     let xs = (shelf_of bs b).slots in let ys = (shelf_of bs b).overflow in
     let missed : find p xs ≡ None = ap (find p) (sym (slots-are ws os bs c.self.view_is b c.requires.bucket)) ∙ sym c.in-None.ensures in
-    let empty : ys ≡ [] = c.is_crowded.ensures c.if-not-is_crowded.true in
+    let empty : ys ≡ [] = c.may_overflow.ensures c.if-not-may_overflow.true in
     sym (find-append p xs ys ∙ ap (λ o. option_or o (find p ys)) missed ∙ ap (find p) empty)
 
-pub returns-else-not-is_crowded : goal.returns-else-not-is_crowded
-returns-else-not-is_crowded g c =
+pub returns-else-not-may_overflow : goal.returns-else-not-may_overflow
+returns-else-not-may_overflow g c =
     let ws = c.self.inside.columns in let os = c.self.inside.overflow.items in let bs = c.args.self.now in let b = c.args.bucket in
     let p = λ (e : g.row.E.Denot). g.E.Key.PartialEq.eq c.args.key.now (g.E.Keyed.key_of e) in
     let xs = (shelf_of bs b).slots in let ys = (shelf_of bs b).overflow in

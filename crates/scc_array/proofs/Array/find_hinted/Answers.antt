@@ -18,14 +18,14 @@ returns-in-Some g c =
     let p = λ (e : g.row.E.Denot). g.E.Key.PartialEq.eq c.args.key.now (g.E.Keyed.key_of e) in
     moved p (slots-are ws os bs c.self.view_is b c.requires.bucket) (shelf_of bs b).overflow c.in-Some.ensures
 
-pub returns-then-not-is_crowded : goal.returns-then-not-is_crowded
-returns-then-not-is_crowded g c = λ tagged.
+pub returns-then-not-may_overflow : goal.returns-then-not-may_overflow
+returns-then-not-may_overflow g c = λ tagged.
     let ws = c.self.inside.columns in let os = c.self.inside.overflow.items in let bs = c.args.self.now in let b = c.args.bucket in
     let p = λ (e : g.row.E.Denot). g.E.Key.PartialEq.eq c.args.key.now (g.E.Keyed.key_of e) in
     let xs = (shelf_of bs b).slots in let ys = (shelf_of bs b).overflow in
     let here = subst (λ (s : Shelf g.row.E.Denot). HasTag p c.args.tag s) (shelf-is ws os bs c.self.view_is b c.requires.bucket) tagged in
     let missed : find p xs ≡ None = ap (find p) (sym (slots-are ws os bs c.self.view_is b c.requires.bucket)) ∙ find-missed p _ (c.in-None.ensures here) in
-    let empty : ys ≡ [] = c.is_crowded.ensures c.if-not-is_crowded.true in
+    let empty : ys ≡ [] = c.may_overflow.ensures c.if-not-may_overflow.true in
     find-append p xs ys ∙ ap (λ o. option_or o (find p ys)) missed ∙ ap (find p) empty
 
 pub returns-in-Some-find_in_overflow : goal.returns-in-Some-find_in_overflow

@@ -8,25 +8,25 @@ pub push_to-requires : goal.push_to-requires
 push_to-requires g c =
     let ws = c.self.inside.columns in let os = c.self.inside.overflow.items in let bs = c.args.self.now in let b = c.args.bucket in
     let view = c.self.view_is in
-    opened-within ws os c.open_lists.new.lists.items bs view c.self.invariant.0 _ c.len-count.ensures.count c.in-Ok-open_lists.ensures.ok b c.requires.bucket
+    opened-within ws os c.make_lists.new.lists.items bs view c.self.invariant.0 _ c.len-count.ensures.count c.in-Ok-make_lists.ensures.ok b c.requires.bucket
 
 pub returns-clause-ok : goal.returns-clause-ok
 returns-clause-ok g c =
     let ws = c.self.inside.columns in let os = c.self.inside.overflow.items in let bs = c.args.self.now in let b = c.args.bucket in
     let view = c.self.view_is in
-    list-pushed-ok ws os c.open_lists.new.lists.items bs view c.self.invariant.0 _ c.len-count.ensures.count c.in-Ok-open_lists.ensures.ok b c.requires.bucket c.args.entry c.push_to.new.lists.items c.push_to.result c.push_to.ensures
+    list-pushed-ok ws os c.make_lists.new.lists.items bs view c.self.invariant.0 _ c.len-count.ensures.count c.in-Ok-make_lists.ensures.ok b c.requires.bucket c.args.entry c.push_to.new.lists.items c.push_to.result c.push_to.ensures
 
 pub returns-clause-err : goal.returns-clause-err
 returns-clause-err g c =
     let ws = c.self.inside.columns in let os = c.self.inside.overflow.items in let bs = c.args.self.now in let b = c.args.bucket in
     let view = c.self.view_is in
-    list-pushed-err ws os c.open_lists.new.lists.items bs view c.self.invariant.0 _ c.len-count.ensures.count c.in-Ok-open_lists.ensures.ok b c.requires.bucket c.args.entry c.push_to.new.lists.items c.push_to.result c.push_to.ensures
+    list-pushed-err ws os c.make_lists.new.lists.items bs view c.self.invariant.0 _ c.len-count.ensures.count c.in-Ok-make_lists.ensures.ok b c.requires.bucket c.args.entry c.push_to.new.lists.items c.push_to.result c.push_to.ensures
 
 pub returns-clause-refused : goal.returns-clause-refused
 returns-clause-refused g c =
     let ws = c.self.inside.columns in let os = c.self.inside.overflow.items in let bs = c.args.self.now in let b = c.args.bucket in
     let view = c.self.view_is in
-    list-pushed-refused ws os c.open_lists.new.lists.items bs view c.self.invariant.0 _ c.len-count.ensures.count c.in-Ok-open_lists.ensures.ok b c.requires.bucket c.args.entry c.push_to.new.lists.items c.push_to.result c.push_to.ensures
+    list-pushed-refused ws os c.make_lists.new.lists.items bs view c.self.invariant.0 _ c.len-count.ensures.count c.in-Ok-make_lists.ensures.ok b c.requires.bucket c.args.entry c.push_to.new.lists.items c.push_to.result c.push_to.ensures
 
 pub raise-requires-clause-bucket : goal.raise-requires-clause-bucket
 raise-requires-clause-bucket g c = rw c.len-count.ensures.count (window-within c.self.inside.columns c.self.inside.overflow.items c.args.self.now c.self.view_is c.args.bucket c.requires.bucket)
@@ -40,17 +40,17 @@ returns-in-Err-clause-refused g c =
     let none = no-room ws os c.self.inside.crowded.items c.self.invariant.1 bs c.self.view_is b c.requires.bucket (ap (λ (l : List Bool). get_or l (b / 16) false) c.in-Err.ensures.none) in
     omega (arith, none)
 
-pub returns-in-Err-open_lists-clause-refused : goal.returns-in-Err-open_lists-clause-refused
-returns-in-Err-open_lists-clause-refused g c =
+pub returns-in-Err-make_lists-clause-refused : goal.returns-in-Err-make_lists-clause-refused
+returns-in-Err-make_lists-clause-refused g c =
     let ws = c.self.inside.columns in let os = c.self.inside.overflow.items in let bs = c.args.self.now in let b = c.args.bucket in
     let view = c.self.view_is in
-    bare-refused ws os bs view b c.requires.bucket c.in-Err-open_lists.ensures.none
+    bare-refused ws os bs view b c.requires.bucket c.in-Err-make_lists.ensures.none
 
 pub invariant_of-self-2 : goal.invariant_of-self-2
 invariant_of-self-2 g c =
     let ws = c.self.inside.columns in let os = c.self.inside.overflow.items in let b = c.args.bucket in
-    let ds = c.open_lists.new.lists.items in let gs = c.raise.new.flags.items in
+    let ds = c.make_lists.new.lists.items in let gs = c.raise.new.flags.items in
     let raised = flagged-more ws os c.self.inside.crowded.items c.self.invariant.1 gs (c.in-Ok.ensures.count ∙ ap (λ n. n / 16 + 1) c.len-count.ensures.count) c.in-Ok.ensures.kept in
-    let opened = flagged-opened ws os gs raised ds _ c.in-Ok-open_lists.ensures.ok in
-    let listed = opened-array ws os ds _ c.self.invariant.0 c.len-count.ensures.count c.in-Ok-open_lists.ensures.ok in
+    let opened = flagged-opened ws os gs raised ds _ c.in-Ok-make_lists.ensures.ok in
+    let listed = opened-array ws os ds _ c.self.invariant.0 c.len-count.ensures.count c.in-Ok-make_lists.ensures.ok in
     pushed-both ws ds gs b c.args.entry c.push_to.result c.push_to.new.lists.items listed opened c.in-Ok.ensures.up c.push_to.ensures

@@ -32,14 +32,14 @@ returns-in-Some g c =
     let found : position p xs ≡ Some c.in-Some.slot = ap (position p) (sym (slots-are ws os bs view b c.requires.bucket)) ∙ sym c.find.ensures ∙ c.in-Some.is in
     sym (position-joined p xs ys ∙ ap (λ o. or_later o (length xs) (position p ys)) found)
 
-pub returns-then-not-is_crowded : goal.returns-then-not-is_crowded
-returns-then-not-is_crowded g c =
+pub returns-then-not-may_overflow : goal.returns-then-not-may_overflow
+returns-then-not-may_overflow g c =
     let ws = c.self.inside.columns in let os = c.self.inside.overflow.items in let bs = c.args.self.now in let b = c.args.bucket in
     let view = c.self.view_is in let within = window-within ws os bs view b c.requires.bucket in
     let p : g.row.E.Denot → Bool = λ e. g.E.Key.PartialEq.eq c.args.key.now (g.E.Keyed.key_of e) in
     let xs = (shelf_of bs b).slots in let ys = (shelf_of bs b).overflow in
     let missed : position p xs ≡ None = ap (position p) (sym (slots-are ws os bs view b c.requires.bucket)) ∙ sym c.find.ensures ∙ c.in-None.is in
-    let empty : ys ≡ [] = c.is_crowded.ensures c.if-not-is_crowded.true in
+    let empty : ys ≡ [] = c.may_overflow.ensures c.if-not-may_overflow.true in
     sym (position-joined p xs ys ∙ ap (λ o. or_later o (length xs) (position p ys)) missed ∙ ap (λ l. or_later None (length xs) (position p l)) empty)
 
 pub search_list-requires-clause-missed : goal.search_list-requires-clause-missed

@@ -1,7 +1,7 @@
 use Rattle.std.proofs.Common.{arith, length, set, refl, sym, ap, ◌∙◌}
 use Rattle.scc_array.proofs.Shelves.{shelf-is, seen-window, window-within, slots-are}
 use Rattle.scc_array.proofs.Array.split.Goals as goal
-use Rattle.scc_array.specs.Sifts.{ups}
+use Rattle.scc_array.specs.Sifts.{raised}
 use Rattle.scc_array.specs.Shelves.{shelf_at, shelf_of}
 use Rattle.scc_array.specs.Sifts.{unflagged_of, picked_of, shelf_unflagged, shelf_with, window_with}
 use Rattle.scc_array.specs.Windows.{window_of}
@@ -25,14 +25,14 @@ pub returns-clause-stays : goal.returns-clause-stays
 returns-clause-stays g c =
     let ws = c.self.inside.columns in let os = c.self.inside.overflow.items in let bs = c.args.self.now in let b = c.args.bucket in
     let vs = c.into.inside.columns in let ls = c.into.inside.overflow.items in let cs = c.args.into.now in let t = c.args.target in
-    let fs = ups c.args.flags.now in
+    let fs = raised c.args.flags.now in
     rw c.split.ensures.stays (seen-window ws os bs c.self.view_is b c.requires.bucket (shelf_unflagged fs) (unflagged_of fs (window_of ws b)) refl)
 
 pub returns-clause-moved : goal.returns-clause-moved
 returns-clause-moved g c =
     let ws = c.self.inside.columns in let os = c.self.inside.overflow.items in let bs = c.args.self.now in let b = c.args.bucket in
     let vs = c.into.inside.columns in let ls = c.into.inside.overflow.items in let cs = c.args.into.now in let t = c.args.target in
-    let fs = ups c.args.flags.now in
+    let fs = raised c.args.flags.now in
     rw c.split.ensures.moved (
     seen-window vs ls cs c.into.view_is t c.requires.target (λ s. shelf_with s fs (shelf_at ws os b)) (window_with (window_of vs t) (picked_of fs (window_of ws b))) refl
     ∙ ap (λ (s : Shelf g.row.E.Denot). set cs t (shelf_with (shelf_of cs t) fs s)) (sym (shelf-is ws os bs c.self.view_is b c.requires.bucket))

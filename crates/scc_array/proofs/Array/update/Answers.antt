@@ -33,13 +33,13 @@ u-requires g c =
     let first : position p (shelf_entries (shelf_of bs b)) ≡ Some c.in-Some.slot = position-joined p xs ys ∙ ap (λ o. or_later o (length xs) (position p ys)) found in
     c.requires.takes parts.0 c.parts_mut_in-value.result.0 c.parts_mut_in-value.result.1 (find-position p (shelf_entries (shelf_of bs b)) c.in-Some.slot first ∙ parts.1) parts.2 parts.3
 
-pub returns-then-not-is_crowded : goal.returns-then-not-is_crowded
-returns-then-not-is_crowded g c =
+pub returns-then-not-may_overflow : goal.returns-then-not-may_overflow
+returns-then-not-may_overflow g c =
     let ws = c.self.inside.columns in let os = c.self.inside.overflow.items in let bs = c.args.self.now in let b = c.args.bucket in
     let p : g.row.E.Denot → Bool = λ e. g.E.Key.PartialEq.eq c.args.key.now (g.E.Keyed.key_of e) in
     let xs = (shelf_of bs b).slots in let ys = (shelf_of bs b).overflow in
     let missed : position p xs ≡ None = ap (position p) (sym (slots-are ws os bs c.self.view_is b c.requires.bucket)) ∙ sym c.in-None.ensures in
-    let empty : ys ≡ [] = c.is_crowded.ensures c.if-not-is_crowded.true in
+    let empty : ys ≡ [] = c.may_overflow.ensures c.if-not-may_overflow.true in
     (position-joined p xs ys ∙ ap (λ o. or_later o (length xs) (position p ys)) missed ∙ ap (λ l. or_later None (length xs) (position p l)) empty, refl)
 
 pub update_list-requires-clause-missed : goal.update_list-requires-clause-missed

@@ -62,8 +62,8 @@ returns-in-Some g c =
     let out : IsTakenOut p bs i ds j c.in-Some.entry = took.2 in
     taken-first p hash c.args.hash t.skipped t.length t.overflowing i bs c.self.invariant.table same (search rules) (search rules) _ c.args.self.now c.self.view_is ds j c.in-Some.entry out
 
-pub returns-then-not-is_crowded : goal.returns-then-not-is_crowded
-returns-then-not-is_crowded g c =
+pub returns-then-not-may_overflow : goal.returns-then-not-may_overflow
+returns-then-not-may_overflow g c =
     let t = c.self.inside in
     let bs = t.buckets in
     let i = c.bucket_index-bucket.result in
@@ -73,7 +73,7 @@ returns-then-not-is_crowded g c =
     let same : HashOf p hash c.args.hash = record { same = λ x w. sym (hashed ∙ ap (hash_of g.H.BuildHasher g.H.Hasher.Hasher t.hasher) (g.met.E.Key.Hash.respects_eq c.args.key.now (g.E.Keyed.key_of x) w)) } in
     let ds = c.take_in_slots.new.self in
     let stays : ds ≡ bs = c.in-None.ensures.1 in
-    let empty : (shelf_of bs i).overflow ≡ [] = subst (λ (z : List (Shelf g.row.E.Denot)). (shelf_of z i).overflow ≡ []) stays (c.is_crowded.ensures c.if-not-is_crowded.true) in
+    let empty : (shelf_of bs i).overflow ≡ [] = subst (λ (z : List (Shelf g.row.E.Denot)). (shelf_of z i).overflow ≡ []) stays (c.may_overflow.ensures c.if-not-may_overflow.true) in
     missed-places p hash c.args.hash t.skipped t.length t.overflowing i bs c.self.invariant.table same (search rules) (search rules) _ c.args.self.now c.self.view_is c.in-None.ensures.0 empty ds stays
 
 pub invariant_of-self-in-Some-take_in_overflow : goal.invariant_of-self-in-Some-take_in_overflow

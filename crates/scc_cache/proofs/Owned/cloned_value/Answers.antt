@@ -1,5 +1,5 @@
 use Rattle.std.proofs.Common.{◌∙◌, sym}
-use Rattle.scc_table.proofs.Same.{any-err}
+use Rattle.scc_table.proofs.arrays.SameParts.{any-err}
 use Rattle.scc_cache.proofs.Found.{missing-found, there-found}
 use Rattle.scc_cache.proofs.Owned.cloned_value.Goals as goal
 

@@ -1,5 +1,5 @@
 use Rattle.std.proofs.Common.{◌≤◌, ◌*◌, sym, refl, subst}
-use Rattle.scc_table.proofs.Same.{count-same}
+use Rattle.scc_table.proofs.arrays.SameParts.{count-same}
 use Rattle.scc_cache.proofs.Caching.{state-after}
 use Rattle.scc_cache.proofs.Owned.drop_room.Goals as goal
 

@@ -3,7 +3,7 @@ use Rattle.std.specs.List.{slice_get}
 use Rattle.std.proofs.lemmas.List.{get_or_past}
 use Rattle.scc_common.specs.Contents.{bucket_count, list_of, lists_of, settings_of}
 use Rattle.scc_common.specs.Routing.{bucket_number}
-use Rattle.scc_table.proofs.Relocated.{count-is, list-is}
+use Rattle.scc_table.proofs.relocations.Fields.{count-is, list-is}
 use Rattle.scc_cache.proofs.Owned.first_of_full.Goals as goal
 
 pub returns-then-bucket_count-eq0-clause-none : goal.returns-then-bucket_count-eq0-clause-none

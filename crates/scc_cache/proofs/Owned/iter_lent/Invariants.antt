@@ -2,7 +2,7 @@ use Rattle.std.proofs.Common.{◌-◌, Bool, length, drop, IfSome, true}
 use Rattle.scc_common.specs.Contents.{entries}
 use Rattle.scc_table.specs.Places.{IsPlace}
 use Rattle.scc_common.specs.Walks.{CalledOn, CallableWhile, Walks}
-use Rattle.scc_table.proofs.Reached.{reached}
+use Rattle.scc_table.proofs.walks.Reach.{reached}
 use Rattle.scc_cache.proofs.Owned.iter_lent.Given as goal
 
 abbrev pub invariant-loop-at : goal.invariant-loop-at

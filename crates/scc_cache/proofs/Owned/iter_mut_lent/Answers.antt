@@ -3,7 +3,7 @@ use Rattle.std.proofs.lemmas.List.Sorted.{IsPermutation-refl, length_permutation
 use Rattle.scc_buckets.specs.Bounded.{MayShrinkWithin, ShrinksBounded}
 use Rattle.scc_common.specs.Contents.{entries}
 use Rattle.scc_common.specs.Hashing.{hash_of}
-use Rattle.scc_table.proofs.Takings.{takes-count}
+use Rattle.scc_table.proofs.walks.Takes.{takes-count}
 use Rattle.scc_table.specs.Relocates.{Spreads}
 use Rattle.scc_cache.proofs.Relocations.{kept-none, shrunk-none}
 use Rattle.scc_cache.proofs.Caching.{shrunk-within, state-after}

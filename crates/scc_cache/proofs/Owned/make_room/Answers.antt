@@ -5,7 +5,7 @@ use Rattle.scc_common.specs.Contents.{bucket_count, settings_of}
 use Rattle.scc_common.specs.Hashing.{hash_of}
 use Rattle.scc_common.specs.Routing.{bucket_number}
 use Rattle.scc_table.specs.Bounded.{GrowsBelow, IsPreparedBelow}
-use Rattle.scc_table.proofs.Finishing.{pending-is}
+use Rattle.scc_table.proofs.relocations.OneByOne.{pending-is}
 use Rattle.scc_cache.proofs.Caching.{grown-within, state-after}
 use Rattle.scc_cache.specs.Caches.{Cached}
 use Rattle.scc_cache.proofs.Owned.make_room.Goals as goal

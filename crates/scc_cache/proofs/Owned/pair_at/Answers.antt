@@ -1,6 +1,6 @@
 use Rattle.std.proofs.Common.{sym, subst}
 use Rattle.scc_table.specs.Places.{IsPlace, spot_of}
-use Rattle.scc_table.proofs.TakenFrom.{got-there}
+use Rattle.scc_table.proofs.removals.OneList.{got-there}
 use Rattle.scc_cache.proofs.Owned.pair_at.Goals as goal
 
 pub pair_at-requires : goal.pair_at-requires

@@ -4,8 +4,8 @@ use Rattle.std.specs.List.Sorted.{IsPermutation}
 use Rattle.scc_buckets.specs.Bounded.{IsListed}
 use Rattle.scc_table.specs.Bounded.{GrowsBelow}
 use Rattle.scc_table.specs.Relocates.{left_after}
-use Rattle.scc_table.proofs.Same.{count-same, entries-same, pending-same}
-use Rattle.scc_table.proofs.Targets.{targets-same}
+use Rattle.scc_table.proofs.arrays.SameParts.{count-same, entries-same, pending-same}
+use Rattle.scc_table.proofs.relocations.Targets.{targets-same}
 use Rattle.scc_common.specs.Contents.{entries, bucket_count, lists_of, pending_of, settings_of}
 use Rattle.scc_common.specs.Hashing.{hash_of}
 use Rattle.scc_common.specs.Routing.{bucket_number}

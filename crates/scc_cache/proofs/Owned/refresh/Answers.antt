@@ -4,7 +4,7 @@ use Rattle.scc_common.specs.Hashing.{hash_of}
 use Rattle.scc_common.specs.Routing.{bucket_number}
 use Rattle.scc_buckets.proofs.Bounds.{unlisted-none}
 use Rattle.scc_table.specs.TwoArrays.{waits_at}
-use Rattle.scc_table.proofs.SearchingLemmas.{not_true}
+use Rattle.scc_table.proofs.places.Searches.{not_true}
 use Rattle.scc_cache.proofs.Caching.{is-lacking}
 use Rattle.scc_cache.proofs.Relocations.{any-some, not_waiting-one}
 use Rattle.scc_cache.proofs.Owned.refresh.Goals as goal

@@ -3,8 +3,8 @@ use Rattle.std.specs.List.{position}
 use Rattle.scc_common.specs.Contents.{bucket_count, settings_of}
 use Rattle.scc_common.specs.Hashing.{hash_of}
 use Rattle.scc_common.specs.Routing.{bucket_number}
-use Rattle.scc_table.proofs.Listing.{absent-list}
-use Rattle.scc_table.proofs.Same.{count-same, entries-same}
+use Rattle.scc_table.proofs.insertions.AtEnds.{absent-list}
+use Rattle.scc_table.proofs.arrays.SameParts.{count-same, entries-same}
 use Rattle.scc_cache.proofs.Caching.{is-lacking, state-after}
 use Rattle.scc_cache.proofs.Relocations.{any-some, refreshed-from, relocated-one}
 use Rattle.scc_cache.proofs.Owned.refresh_after_relocation.Goals as goal

@@ -6,8 +6,8 @@ use Rattle.scc_common.specs.Routing.{bucket_number}
 use Rattle.scc_buckets.specs.declared.place.Place.{Place}
 use Rattle.scc_table.specs.Places.{spot_of}
 use Rattle.scc_table.specs.TwoArrays.{waits_at}
-use Rattle.scc_table.proofs.OldSpots.{spot-own}
-use Rattle.scc_table.proofs.SearchingLemmas.{not_true}
+use Rattle.scc_table.proofs.places.OldSpots.{spot-own}
+use Rattle.scc_table.proofs.places.Searches.{not_true}
 use Rattle.scc_cache.proofs.Caching.{at-spot, is-missing, is-there, last-length, last-place, list-count, position-passes, sets-list, state-after}
 use Rattle.scc_cache.proofs.Owned.refresh_in_bucket.Goals as goal
 

@@ -5,8 +5,8 @@ use Rattle.scc_common.specs.Hashing.{hash_of}
 use Rattle.scc_common.specs.Contents.{entries}
 use Rattle.scc_table.specs.Places.{IsPlace, index_of, spot_of}
 use Rattle.scc_table.specs.Relocates.{Spreads}
-use Rattle.scc_table.proofs.Listing.{listed-removed}
-use Rattle.scc_table.proofs.Short.{listed-anew}
+use Rattle.scc_table.proofs.insertions.AtEnds.{listed-removed}
+use Rattle.scc_table.proofs.relocations.ShortLists.{listed-anew}
 use Rattle.scc_cache.proofs.Caching.{list-count, lists-set, shrunk-within, state-after}
 use Rattle.scc_cache.proofs.LookUps.{finds-taken}
 use Rattle.scc_cache.proofs.Relocations.{shrunk-none}

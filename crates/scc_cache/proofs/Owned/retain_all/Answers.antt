@@ -2,11 +2,11 @@ use Rattle.std.proofs.Common.{◌≡◌, ◌∙◌, ◌++◌, [], refl, length, 
 use Rattle.scc_common.specs.Contents.{entries}
 use Rattle.scc_common.specs.PairWalks.{CalledToWrite, Retains, ended}
 use Rattle.scc_buckets.proofs.Placed.{drop-all}
-use Rattle.scc_table.proofs.WalkReached.{take-all}
+use Rattle.scc_table.proofs.walks.Steps.{take-all}
 use Rattle.scc_table.specs.Places.{spot_of}
-use Rattle.scc_table.proofs.Reached.{walk_spot}
-use Rattle.scc_table.proofs.SpotVisits.{first-spot, place-after, kept-spot, others-out, took-spot}
-use Rattle.scc_table.proofs.Visits.{kept-nearer, took-nearer, retains-kept, retains-removed, turn-here, turn-kept, turn-removed}
+use Rattle.scc_table.proofs.walks.Reach.{walk_spot}
+use Rattle.scc_table.proofs.walks.Spots.{first-spot, place-after, kept-spot, others-out, took-spot}
+use Rattle.scc_table.proofs.walks.Visits.{kept-nearer, took-nearer, retains-kept, retains-removed, turn-here, turn-kept, turn-removed}
 use Rattle.scc_cache.proofs.Walked.{visits}
 use Rattle.scc_cache.proofs.Owned.retain_all.Goals as goal
 

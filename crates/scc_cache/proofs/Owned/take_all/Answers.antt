@@ -1,5 +1,5 @@
 use Rattle.std.proofs.Common.{refl}
-use Rattle.scc_table.proofs.Reached.{reached-first}
+use Rattle.scc_table.proofs.walks.Reach.{reached-first}
 use Rattle.scc_cache.proofs.Walking.{left-shorter}
 use Rattle.scc_cache.proofs.Owned.take_all.Goals as goal
 

@@ -1,7 +1,7 @@
 use Rattle.std.proofs.Common.{◌≡◌, length, IfSome}
 use Rattle.scc_common.specs.Contents.{entries, bucket_count, settings_of, refused_of, waiting_of}
 use Rattle.scc_table.specs.Places.{IsPlace}
-use Rattle.scc_table.proofs.Reached.{reached}
+use Rattle.scc_table.proofs.walks.Reach.{reached}
 use Rattle.scc_cache.proofs.Owned.take_all.Given as goal
 
 abbrev pub invariant-loop-at : goal.invariant-loop-at

@@ -2,13 +2,13 @@ use Rattle.std.proofs.Common.{◌≡◌, ◌∙◌, ◌++◌, ◌∷◌, [], sym
 use Rattle.scc_common.specs.Contents.{entries}
 use Rattle.scc_common.specs.PairWalks.{CalledToWrite, Takes, ended}
 use Rattle.scc_buckets.proofs.Placed.{drop-all}
-use Rattle.scc_table.proofs.WalkReached.{take-all}
+use Rattle.scc_table.proofs.walks.Steps.{take-all}
 use Rattle.scc_table.specs.Places.{spot_of}
-use Rattle.scc_table.proofs.Reached.{walk_spot}
-use Rattle.scc_table.proofs.SpotVisits.{first-spot, place-after, kept-spot, others-out, pair-out, took-spot}
-use Rattle.scc_table.proofs.Takings.{takes-refused, takes-kept, takes-kept_last, takes-took, takes-took_last}
+use Rattle.scc_table.proofs.walks.Reach.{walk_spot}
+use Rattle.scc_table.proofs.walks.Spots.{first-spot, place-after, kept-spot, others-out, pair-out, took-spot}
+use Rattle.scc_table.proofs.walks.Takes.{takes-refused, takes-kept, takes-kept_last, takes-took, takes-took_last}
 use Rattle.scc_cache.proofs.Walked.{visits}
-use Rattle.scc_table.proofs.Visits.{kept-nearer, took-nearer, turn-here, turn-kept, turn-removed}
+use Rattle.scc_table.proofs.walks.Visits.{kept-nearer, took-nearer, turn-here, turn-kept, turn-removed}
 use Rattle.scc_cache.proofs.Owned.take_walk.Goals as goal
 
 pub loop-at-init : goal.loop-at-init

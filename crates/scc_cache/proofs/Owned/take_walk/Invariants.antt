@@ -4,8 +4,8 @@ use Rattle.scc_common.specs.Contents.{entries, bucket_count, settings_of, refuse
 use Rattle.scc_table.specs.Places.{IsPlace}
 use Rattle.scc_common.specs.declared.errors.WalkError.{WalkError}
 use Rattle.scc_common.specs.PairWalks.{CallableToWrite, CalledToWrite, GoesOn, Takes}
-use Rattle.scc_table.proofs.WalkReached.{reached}
-use Rattle.scc_table.proofs.Reached.{walk_spot}
+use Rattle.scc_table.proofs.walks.Steps.{reached}
+use Rattle.scc_table.proofs.walks.Reach.{walk_spot}
 use Rattle.scc_cache.proofs.Owned.take_walk.Given as goal
 
 abbrev pub invariant-loop-at : goal.invariant-loop-at

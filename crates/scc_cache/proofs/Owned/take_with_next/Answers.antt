@@ -1,8 +1,8 @@
 use Rattle.std.proofs.Common.{sym, subst, arith, rules}
 use Rattle.scc_common.specs.Hashing.{hash_of}
 use Rattle.scc_table.specs.Places.{IsPlace, spot_of}
-use Rattle.scc_table.proofs.Listing.{listed-removed}
-use Rattle.scc_table.proofs.Short.{listed-anew}
+use Rattle.scc_table.proofs.insertions.AtEnds.{listed-removed}
+use Rattle.scc_table.proofs.relocations.ShortLists.{listed-anew}
 use Rattle.scc_cache.proofs.Caching.{list-count, state-after}
 use Rattle.scc_cache.proofs.Owned.take_with_next.Goals as goal
 

@@ -2,7 +2,7 @@ use Rattle.std.proofs.Common.{◌≡◌, ℕ, refl, sym, inl, inr, subst, rules}
 use Rattle.scc_common.specs.Contents.{entries}
 use Rattle.scc_common.specs.Pairs.{find}
 use Rattle.scc_common.specs.Steps.{IsPreparedAt}
-use Rattle.scc_table.proofs.Same.{hash-same}
+use Rattle.scc_table.proofs.arrays.SameParts.{hash-same}
 use Rattle.scc_calls.proofs.MapCalls.{by-find}
 use Rattle.scc_calls.proofs.index_calls.prepare_key.Goals as goal
 

@@ -3,7 +3,7 @@ use Rattle.scc_common.specs.Contents.{entries}
 use Rattle.scc_common.specs.Hashing.{hash_of}
 use Rattle.scc_common.specs.Pairs.{find}
 use Rattle.scc_common.specs.Steps.{IsPreparedAt}
-use Rattle.scc_table.proofs.Same.{hash-same}
+use Rattle.scc_table.proofs.arrays.SameParts.{hash-same}
 use Rattle.scc_calls.proofs.MapCalls.{by-find, refuses-still}
 use Rattle.scc_calls.proofs.map_calls.prepare_key.Goals as goal
 

@@ -3,8 +3,8 @@ use Rattle.std.specs.List.{flat_map}
 use Rattle.scc_array.specs.Shelves.{shelf_of}
 use Rattle.scc_array.specs.Shelf.{shelf_entries}
 use Rattle.scc_common.specs.Contents.{key_hash}
-use Rattle.scc_buckets.specs.Pour.{bound_for}
-use Rattle.scc_draining.proofs.Counted.{bound-le, total-start, total-end, total-more, part-le}
+use Rattle.scc_buckets.specs.Pour.{destined_for}
+use Rattle.scc_draining.proofs.Counted.{destined-le, total-start, total-end, total-more, part-le}
 use Rattle.scc_draining.proofs.relocate.count_all.Goals as goal
 
 pub loop-source-init : goal.loop-source-init
@@ -25,8 +25,8 @@ overflow_add-found g c =
     let hash = λ (e : g.row.E.Denot). key_hash g.H.BuildHasher g.H.Hasher.Hasher g.E.Key.Hash.hash_input c.args.table.now (g.E.Keyed.key_of e) in
     let l : c.loop-source.source < length c.args.old.now = omega (arith, c.requires.sources.within) in
     let m = part-le c.args.old.now c.loop-source.source l in
-    let a = bound-le hash c.args.skipped c.args.count c.args.target (flat_map shelf_entries (take c.loop-source.source c.args.old.now)) in
-    let b = bound-le hash c.args.skipped c.args.count c.args.target (shelf_entries (shelf_of c.args.old.now c.loop-source.source)) in
+    let a = destined-le hash c.args.skipped c.args.count c.args.target (flat_map shelf_entries (take c.loop-source.source c.args.old.now)) in
+    let b = destined-le hash c.args.skipped c.args.count c.args.target (shelf_entries (shelf_of c.args.old.now c.loop-source.source)) in
     omega (arith, c.requires.most, c.loop-source.invariant, c.count_in-found.ensures)
 
 pub loop-source-preserved : goal.loop-source-preserved
@@ -42,5 +42,5 @@ returns g c =
     let order = c.requires.sources.order in
     let upper = c.loop-source.auto.source-end order in
     let at : c.loop-source.source ≡ c.args.last = omega arith in
-    c.loop-source.invariant ∙ ap (λ m. length (bound_for hash c.args.skipped c.args.count c.args.target (flat_map shelf_entries (take m c.args.old.now)))) at
+    c.loop-source.invariant ∙ ap (λ m. length (destined_for hash c.args.skipped c.args.count c.args.target (flat_map shelf_entries (take m c.args.old.now)))) at
     ∙ total-end hash c.args.skipped c.args.count c.args.target c.args.first c.args.last c.args.old.now c.requires.sources

@@ -3,7 +3,7 @@ use Rattle.scc_array.specs.Shelves.{shelf_of}
 use Rattle.scc_array.specs.Shelf.{shelf_entries}
 use Rattle.scc_common.specs.Contents.{key_hash}
 use Rattle.scc_common.specs.Routing.{bucket_number}
-use Rattle.scc_draining.proofs.Counted.{bound-le, counts-one, counts-none}
+use Rattle.scc_draining.proofs.Counted.{destined-le, counts-one, counts-none}
 use Rattle.scc_draining.proofs.relocate.count_in.Goals as goal
 use Rattle.scc_draining.proofs.relocate.count_in.Goals.{then-bucket_index-target, else-bucket_index-target}
 
@@ -11,7 +11,7 @@ pub overflow_add-found : goal.overflow_add-found
 overflow_add-found g c =
     let hash = λ (e : g.row.E.Denot). key_hash g.H.BuildHasher g.H.Hasher.Hasher g.E.Key.Hash.hash_input c.args.table.now (g.E.Keyed.key_of e) in
     let es = shelf_entries (shelf_of c.args.old.now c.args.source) in
-    let m = bound-le hash c.args.skipped c.args.count c.args.target (take c.loop-place.place es) in
+    let m = destined-le hash c.args.skipped c.args.count c.args.target (take c.loop-place.place es) in
     let n = length-take c.loop-place.place es in
     omega (arith, c.loop-place.invariant, c.bucket_len-entry_count.ensures, c.requires.few)
 

@@ -2,7 +2,7 @@ use Rattle.scc_common.specs.Contents.{key_hash}
 use Rattle.std.proofs.Common.{◌≡◌, sym, arith, rules, subst}
 use Rattle.scc_array.specs.Shelves.{shelf_of}
 use Rattle.scc_array.specs.Shelf.{shelf_entries}
-use Rattle.scc_buckets.specs.Pour.{bound_for}
+use Rattle.scc_buckets.specs.Pour.{destined_for}
 use Rattle.scc_draining.proofs.Buckets.{first-own, still-within, later-own}
 use Rattle.scc_draining.proofs.Draining.{DrainsUntil, drain-start, drain-end, drain-room, drain-step}
 use Rattle.scc_draining.proofs.relocate.drain.Goals as goal
@@ -29,7 +29,7 @@ pub pull-requires-clause-joined : goal.pull-requires-clause-joined
 pull-requires-clause-joined g c =
     let hash = λ (e : g.row.E.Denot). key_hash g.H.BuildHasher g.H.Hasher.Hasher g.E.Key.Hash.hash_input c.args.table.now (g.E.Keyed.key_of e) in
     let u = c.loop-source.invariant.0 in
-    λ whole. subst (λ s. bound_for hash c.args.task.skipped c.args.count c.args.task.target (shelf_entries s) ≡ shelf_entries s) (sym (u.left c.loop-source.source (omega arith)))
+    λ whole. subst (λ s. destined_for hash c.args.task.skipped c.args.count c.args.task.target (shelf_entries s) ≡ shelf_entries s) (sym (u.left c.loop-source.source (omega arith)))
     ((c.requires.drainable.joined whole).all c.loop-source.source c.loop-source.auto.source c.loop-source-test.true)
 
 pub loop-source-preserved : goal.loop-source-preserved

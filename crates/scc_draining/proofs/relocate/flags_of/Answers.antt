@@ -9,7 +9,7 @@ use Rattle.scc_array.proofs.ListsLemmas.{get-left}
 use Rattle.scc_common.specs.Contents.{key_hash}
 use Rattle.scc_common.specs.Routing.{bucket_number}
 use Rattle.scc_draining.proofs.relocate.flags_of.Goals as goal
-use Rattle.scc_array.specs.Sifts.{ups}
+use Rattle.scc_array.specs.Sifts.{raised}
 
 one-or-zero : (b : Bool) → (bool_byte b == 1) ≡ b
 one-or-zero true = refl
@@ -19,10 +19,10 @@ pub loop-place-preserved : goal.loop-place-preserved
 loop-place-preserved g c =
     let p = c.loop-place.place in
     let flag = bool_byte (c.bucket_index.result == c.args.task.target) in
-    let bits = ups c.loop-place.flags in
+    let bits = raised c.loop-place.flags in
     let many = length-map c.loop-place.flags (λ x. x == 1) in
     let up : (flag == 1) ≡ (c.bucket_index.result == c.args.task.target) = one-or-zero (c.bucket_index.result == c.args.task.target) in
-    let next : ups (set c.loop-place.flags p flag) ≡ set bits p (c.bucket_index.result == c.args.task.target) = map-set (λ x. x == 1) c.loop-place.flags p flag ∙ ap (λ b. set bits p b) up in
+    let next : raised (set c.loop-place.flags p flag) ≡ set bits p (c.bucket_index.result == c.args.task.target) = map-set (λ x. x == 1) c.loop-place.flags p flag ∙ ap (λ b. set bits p b) up in
     let xs = (shelf_of c.args.old.now c.args.source).slots in let os = (shelf_of c.args.old.now c.args.source).overflow in
     let number = λ (e : g.row.E.Denot). bucket_number c.args.task.skipped c.args.count (key_hash g.H.BuildHasher g.H.Hasher.Hasher g.E.Key.Hash.hash_input c.args.table.now (g.E.Keyed.key_of e)) in
     let x = c.entry_of.result.now in

@@ -4,7 +4,7 @@ use Rattle.std.specs.List.{flat_map, IsDistinct}
 use Rattle.scc_array.specs.Shelves.{shelf_of}
 use Rattle.scc_array.specs.Shelf.{Shelf, shelf_entries}
 use Rattle.scc_common.specs.Contents.{bucket_count, key_hash, lists_of, settings_of}
-use Rattle.scc_buckets.specs.Pour.{bound_for}
+use Rattle.scc_buckets.specs.Pour.{destined_for}
 use Rattle.scc_buckets.specs.Tables.{IsBuckets}
 use Rattle.scc_buckets.proofs.Arrays.{shelf-at}
 use Rattle.scc_buckets.proofs.Inserts.{table-bound, bucket-bound}
@@ -67,7 +67,7 @@ bucket_len-moved-requires-clause-few g c =
     let n = c.fill-filled.new.into in
     let d = shelf_of n i in
     let others : n ≡ set bs i d = c.fill-filled.ensures.others in
-    let most : length (bound_for hash t (length bs) i es) ≤ c.args.coming = rw (c.requires.skips, counted) at c.requires.coming in
+    let most : length (destined_for hash t (length bs) i es) ≤ c.args.coming = rw (c.requires.skips, counted) at c.requires.coming in
     let ok = rw c.install-fresh.ensures.settings at c.fill-filled.ensures.ok in
     let buckets : c.len-buckets.result ≡ length bs = search rules in
     let landed = landed-from hash t i bs c.args.old.now c.fill-filled.new.old d c.left_of-left.result c.args.coming c.args.task.skipped c.len-buckets.result c.requires.skips buckets most c.fill-filled.result ok c.fill-filled.ensures.few c.fill-filled.ensures.stays in
@@ -93,7 +93,7 @@ overflow_add-count g c =
     let n = c.fill-filled.new.into in
     let d = shelf_of n i in
     let others : n ≡ set bs i d = c.fill-filled.ensures.others in
-    let most : length (bound_for hash t (length bs) i es) ≤ c.args.coming = rw (c.requires.skips, counted) at c.requires.coming in
+    let most : length (destined_for hash t (length bs) i es) ≤ c.args.coming = rw (c.requires.skips, counted) at c.requires.coming in
     let ok = rw c.install-fresh.ensures.settings at c.fill-filled.ensures.ok in
     let buckets : c.len-buckets.result ≡ length bs = search rules in
     let landed = landed-from hash t i bs c.args.old.now c.fill-filled.new.old d c.left_of-left.result c.args.coming c.args.task.skipped c.len-buckets.result c.requires.skips buckets most c.fill-filled.result ok c.fill-filled.ensures.few c.fill-filled.ensures.stays in
@@ -120,7 +120,7 @@ overflow_add-overflowing g c =
     let n = c.fill-filled.new.into in
     let d = shelf_of n i in
     let others : n ≡ set bs i d = c.fill-filled.ensures.others in
-    let most : length (bound_for hash t (length bs) i es) ≤ c.args.coming = rw (c.requires.skips, counted) at c.requires.coming in
+    let most : length (destined_for hash t (length bs) i es) ≤ c.args.coming = rw (c.requires.skips, counted) at c.requires.coming in
     let ok = rw c.install-fresh.ensures.settings at c.fill-filled.ensures.ok in
     let buckets : c.len-buckets.result ≡ length bs = search rules in
     let landed = landed-from hash t i bs c.args.old.now c.fill-filled.new.old d c.left_of-left.result c.args.coming c.args.task.skipped c.len-buckets.result c.requires.skips buckets most c.fill-filled.result ok c.fill-filled.ensures.few c.fill-filled.ensures.stays in
@@ -147,7 +147,7 @@ install-none-requires-clause-table g c =
     let n = c.fill-filled.new.into in
     let d = shelf_of n i in
     let others : n ≡ set bs i d = c.fill-filled.ensures.others in
-    let most : length (bound_for hash t (length bs) i es) ≤ c.args.coming = rw (c.requires.skips, counted) at c.requires.coming in
+    let most : length (destined_for hash t (length bs) i es) ≤ c.args.coming = rw (c.requires.skips, counted) at c.requires.coming in
     let ok = rw c.install-fresh.ensures.settings at c.fill-filled.ensures.ok in
     let buckets : c.len-buckets.result ≡ length bs = search rules in
     let landed = landed-from hash t i bs c.args.old.now c.fill-filled.new.old d c.left_of-left.result c.args.coming c.args.task.skipped c.len-buckets.result c.requires.skips buckets most c.fill-filled.result ok c.fill-filled.ensures.few c.fill-filled.ensures.stays in
@@ -174,13 +174,13 @@ install-none-requires-clause-unique g c =
     let n = c.fill-filled.new.into in
     let d = shelf_of n i in
     let others : n ≡ set bs i d = c.fill-filled.ensures.others in
-    let most : length (bound_for hash t (length bs) i es) ≤ c.args.coming = rw (c.requires.skips, counted) at c.requires.coming in
+    let most : length (destined_for hash t (length bs) i es) ≤ c.args.coming = rw (c.requires.skips, counted) at c.requires.coming in
     let ok = rw c.install-fresh.ensures.settings at c.fill-filled.ensures.ok in
     let buckets : c.len-buckets.result ≡ length bs = search rules in
     let landed = landed-from hash t i bs c.args.old.now c.fill-filled.new.old d c.left_of-left.result c.args.coming c.args.task.skipped c.len-buckets.result c.requires.skips buckets most c.fill-filled.result ok c.fill-filled.ensures.few c.fill-filled.ensures.stays in
     let there = rw (c.requires.skips, counted) at c.requires.unique in
     subst (λ (z : List (Shelf g.row.E.Denot)). IsDistinct g.E.Key.PartialEq.eq (map g.E.Keyed.key_of (flat_map shelf_entries z))) (sym others)
-    (distinct-landed g.E.Key.PartialEq.eq g.E.Keyed.key_of cur bs were i d (bound_for hash t (length bs) i es) b l at bare (landed-list hash t i bs b es c.left_of-left.result d landed) c.list_facts.ensures.unique there)
+    (distinct-landed g.E.Key.PartialEq.eq g.E.Keyed.key_of cur bs were i d (destined_for hash t (length bs) i es) b l at bare (landed-list hash t i bs b es c.left_of-left.result d landed) c.list_facts.ensures.unique there)
 
 pub left_of-left-requires : goal.left_of-left-requires
 left_of-left-requires g c = omega (arith, c.install-fresh.ensures.overflowing, c.requires.aside)
@@ -236,7 +236,7 @@ returns-in-Ok g c =
     let n = c.fill-filled.new.into in
     let d = shelf_of n i in
     let others : n ≡ set bs i d = c.fill-filled.ensures.others in
-    let most : length (bound_for hash t (length bs) i es) ≤ c.args.coming = rw (c.requires.skips, counted) at c.requires.coming in
+    let most : length (destined_for hash t (length bs) i es) ≤ c.args.coming = rw (c.requires.skips, counted) at c.requires.coming in
     let ok = rw c.install-fresh.ensures.settings at c.fill-filled.ensures.ok in
     let buckets : c.len-buckets.result ≡ length bs = search rules in
     let moved : c.bucket_len-moved.result ≡ length (shelf_entries d) = c.bucket_len-moved.ensures in

@@ -3,8 +3,8 @@ use Rattle.scc_array.specs.Shelves.{shelf_of}
 use Rattle.scc_array.specs.Shelf.{shelf_entries}
 use Rattle.scc_common.specs.Contents.{key_hash}
 use Rattle.scc_common.specs.Routing.{bucket_number}
-use Rattle.scc_buckets.specs.Pour.{bound_for}
-use Rattle.scc_draining.proofs.Stepped.{before-end, bound-skip}
+use Rattle.scc_buckets.specs.Pour.{destined_for}
+use Rattle.scc_draining.proofs.Stepped.{before-end, destined-skip}
 use Rattle.scc_draining.proofs.walk.slot_from.Goals as goal
 
 pub returns-then-bucket_index-target : goal.returns-then-bucket_index-target
@@ -27,7 +27,7 @@ loop-place-preserved g c =
     let number = c.bucket_index.ensures.value ∙ ap (bucket_number c.args.skipped c.args.count) hashed in
     record {
       on = omega (arith, c.loop-place.invariant.on);
-      none = bound-skip olds j hash c.args.skipped c.args.count c.args.target s c.entry_at.result.now c.entry_at.ensures (λ z. c.if-bucket_index-target.false (number ∙ sym z)) ∙ c.loop-place.invariant.none;
+      none = destined-skip olds j hash c.args.skipped c.args.count c.args.target s c.entry_at.result.now c.entry_at.ensures (λ z. c.if-bucket_index-target.false (number ∙ sym z)) ∙ c.loop-place.invariant.none;
     }
 
 pub returns : goal.returns
@@ -37,4 +37,4 @@ returns g c =
     let j = c.args.source in
     let s = c.loop-place.place in
     let far : length (shelf_entries (shelf_of olds j)) ≤ s = omega (arith, c.bucket_len-place-end.ensures) in
-    sym c.loop-place.invariant.none ∙ ap (bound_for hash c.args.skipped c.args.count c.args.target) (before-end olds j s c.requires.source far)
+    sym c.loop-place.invariant.none ∙ ap (destined_for hash c.args.skipped c.args.count c.args.target) (before-end olds j s c.requires.source far)

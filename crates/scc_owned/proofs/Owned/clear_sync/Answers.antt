@@ -3,8 +3,8 @@ use Rattle.scc_common.specs.Contents.{entries, bucket_count, minimum_of}
 use Rattle.std.proofs.lemmas.List.Sorted.{length_permutation}
 use Rattle.scc_buckets.proofs.Standing.{length-zero}
 use Rattle.scc_buckets.proofs.Resizes.{smaller-by, shrinks-after}
-use Rattle.scc_table.proofs.Takings.{holds-after}
-use Rattle.scc_table.proofs.Relocations.{shrunk-after}
+use Rattle.scc_table.proofs.walks.Takes.{holds-after}
+use Rattle.scc_table.proofs.relocations.AfterWrites.{shrunk-after}
 use Rattle.scc_owned.proofs.Owned.clear_sync.Goals as goal
 
 pub returns : goal.returns

@@ -1,8 +1,8 @@
 -- The sum so far is the sum of the first receipts.
 use Rattle.std.proofs.Common.{◌≡◌, min, take}
 use Rattle.std.specs.List.{sum_by}
-use Rattle.scc_play.specs.Answered.{number_of}
+use Rattle.scc_recorded.specs.Adds.{number_or_zero}
 use Rattle.scc_play.proofs.receipts.sum_of.Given as goal
 
 abbrev pub invariant-loop-receipt : goal.invariant-loop-receipt
-invariant-loop-receipt g l = l.sum ≡ min 18446744073709551615 (sum_by (λ r. number_of (g.P.WholeCalls.counted r.reply)) (take l.receipt-index l.receipts))
+invariant-loop-receipt g l = l.sum ≡ min 18446744073709551615 (sum_by (λ r. number_or_zero (g.P.WholeCalls.counted r.reply)) (take l.receipt-index l.receipts))

@@ -3,7 +3,7 @@ use Rattle.scc_common.specs.PairWalks.{ended}
 use Rattle.scc_rules.proofs.Lists.{all-append}
 use Rattle.scc_rules.proofs.Walks.{callable-kept_to_write, takes-taken}
 use Rattle.scc_stripes.proofs.Walks.{walked-none, walked-permuted, walked-short}
-use Rattle.scc_table.proofs.Joined.{takes-join}
+use Rattle.scc_table.proofs.walks.Lists.{takes-join}
 use Rattle.scc_ruled_cache.proofs.RuledCache.iter_mut_sync.Goals as goal
 
 pub loop-stripe-init : goal.loop-stripe-init

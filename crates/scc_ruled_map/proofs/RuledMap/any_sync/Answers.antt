@@ -3,7 +3,7 @@ use Rattle.scc_common.specs.PairWalks.{ended}
 use Rattle.scc_rules.proofs.Lists.{all-append}
 use Rattle.scc_rules.proofs.Walks.{callable-kept, takes-past}
 use Rattle.scc_stripes.proofs.Walks.{walked-next, walked-none}
-use Rattle.scc_table.proofs.Joined.{declines-join}
+use Rattle.scc_table.proofs.walks.Lists.{declines-join}
 use Rattle.scc_ruled_map.proofs.RuledMap.any_sync.Goals as goal
 
 pub loop-stripe-init : goal.loop-stripe-init

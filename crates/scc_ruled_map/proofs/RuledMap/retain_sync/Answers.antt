@@ -3,7 +3,7 @@ use Rattle.scc_common.specs.PairWalks.{ended}
 use Rattle.scc_rules.proofs.Lists.{all-append}
 use Rattle.scc_rules.proofs.Walks.{callable-kept_to_write, takes-retained}
 use Rattle.scc_stripes.proofs.Walks.{walked-none, walked-permuted}
-use Rattle.scc_table.proofs.Joined.{retains-join}
+use Rattle.scc_table.proofs.walks.Lists.{retains-join}
 use Rattle.scc_ruled_map.proofs.RuledMap.retain_sync.Goals as goal
 
 pub loop-stripe-init : goal.loop-stripe-init

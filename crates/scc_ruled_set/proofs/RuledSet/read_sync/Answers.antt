@@ -1,4 +1,4 @@
-use Rattle.scc_table.proofs.Replies.{if-map}
+use Rattle.scc_table.proofs.places.Replies.{if-map}
 use Rattle.scc_ruled_set.proofs.Keys.{reads-key}
 use Rattle.scc_ruled_set.proofs.RuledSet.read_sync.Goals as goal
 

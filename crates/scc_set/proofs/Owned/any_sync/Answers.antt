@@ -1,5 +1,5 @@
 use Rattle.std.proofs.Common.{refl}
-use Rattle.scc_table.proofs.AtPlaces.{splits-there, entry_of-get}
+use Rattle.scc_table.proofs.places.Entries.{splits-there, entry_of-get}
 use Rattle.scc_set.proofs.Owned.any_sync.Goals as goal
 
 pub returns-in-Some : goal.returns-in-Some

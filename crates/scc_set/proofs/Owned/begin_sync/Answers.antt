@@ -1,5 +1,5 @@
 use Rattle.std.proofs.Common.{refl}
-use Rattle.scc_table.proofs.AtPlaces.{splits-there, front-none}
+use Rattle.scc_table.proofs.places.Entries.{splits-there, front-none}
 use Rattle.scc_set.proofs.Owned.begin_sync.Goals as goal
 
 pub returns-in-Some : goal.returns-in-Some

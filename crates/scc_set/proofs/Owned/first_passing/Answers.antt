@@ -3,7 +3,7 @@ use Rattle.scc_common.specs.Contents.{entries}
 use Rattle.scc_buckets.proofs.Placed.{drop-here, take-more}
 use Rattle.scc_common.proofs.WalkLemmas.{turn-first, turn-others}
 use Rattle.scc_table.specs.Places.{IsPlace, index_of}
-use Rattle.scc_table.proofs.Reached.{all-taken, nearer, reached-at, reached-first}
+use Rattle.scc_table.proofs.walks.Reach.{all-taken, nearer, reached-at, reached-first}
 use Rattle.scc_set.specs.SetWalks.{declined_none}
 use Rattle.scc_set.proofs.Places.{declines-front, some-same}
 use Rattle.scc_set.proofs.Walks.{declines-more}

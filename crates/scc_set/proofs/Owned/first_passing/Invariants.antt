@@ -2,7 +2,7 @@ use Rattle.std.proofs.Common.{◌≡◌, ◌-◌, length, take, drop, IfSome, fa
 use Rattle.std.specs.Fn.{CalledAt}
 use Rattle.scc_common.specs.Contents.{entries}
 use Rattle.scc_table.specs.Places.{IsPlace}
-use Rattle.scc_table.proofs.Reached.{reached}
+use Rattle.scc_table.proofs.walks.Reach.{reached}
 use Rattle.scc_set.specs.SetWalks.{CallableWhile, Declines}
 use Rattle.scc_set.proofs.Owned.first_passing.Given as goal
 

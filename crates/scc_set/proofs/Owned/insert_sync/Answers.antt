@@ -1,6 +1,6 @@
 use Rattle.std.proofs.Common.{sym, ◌∙◌}
 use Rattle.scc_buckets.proofs.Mapped.{Grows-mapped, FirstArrayWhenDue-mapped}
-use Rattle.scc_table.proofs.MappedRelocations.{Relocates-mapped}
+use Rattle.scc_table.proofs.relocations.Mapped.{Relocates-mapped}
 use Rattle.scc_set.proofs.Room.{ready-hashed}
 use Rattle.scc_set.proofs.Sets.{waiting-keys, two-hashed, found-is, noted-keys, on-refusal, same-keys, shows, on-answer, ok-answer, Inserts-hashed, roomy-hashed, grows-hashed, finds-keys, none-found, unique-keys}
 use Rattle.scc_set.proofs.Owned.insert_sync.Goals as goal

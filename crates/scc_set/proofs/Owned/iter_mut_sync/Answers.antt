@@ -3,7 +3,7 @@ use Rattle.std.proofs.lemmas.List.{length-map}
 use Rattle.scc_common.specs.PairWalks.{GoesOn}
 use Rattle.scc_owned.specs.Sinks.{with_units}
 use Rattle.scc_buckets.proofs.Mapped.{Holds-mapped, ShrinksWhenDue-mapped}
-use Rattle.scc_table.proofs.MappedRelocations.{RelocatesNone-mapped}
+use Rattle.scc_table.proofs.relocations.Mapped.{RelocatesNone-mapped}
 use Rattle.scc_set.proofs.Sets.{noted-keys, on-err, shows, smaller-keys, unique-keys, waiting-keys}
 use Rattle.scc_set.proofs.Walks.{ordered-keys, callable-writes, to-key, Takes-keys, taken-keys, units-same}
 use Rattle.scc_set.proofs.Owned.iter_mut_sync.Goals as goal

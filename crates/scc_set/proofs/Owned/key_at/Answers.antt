@@ -1,4 +1,4 @@
-use Rattle.scc_table.proofs.MappedPlaces.{IsPlace-from_mapped}
+use Rattle.scc_table.proofs.places.Mapped.{IsPlace-from_mapped}
 use Rattle.scc_set.proofs.Places.{get-key}
 use Rattle.scc_set.proofs.Owned.key_at.Goals as goal
 

@@ -1,5 +1,5 @@
 use Rattle.scc_buckets.proofs.Mapped.{ShrinksWhenDue-mapped}
-use Rattle.scc_table.proofs.MappedRelocations.{shrunk-mapped}
+use Rattle.scc_table.proofs.relocations.Mapped.{shrunk-mapped}
 use Rattle.scc_set.proofs.Sets.{waiting-keys, ReleasesOrRefuses-keys, noted-keys, on-err, on-ok, shows, unique-keys}
 use Rattle.scc_set.proofs.Owned.release.Goals as goal
 

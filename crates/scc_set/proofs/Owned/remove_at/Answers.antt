@@ -1,4 +1,4 @@
-use Rattle.scc_table.proofs.MappedPlaces.{IsPlace-from_mapped}
+use Rattle.scc_table.proofs.places.Mapped.{IsPlace-from_mapped}
 use Rattle.scc_set.proofs.Sets.{shrinks-keys, unique-keys}
 use Rattle.scc_set.proofs.Places.{get-key, holds-others}
 use Rattle.scc_set.proofs.Owned.remove_at.Goals as goal

@@ -1,5 +1,5 @@
 use Rattle.scc_buckets.proofs.Mapped.{ReachesMinimumWhenDue-mapped}
-use Rattle.scc_table.proofs.MappedRelocations.{grown-mapped}
+use Rattle.scc_table.proofs.relocations.Mapped.{grown-mapped}
 use Rattle.scc_set.proofs.Sets.{waiting-keys, ReservesOrRefuses-keys, noted-keys, on-none, on-some, shows, unique-keys}
 use Rattle.scc_set.proofs.Owned.reserve.Goals as goal
 

@@ -1,4 +1,4 @@
-use Rattle.scc_table.proofs.MappedPlaces.{IsPlace-from_mapped}
+use Rattle.scc_table.proofs.places.Mapped.{IsPlace-from_mapped}
 use Rattle.scc_set.proofs.Sets.{waiting-keys, noted-keys, unique-keys}
 use Rattle.scc_set.proofs.Places.{get-key, exactly-others, follows-taken}
 use Rattle.scc_set.proofs.Owned.take_with_next.Goals as goal

@@ -1,6 +1,6 @@
 use Rattle.std.proofs.Common.{◌∙◌}
 use Rattle.scc_set.proofs.Clones.{clones-keys, finds-clones-keys}
-use Rattle.scc_table.proofs.MappedRelocations.{waiting_of-mapped}
+use Rattle.scc_table.proofs.relocations.Mapped.{waiting_of-mapped}
 use Rattle.scc_set.proofs.Sets.{shows, unique-keys}
 use Rattle.scc_set.proofs.Owned.try_clone.Goals as goal
 

@@ -1,4 +1,4 @@
-use Rattle.scc_table.proofs.Replies.{if-map}
+use Rattle.scc_table.proofs.places.Replies.{if-map}
 use Rattle.scc_cache.proofs.Replies.{refreshed-key}
 use Rattle.scc_shared_cache.proofs.HashCache.get_sync.Goals as goal
 

@@ -1,7 +1,7 @@
 use Rattle.std.proofs.Common.{[]}
 use Rattle.scc_common.specs.PairWalks.{ended}
 use Rattle.scc_common.proofs.WalkLemmas.{CallableWhile-always}
-use Rattle.scc_table.proofs.Joined.{declines-always, declines-join}
+use Rattle.scc_table.proofs.walks.Lists.{declines-always, declines-join}
 use Rattle.scc_stripes.proofs.Walks.{walked-next, walked-none}
 use Rattle.scc_shared_index.proofs.HashIndex.any_sync.Goals as goal
 

@@ -1,4 +1,4 @@
-use Rattle.scc_table.proofs.Replies.{reads-equal}
+use Rattle.scc_table.proofs.places.Replies.{reads-equal}
 use Rattle.scc_common.specs.Contents.{entries}
 use Rattle.scc_shared_index.proofs.HashIndex.peek_with.Goals as goal
 

@@ -1,7 +1,7 @@
 use Rattle.std.proofs.Common.{arith, rules, [], ◌++◌, ◌∙◌, ap, sym, append-nil, append_assoc}
 use Rattle.scc_common.specs.PairWalks.{ended}
-use Rattle.scc_table.proofs.WalkReached.{CallableToWrite-always}
-use Rattle.scc_table.proofs.Joined.{takes-always, takes-join}
+use Rattle.scc_table.proofs.walks.Steps.{CallableToWrite-always}
+use Rattle.scc_table.proofs.walks.Lists.{takes-always, takes-join}
 use Rattle.scc_stripes.proofs.Walks.{walked-none, walked-permuted, walked-short}
 use Rattle.scc_shared_map.proofs.HashMap.iter_mut_into.Goals as goal
 

@@ -2,7 +2,7 @@ use Rattle.std.proofs.Common.{[], arith}
 use Rattle.scc_common.specs.Walks.{ended}
 use Rattle.scc_common.proofs.WalkLemmas.{CallableWhile-always, walk-append}
 use Rattle.scc_stripes.proofs.Walks.{walked-next, walked-none, walked-short}
-use Rattle.scc_table.proofs.Joined.{walks-always}
+use Rattle.scc_table.proofs.walks.Lists.{walks-always}
 use Rattle.scc_shared_map.proofs.HashMap.iter_sync.Goals as goal
 
 pub loop-stripe-init : goal.loop-stripe-init

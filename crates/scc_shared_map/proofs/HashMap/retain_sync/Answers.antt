@@ -1,7 +1,7 @@
 use Rattle.std.proofs.Common.{[]}
 use Rattle.scc_common.specs.PairWalks.{ended}
-use Rattle.scc_table.proofs.WalkReached.{CallableToWrite-always}
-use Rattle.scc_table.proofs.Joined.{retains-always, retains-join}
+use Rattle.scc_table.proofs.walks.Steps.{CallableToWrite-always}
+use Rattle.scc_table.proofs.walks.Lists.{retains-always, retains-join}
 use Rattle.scc_stripes.proofs.Walks.{walked-none, walked-permuted}
 use Rattle.scc_shared_map.proofs.HashMap.retain_sync.Goals as goal
 

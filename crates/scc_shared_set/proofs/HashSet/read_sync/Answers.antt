@@ -1,4 +1,4 @@
-use Rattle.scc_table.proofs.Replies.{if-map}
+use Rattle.scc_table.proofs.places.Replies.{if-map}
 use Rattle.scc_shared_set.proofs.Keys.{reads-key}
 use Rattle.scc_shared_set.proofs.HashSet.read_sync.Goals as goal
 

@@ -1,5 +1,5 @@
 use Rattle.scc_common.specs.Contents.{entries}
-use Rattle.scc_table.proofs.Replies.{find-key}
+use Rattle.scc_table.proofs.places.Replies.{find-key}
 use Rattle.scc_shared_set.proofs.HashSet.replace_sync.Goals as goal
 
 pub returns-in-Replaced-clause-old : goal.returns-in-Replaced-clause-old

@@ -1,9 +1,9 @@
 use Rattle.std.proofs.Common.{◌∙◌, ap, arith, subst}
 use Rattle.scc_common.specs.Contents.{bucket_count, key_hash, settings_of, IsRouted}
 use Rattle.scc_common.specs.Hashing.{hash_of}
-use Rattle.scc_table.proofs.SearchingLemmas.{routed-together}
+use Rattle.scc_table.proofs.places.Searches.{routed-together}
 use Rattle.scc_common.specs.Routing.{bucket_number}
-use Rattle.scc_table.proofs.Seen.{count-seen, settings-seen}
+use Rattle.scc_table.proofs.arrays.CurrentParts.{count-seen, settings-seen}
 use Rattle.scc_table.proofs.Table.bucket_at.Goals as goal
 
 pub returns-clause-value : goal.returns-clause-value

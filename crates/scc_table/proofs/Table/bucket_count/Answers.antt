@@ -1,6 +1,6 @@
 use Rattle.std.proofs.Common.{sym, ap, ◌∙◌}
 use Rattle.scc_common.specs.Contents.{bucket_count}
-use Rattle.scc_table.proofs.Joining.{count-together}
+use Rattle.scc_table.proofs.arrays.JoinedLists.{count-together}
 use Rattle.scc_table.proofs.Table.bucket_count.Goals as goal
 
 pub returns-clause-count : goal.returns-clause-count

@@ -2,7 +2,7 @@ use Rattle.std.proofs.Common.{◌≡◌, ◌==◌, ◌∙◌, ◌<◌, length, s
 use Rattle.std.specs.List.{count_by}
 use Rattle.scc_common.specs.Contents.{HasRoomAt, bucket_count, entries, key_hash, list_of, pending_of, settings_of}
 use Rattle.scc_common.specs.Routing.{bucket_number}
-use Rattle.scc_table.proofs.Listed.{count-listed}
+use Rattle.scc_table.proofs.places.OneList.{count-listed}
 use Rattle.scc_table.proofs.Table.bucket_for_new.Goals as goal
 
 pub returns-then-list_len-lt32 : goal.returns-then-list_len-lt32

@@ -2,7 +2,7 @@ use Rattle.std.proofs.Common.{◌∙◌, ap}
 use Rattle.scc_common.specs.Contents.{bucket_count, key_hash, settings_of}
 use Rattle.scc_common.specs.Hashing.{hash_of}
 use Rattle.scc_common.specs.Routing.{bucket_number}
-use Rattle.scc_table.proofs.Seen.{count-seen, settings-seen}
+use Rattle.scc_table.proofs.arrays.CurrentParts.{count-seen, settings-seen}
 use Rattle.scc_table.proofs.Table.bucket_index.Goals as goal
 
 pub returns : goal.returns

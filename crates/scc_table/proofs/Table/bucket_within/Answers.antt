@@ -1,5 +1,5 @@
 use Rattle.std.proofs.Common.{rules}
-use Rattle.scc_table.proofs.Short.{listed-none}
+use Rattle.scc_table.proofs.relocations.ShortLists.{listed-none}
 use Rattle.scc_table.proofs.Table.bucket_within.Goals as goal
 
 pub returns-then-bucket_count-eq0 : goal.returns-then-bucket_count-eq0

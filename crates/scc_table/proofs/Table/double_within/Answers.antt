@@ -4,12 +4,12 @@ use Rattle.std.proofs.lemmas.List.Sorted.{IsPermutation-refl}
 use Rattle.scc_buckets.specs.Bounded.{IsResized}
 use Rattle.scc_common.specs.Contents.{bucket_count, entries, key_hash, settings_of}
 use Rattle.scc_common.specs.Hashing.{hash_of}
-use Rattle.scc_buckets.specs.Pour.{IsRegrouped, bound_for}
+use Rattle.scc_buckets.specs.Pour.{IsRegrouped, destined_for}
 use Rattle.scc_common.specs.Sizes.{IsBucketCount}
 use Rattle.scc_buckets.proofs.Powers.{double-array}
 use Rattle.scc_table.specs.Bounded.{IsDoublingDue, doubles}
-use Rattle.scc_table.proofs.Same.{count-same, entries-same}
-use Rattle.scc_table.proofs.Short.{listed-anew, listed-later, listed-resized, routed-before, short-doubled}
+use Rattle.scc_table.proofs.arrays.SameParts.{count-same, entries-same}
+use Rattle.scc_table.proofs.relocations.ShortLists.{listed-anew, listed-later, listed-resized, routed-before, short-doubled}
 use Rattle.scc_table.proofs.Table.double_within.Goals as goal
 
 pub install_fresh-requires-clause-array : goal.install_fresh-requires-clause-array
@@ -38,7 +38,7 @@ returns-in-Ok g c =
           let settings = c.install_fresh.ensures.settings in
           let routed = routed-before (λ s (e : g.row.E.Denot). hash_of g.H.BuildHasher g.H.Hasher.Hasher s.hasher (g.E.Key.Hash.hash_input (g.E.Keyed.key_of e))) a d settings c.list_facts.ensures.routed in
           listed-anew (λ s (e : g.row.E.Denot). hash_of g.H.BuildHasher g.H.Hasher.Hasher s.hasher (g.E.Key.Hash.hash_input (g.E.Keyed.key_of e))) a d settings
-          (listed-resized hash a d resized routed (λ i l. subst (λ n. length (bound_for hash (settings_of a).skipped n i (entries a)) ≤ 32) (sym size) (short-doubled hash a c.requires.listed i))));
+          (listed-resized hash a d resized routed (λ i l. subst (λ n. length (destined_for hash (settings_of a).skipped n i (entries a)) ≤ 32) (sym size) (short-doubled hash a c.requires.listed i))));
       array = (search rules);
       waiting = (search rules);
       all = (search rules);

@@ -1,4 +1,4 @@
-use Rattle.scc_table.proofs.Same.{unchanged-same}
+use Rattle.scc_table.proofs.arrays.SameParts.{unchanged-same}
 use Rattle.scc_table.proofs.Table.drop_room.Goals as goal
 
 pub returns-clause-same : goal.returns-clause-same

@@ -1,6 +1,6 @@
 use Rattle.std.proofs.Common.{◌∙◌, rules}
 use Rattle.scc_common.specs.Hashing.{hash_of}
-use Rattle.scc_table.proofs.Short.{listed-later}
+use Rattle.scc_table.proofs.relocations.ShortLists.{listed-later}
 use Rattle.scc_table.proofs.Table.drop_room_within.Goals as goal
 
 pub returns-then-is_marked : goal.returns-then-is_marked

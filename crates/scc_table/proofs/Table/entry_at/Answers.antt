@@ -1,8 +1,8 @@
 use Rattle.std.proofs.Common.{◌≡◌, ◌-◌, Some, slice_get, subst, arith}
 use Rattle.scc_common.specs.Contents.{entries, key_hash}
 use Rattle.scc_table.specs.Places.{index_of}
-use Rattle.scc_table.proofs.OldSpots.{own-get, old-get}
-use Rattle.scc_table.proofs.OneBucket.{old-here, own-here}
+use Rattle.scc_table.proofs.places.OldSpots.{own-get, old-get}
+use Rattle.scc_table.proofs.arrays.OneBucket.{old-here, own-here}
 use Rattle.scc_table.proofs.Table.entry_at.Goals as goal
 
 pub entry_in-requires : goal.entry_in-requires

@@ -5,9 +5,9 @@ use Rattle.scc_common.specs.Contents.{entries, key_hash, settings_of}
 use Rattle.scc_common.specs.Hashing.{hash_of}
 use Rattle.scc_buckets.proofs.FindingLemmas.{HashOf, has_tag}
 use Rattle.scc_table.specs.TwoArrays.{waits_at}
-use Rattle.scc_table.proofs.Finds.{find-current, find-draining}
-use Rattle.scc_table.proofs.Seen.{settings-seen}
-use Rattle.scc_table.proofs.OneBucket.{bucket-within, flag-read, index-within, source-within, source-number}
+use Rattle.scc_table.proofs.places.Finds.{find-current, find-draining}
+use Rattle.scc_table.proofs.arrays.CurrentParts.{settings-seen}
+use Rattle.scc_table.proofs.arrays.OneBucket.{bucket-within, flag-read, index-within, source-within, source-number}
 use Rattle.scc_table.proofs.Table.find_both.Goals as goal
 
 pub index-requires : goal.index-requires

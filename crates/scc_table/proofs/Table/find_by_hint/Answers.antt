@@ -2,9 +2,9 @@ use Rattle.std.proofs.Common.{◌∙◌, sym, ap, arith}
 use Rattle.std.specs.List.{find}
 use Rattle.scc_common.specs.Contents.{entries, key_hash, pending_of}
 use Rattle.scc_common.specs.Hashing.{hash_of}
-use Rattle.scc_table.proofs.Joining.{pending-together}
-use Rattle.scc_table.proofs.Seen.{settings-seen}
-use Rattle.scc_table.proofs.SearchingLemmas.{entries-not_waiting}
+use Rattle.scc_table.proofs.arrays.JoinedLists.{pending-together}
+use Rattle.scc_table.proofs.arrays.CurrentParts.{settings-seen}
+use Rattle.scc_table.proofs.places.Searches.{entries-not_waiting}
 use Rattle.scc_table.proofs.Table.find_by_hint.Goals as goal
 
 pub find_both-requires-clause-pending : goal.find_both-requires-clause-pending

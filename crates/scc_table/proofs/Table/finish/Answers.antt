@@ -1,10 +1,10 @@
 use Rattle.std.proofs.Common.{◌≡◌, ◌≤◌, ◌∙◌, drop, refl, sym, subst, ap, arith, rules}
 use Rattle.scc_common.specs.Contents.{pending_of, waiting_of}
-use Rattle.scc_table.proofs.Finishing.{finish-start, finish-step}
+use Rattle.scc_table.proofs.relocations.OneByOne.{finish-start, finish-step}
 use Rattle.scc_table.specs.TwoArrays.{pending_targets}
-use Rattle.scc_table.proofs.Joining.{waiting-together, pending-together}
-use Rattle.scc_table.proofs.RelocatingWithin.{drop-next}
-use Rattle.scc_table.proofs.Targets.{targets-first}
+use Rattle.scc_table.proofs.arrays.JoinedLists.{waiting-together, pending-together}
+use Rattle.scc_table.proofs.relocations.FirstWaiting.{drop-next}
+use Rattle.scc_table.proofs.relocations.Targets.{targets-first}
 use Rattle.scc_table.proofs.Table.finish.Goals as goal
 
 pub loop-init : goal.loop-init

@@ -1,6 +1,6 @@
 use Rattle.std.proofs.Common.{◌≡◌, drop}
 use Rattle.scc_table.specs.TwoArrays.{pending_targets}
-use Rattle.scc_table.proofs.Finishing.{Finishes}
+use Rattle.scc_table.proofs.relocations.OneByOne.{Finishes}
 use Rattle.scc_table.proofs.Table.finish.Given as goal
 
 abbrev pub invariant-loop : goal.invariant-loop

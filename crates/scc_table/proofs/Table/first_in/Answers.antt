@@ -6,10 +6,10 @@ use Rattle.scc_buckets.proofs.Standing.{along, length-zero}
 use Rattle.scc_table.specs.Places.{StandsAt}
 use Rattle.scc_table.specs.NextPlaces.{rank_on}
 use Rattle.scc_table.specs.TwoArrays.{waits_at}
-use Rattle.scc_table.proofs.Nexts.{list-past, own-stands, rank-start}
-use Rattle.scc_table.proofs.OldSpots.{own-list}
+use Rattle.scc_table.proofs.places.NextPlaces.{list-past, own-stands, rank-start}
+use Rattle.scc_table.proofs.places.OldSpots.{own-list}
 use Rattle.scc_draining.proofs.FromBuckets.{within-sources}
-use Rattle.scc_table.proofs.OneBucket.{count-own, flag-free, flag-up, old-multiples, old-sized, owed-length, target-within}
+use Rattle.scc_table.proofs.arrays.OneBucket.{count-own, flag-free, flag-up, old-multiples, old-sized, owed-length, target-within}
 use Rattle.scc_table.proofs.Table.first_in.Goals as goal
 
 pub sources-first-requires-clause-some : goal.sources-first-requires-clause-some

@@ -3,8 +3,8 @@ use native.Mathlib.Decide.{dec_lt}
 use Rattle.std.proofs.lemmas.List.{get_or_read}
 use Rattle.scc_common.specs.Contents.{pending_of, waiting_of}
 use Rattle.scc_table.specs.TwoArrays.{waits_at}
-use Rattle.scc_table.proofs.Joining.{waiting-together, pending-together}
-use Rattle.scc_table.proofs.RelocatingLemmas.{all-down}
+use Rattle.scc_table.proofs.arrays.JoinedLists.{waiting-together, pending-together}
+use Rattle.scc_table.proofs.relocations.Contents.{all-down}
 use Rattle.scc_table.proofs.Table.first_waiting.Goals as goal
 
 pub loop-bucket-init : goal.loop-bucket-init

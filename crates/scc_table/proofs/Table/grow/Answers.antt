@@ -3,7 +3,7 @@ use Rattle.scc_common.specs.Contents.{key_hash}
 use Rattle.scc_buckets.specs.Pour.{IsRegrouped}
 use Rattle.scc_buckets.proofs.Powers.{double-array}
 use Rattle.scc_buckets.proofs.Resizes.{regrouped-resizes}
-use Rattle.scc_table.proofs.Same.{count-same, unchanged-same}
+use Rattle.scc_table.proofs.arrays.SameParts.{count-same, unchanged-same}
 use Rattle.scc_table.proofs.Table.grow.Goals as goal
 
 pub install_fresh-requires-clause-array : goal.install_fresh-requires-clause-array

@@ -2,7 +2,7 @@ use Rattle.std.proofs.Common.{◌∙◌, ◌<◌, refl, sym, arith, rules}
 use Rattle.std.proofs.lemmas.Bool.{true≢false}
 use Rattle.scc_common.specs.Contents.{bucket_count}
 use Rattle.scc_buckets.proofs.Resizes.{reaches-due}
-use Rattle.scc_table.proofs.Spreading.{growth-due, spreads-all, spreads-less}
+use Rattle.scc_table.proofs.resizes.Attempts.{growth-due, spreads-all, spreads-less}
 use Rattle.scc_table.proofs.Table.grow_to_minimum.Goals as goal
 use Rattle.scc_table.proofs.Table.grow_to_minimum.Goals.{then-count-eq0-via-then-count-eq0, then-count-eq0-via-else-count-eq0+then-count-wanted}
 

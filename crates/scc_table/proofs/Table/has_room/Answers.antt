@@ -2,7 +2,7 @@ use Rattle.std.proofs.Common.{◌==◌, ◌<◌, ◌∙◌, sym, ap, rules, arit
 use Rattle.std.specs.List.{count_by}
 use Rattle.scc_common.specs.Contents.{entries, bucket_count, bucket_of, key_hash, settings_of}
 use Rattle.scc_common.specs.Routing.{bucket_number}
-use Rattle.scc_table.proofs.Listed.{count-listed}
+use Rattle.scc_table.proofs.places.OneList.{count-listed}
 use Rattle.scc_table.proofs.Table.has_room.Goals as goal
 
 pub returns : goal.returns

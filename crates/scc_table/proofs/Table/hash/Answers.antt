@@ -1,7 +1,7 @@
 use Rattle.std.proofs.Common.{◌∙◌, ap}
 use Rattle.scc_common.specs.Contents.{key_hash}
 use Rattle.scc_common.specs.Hashing.{hash_of}
-use Rattle.scc_table.proofs.Seen.{settings-seen}
+use Rattle.scc_table.proofs.arrays.CurrentParts.{settings-seen}
 use Rattle.scc_table.proofs.Table.hash.Goals as goal
 
 pub returns : goal.returns

@@ -8,12 +8,12 @@ use Rattle.scc_buckets.proofs.Resizes.{absent-permuted, rests-resizes, rests-ins
 use Rattle.scc_table.specs.Places.{spot_of}
 use Rattle.scc_table.specs.Relocates.{AreMovedBeside, AreShort, left_after}
 use Rattle.scc_table.specs.TwoArrays.{pending_targets, waits_at}
-use Rattle.scc_table.proofs.Finishing.{pending-is}
-use Rattle.scc_table.proofs.Grown.{grown-spread}
-use Rattle.scc_table.proofs.Same.{if-ok, list-same, on-err, on-ok, pending-same}
-use Rattle.scc_table.proofs.Once.{once-made}
-use Rattle.scc_table.proofs.InstallingLemmas.{count-up}
-use Rattle.scc_table.proofs.Targets.{all-but-two, by-two, targets-all, targets-same}
+use Rattle.scc_table.proofs.relocations.OneByOne.{pending-is}
+use Rattle.scc_table.proofs.resizes.Growth.{grown-spread}
+use Rattle.scc_table.proofs.arrays.SameParts.{if-ok, list-same, on-err, on-ok, pending-same}
+use Rattle.scc_table.proofs.insertions.Room.{once-made}
+use Rattle.scc_table.proofs.resizes.Installation.{count-up}
+use Rattle.scc_table.proofs.relocations.Targets.{all-but-two, by-two, targets-all, targets-same}
 use Rattle.scc_table.proofs.Table.insert_after_growth.Goals as goal
 
 pub insert_and_relocate-requires : goal.insert_and_relocate-requires

@@ -2,9 +2,9 @@ use Rattle.std.proofs.Common.{◌∙◌, ◌≤◌, ℕ, length, sym, ap, subst,
 use Rattle.scc_common.specs.Contents.{HasRoomBy, bucket_count, key_hash, list_of, settings_of}
 use Rattle.scc_common.specs.Routing.{bucket_number}
 use Rattle.scc_table.specs.TwoArrays.{pending_targets}
-use Rattle.scc_table.proofs.Placing.{long-none, moved-relocated, relocated-fewer, relocated-inserted, relocated-left, relocated-short, room-same}
-use Rattle.scc_table.proofs.Same.{count-same, entries-same, hash-same, if-err, if-ok, on-err, on-ok}
-use Rattle.scc_table.proofs.PuttingLemmas.{new-same}
+use Rattle.scc_table.proofs.insertions.Places.{long-none, moved-relocated, relocated-fewer, relocated-inserted, relocated-left, relocated-short, room-same}
+use Rattle.scc_table.proofs.arrays.SameParts.{count-same, entries-same, hash-same, if-err, if-ok, on-err, on-ok}
+use Rattle.scc_table.proofs.insertions.CurrentArray.{new-same}
 use Rattle.scc_table.proofs.Table.insert_after_relocation.Goals as goal
 
 pub insert_then_relocate-requires-clause-new : goal.insert_then_relocate-requires-clause-new

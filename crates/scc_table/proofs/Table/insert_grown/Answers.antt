@@ -2,14 +2,14 @@ use Rattle.std.proofs.Common.{◌≡◌, ◌==◌, ◌∙◌, ◌<◌, ℕ, inr,
 use Rattle.std.specs.List.{count_by}
 use Rattle.std.specs.List.Sorted.{IsPermutation}
 use Rattle.scc_common.specs.Contents.{bucket_count, entries, key_hash, list_of, settings_of, waiting_of}
-use Rattle.scc_buckets.specs.Pour.{bound_for}
+use Rattle.scc_buckets.specs.Pour.{destined_for}
 use Rattle.scc_common.specs.Routing.{bucket_number}
 use Rattle.scc_buckets.proofs.Resizes.{absent-permuted, regrouped-resizes, rests-inserted}
 use Rattle.scc_table.specs.Places.{spot_of}
 use Rattle.scc_table.specs.TwoArrays.{waits_at}
-use Rattle.scc_table.proofs.Grown.{grown-drained, grown-spread}
-use Rattle.scc_table.proofs.Listed.{count-listed}
-use Rattle.scc_table.proofs.Same.{entries-same, hash-same, pending-same, regrouped-same}
+use Rattle.scc_table.proofs.resizes.Growth.{grown-drained, grown-spread}
+use Rattle.scc_table.proofs.places.OneList.{count-listed}
+use Rattle.scc_table.proofs.arrays.SameParts.{entries-same, hash-same, pending-same, regrouped-same}
 use Rattle.scc_table.proofs.Table.insert_grown.Goals as goal
 
 pub insert_and_relocate-requires : goal.insert_and_relocate-requires
@@ -44,7 +44,7 @@ unreachable-requires g c =
     let outer = hash-same g.H.BuildHasher g.H.Hasher.Hasher g.E.Key.Hash.hash_input a d reg.settings in
     let some : 0 < n = omega (arith, c.requires.some, c.requires.more, reg.count) in
     let l : i < c.args.count = omega (arith, c.bucket_at-bucket.ensures.within some, reg.count) in
-    let few : length (list_of d i) < 32 = subst (λ z. length z < 32) (sym (reg.each i l)) (subst (λ m. length (bound_for hash (settings_of a).skipped c.args.count m (entries a)) < 32) (sym at) c.requires.room) in
+    let few : length (list_of d i) < 32 = subst (λ z. length z < 32) (sym (reg.each i l)) (subst (λ m. length (destined_for hash (settings_of a).skipped c.args.count m (entries a)) < 32) (sym at) c.requires.room) in
     let hashed : c.args.hash ≡ hd k = c.requires.hashed ∙ ap (λ (h : g.row.E-Key.Denot → ℕ). h k) (sym outer) in
     let near : bucket_number s n (hd k) ≡ i = ap (bucket_number s n) (sym hashed) ∙ sym c.bucket_at-bucket.ensures.value in
     let left : count_by (λ (e : g.row.E.Denot). bucket_number s n (hd (g.E.Keyed.key_of e)) == bucket_number s n (hd k)) (entries d) ≡ length (list_of d i) =

@@ -4,14 +4,14 @@ use Rattle.scc_common.specs.Contents.{entries, HasRoomBy, bucket_count, owed_of,
 use Rattle.scc_buckets.specs.OneList.{HasSameLists, IsPutIn}
 use Rattle.scc_common.specs.Routing.{bucket_number}
 use Rattle.scc_table.specs.TwoArrays.{draining_of, IsTable, together}
-use Rattle.scc_table.proofs.Joining.{waiting-together}
-use Rattle.scc_table.proofs.Noting.{fields-less, owed-kept}
-use Rattle.scc_table.proofs.PuttingLemmas.{unique-answered, fields-put, owed-put, long-full, put-together, room-own, same-together, new-own}
-use Rattle.scc_table.proofs.Same.{by-answer, hash-same, if-ok, on-err}
-use Rattle.scc_table.proofs.Viewed.{settings-seen, waiting-seen}
-use Rattle.scc_table.proofs.OneBucket.{flag-down, routed-own, within-own}
+use Rattle.scc_table.proofs.arrays.JoinedLists.{waiting-together}
+use Rattle.scc_table.proofs.arrays.Notes.{fields-less, owed-kept}
+use Rattle.scc_table.proofs.insertions.CurrentArray.{unique-answered, fields-put, owed-put, long-full, put-together, room-own, same-together, new-own}
+use Rattle.scc_table.proofs.arrays.SameParts.{by-answer, hash-same, if-ok, on-err}
+use Rattle.scc_table.proofs.arrays.Views.{settings-seen, waiting-seen}
+use Rattle.scc_table.proofs.arrays.OneBucket.{flag-down, routed-own, within-own}
 use Rattle.scc_table.proofs.Table.insert_in.Goals as goal
-use Rattle.scc_table.proofs.Table.insert_in.Goals.{then-self-gt0+else-is_overflow_full, else-self-gt0}
+use Rattle.scc_table.proofs.Table.insert_in.Goals.{then-self-gt0+else-has_no_room, else-self-gt0}
 
 pub insert_in-placed-requires : goal.insert_in-placed-requires
 insert_in-placed-requires g c =
@@ -25,8 +25,8 @@ list_len-listed-requires g c =
     let within = within-own c.self.invariant c.self.view_is c.requires.new.within in
     within
 
-pub returns-then-is_overflow_full : goal.returns-then-is_overflow_full
-returns-then-is_overflow_full g c =
+pub returns-then-has_no_room : goal.returns-then-has_no_room
+returns-then-has_no_room g c =
     record {
       exact = (search rules);
       err = (search rules);
@@ -47,7 +47,7 @@ returns-then-is_overflow_full g c =
           let down = flag-down c.self.invariant _ c.self.view_is c.requires.not_waiting in
           let routed = routed-own c.self.invariant _ c.self.view_is c.requires.new.routed in
           let hashed : c.args.hash ≡ hk (g.E.Keyed.key_of c.args.entry) = c.requires.new.hashed ∙ ap (λ (h : g.row.E-Key.Denot → ℕ). h (g.E.Keyed.key_of c.args.entry)) outer in
-          let long : 32 ≤ length (list_of cur i) = omega (arith, c.if-is_overflow_full.ensures.full, c.list_len-listed.ensures) in
+          let long : 32 ≤ length (list_of cur i) = omega (arith, c.if-has_no_room.ensures.full, c.list_len-listed.ensures) in
           let at : i ≡ bucket_number (settings_of cur).skipped (bucket_count cur) (hk (g.E.Keyed.key_of c.args.entry)) = routed ∙ ap (bucket_number (settings_of cur).skipped (bucket_count cur)) hashed in
           subst (λ (h : g.row.E-Key.Denot → ℕ). HasRoomBy h g.E.Keyed.key_of c.args.self.now (g.E.Keyed.key_of c.args.entry) → ⊥) (sym outer)
           (long-full g.E.Keyed.key_of hk cur ws olds inv.arrays c.args.self.now view c.list_facts.ensures.routed (g.E.Keyed.key_of c.args.entry) i within down at long));
@@ -79,9 +79,9 @@ invariant_of-self g c =
     let there : IsAfter = by-answer c.insert_in-placed.result c.insert_in-placed.ensures.exact c.insert_in-placed.ensures.stays
     (λ p put.
     let left : overflow_of new + t.draining.left_overflow < 2 ^ 62 = elim c.if-self-gt0.branch [
-      | then-self-gt0+else-is_overflow_full w ↦
+      | then-self-gt0+else-has_no_room w ↦
           let was = w.overflow_len-spilled.ensures.value in
-          elim (w.if-is_overflow_full.ensures.room (λ h. absurd (let z : false ≡ true = h in cc))) [
+          elim (w.if-has_no_room.ensures.room (λ h. absurd (let z : false ≡ true = h in cc))) [
             | inl q ↦ let s = put.short (omega (arith, w.list_len-listed.ensures)) in omega (arith, inv.few)
             | inr q ↦ omega (arith, put.spilled)
           ]

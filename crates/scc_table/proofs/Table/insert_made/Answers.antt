@@ -7,12 +7,12 @@ use Rattle.scc_common.specs.Steps.{GrowsWhenDue}
 use Rattle.scc_table.specs.Relocates.{AreMovedBeside}
 use Rattle.scc_table.specs.TwoArrays.{pending_targets}
 use Rattle.scc_draining.proofs.Arriving.{any-ok}
-use Rattle.scc_table.proofs.Finishing.{pending-is}
-use Rattle.scc_table.proofs.Listed.{count-listed}
-use Rattle.scc_table.proofs.Once.{once-made}
-use Rattle.scc_table.proofs.Placing.{moved-nothing, none-left}
-use Rattle.scc_table.proofs.Same.{any-err, on-ok}
-use Rattle.scc_table.proofs.Targets.{all-but-two, by-two, targets-length}
+use Rattle.scc_table.proofs.relocations.OneByOne.{pending-is}
+use Rattle.scc_table.proofs.places.OneList.{count-listed}
+use Rattle.scc_table.proofs.insertions.Room.{once-made}
+use Rattle.scc_table.proofs.insertions.Places.{moved-nothing, none-left}
+use Rattle.scc_table.proofs.arrays.SameParts.{any-err, on-ok}
+use Rattle.scc_table.proofs.relocations.Targets.{all-but-two, by-two, targets-length}
 use Rattle.scc_table.proofs.Table.insert_made.Goals as goal
 
 pub returns-then-bucket_count-eq0 : goal.returns-then-bucket_count-eq0

@@ -1,8 +1,8 @@
 use Rattle.std.proofs.Common.{◌∙◌, rules}
 use Rattle.scc_table.specs.TwoArrays.{pending_targets}
-use Rattle.scc_table.proofs.Placing.{moved-relocated, relocated-fewer, relocated-inserted, relocated-left, relocated-short}
-use Rattle.scc_table.proofs.Same.{count-same, entries-same, if-err, if-ok, on-ok, hash-same}
-use Rattle.scc_table.proofs.PuttingLemmas.{new-same}
+use Rattle.scc_table.proofs.insertions.Places.{moved-relocated, relocated-fewer, relocated-inserted, relocated-left, relocated-short}
+use Rattle.scc_table.proofs.arrays.SameParts.{count-same, entries-same, if-err, if-ok, on-ok, hash-same}
+use Rattle.scc_table.proofs.insertions.CurrentArray.{new-same}
 use Rattle.scc_table.proofs.Table.insert_made_after_relocation.Goals as goal
 
 pub insert_made_then_relocate-requires-clause-new : goal.insert_made_then_relocate-requires-clause-new

@@ -2,8 +2,8 @@ use Rattle.std.proofs.Common.{◌≡◌, ◌∙◌, true, false, sym, rules}
 use Rattle.scc_common.specs.Contents.{waiting_of}
 use Rattle.scc_buckets.proofs.PairSplits.{by_answer}
 use Rattle.scc_table.specs.TwoArrays.{pending_targets, waits_at}
-use Rattle.scc_table.proofs.Placing.{moved-not_waiting, not_waiting-left}
-use Rattle.scc_table.proofs.Same.{on-ok}
+use Rattle.scc_table.proofs.insertions.Places.{moved-not_waiting, not_waiting-left}
+use Rattle.scc_table.proofs.arrays.SameParts.{on-ok}
 use Rattle.scc_table.proofs.Table.insert_made_and_relocate.Goals as goal
 
 pub returns : goal.returns

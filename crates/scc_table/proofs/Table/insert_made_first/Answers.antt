@@ -2,13 +2,13 @@ use Rattle.std.proofs.Common.{◌≡◌, ◌∙◌, ℕ, None, List, map, sym, a
 use Rattle.std.specs.List.{position, IsDistinct}
 use Rattle.scc_common.specs.Contents.{bucket_count, key_hash, settings_of}
 use Rattle.scc_table.specs.TwoArrays.{draining_of, IsTable, together}
-use Rattle.scc_table.proofs.Alone.{entries-alone, lists-alone}
-use Rattle.scc_table.proofs.Firsts.{no-flags}
-use Rattle.scc_table.proofs.Joining.{refused-together, settings-together, waiting-together}
-use Rattle.scc_table.proofs.Lone.{fields-lone, over-first, over-grows, over-inserted, over-unchanged}
-use Rattle.scc_table.proofs.Same.{entries-same, hash-same, if-err, if-ok, on-ok}
-use Rattle.scc_table.proofs.NotWaiting.{either-answer}
-use Rattle.scc_table.proofs.Viewed.{count-seen, lists-seen, refused-seen, settings-seen}
+use Rattle.scc_table.proofs.arrays.OneArray.{entries-alone, lists-alone}
+use Rattle.scc_table.proofs.resizes.FirstArray.{no-flags}
+use Rattle.scc_table.proofs.arrays.JoinedLists.{refused-together, settings-together, waiting-together}
+use Rattle.scc_table.proofs.arrays.CurrentCalls.{fields-lone, over-first, over-grows, over-inserted, over-unchanged}
+use Rattle.scc_table.proofs.arrays.SameParts.{entries-same, hash-same, if-err, if-ok, on-ok}
+use Rattle.scc_table.proofs.arrays.NoneWaits.{either-answer}
+use Rattle.scc_table.proofs.arrays.Views.{count-seen, lists-seen, refused-seen, settings-seen}
 use Rattle.scc_table.proofs.Table.insert_made_first.Goals as goal
 
 pub insert_made_first-placed-requires-clause-hashed : goal.insert_made_first-placed-requires-clause-hashed

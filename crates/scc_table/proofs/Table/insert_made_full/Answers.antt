@@ -7,21 +7,21 @@ use Rattle.scc_buckets.proofs.Powers.{double-array}
 use Rattle.scc_table.specs.Relocates.{left_after, AreMovedBeside, AreShortAmong}
 use Rattle.scc_table.specs.TwoArrays.{pending_targets, waits_at}
 use Rattle.scc_draining.proofs.Arriving.{any-ok}
-use Rattle.scc_table.proofs.Grown.{on-both}
-use Rattle.scc_table.proofs.Same.{pending-same}
-use Rattle.scc_table.proofs.NotWaiting.{not_waiting-all}
+use Rattle.scc_table.proofs.resizes.Growth.{on-both}
+use Rattle.scc_table.proofs.arrays.SameParts.{pending-same}
+use Rattle.scc_table.proofs.arrays.NoneWaits.{not_waiting-all}
 use Rattle.scc_table.proofs.Table.insert_made_full.Goals as goal
 
-pub is_crowded-requires-clause-not_waiting : goal.is_crowded-requires-clause-not_waiting
-is_crowded-requires-clause-not_waiting g c =
+pub is_full_once_doubled-requires-clause-not_waiting : goal.is_full_once_doubled-requires-clause-not_waiting
+is_full_once_doubled-requires-clause-not_waiting g c =
     not_waiting-all c.args.self.now c.requires.pending c.args.bucket
 
 pub insert_made_grown-requires-clause-array : goal.insert_made_grown-requires-clause-array
 insert_made_grown-requires-clause-array g c =
     double-array c.bucket_count-count.result c.bucket_count-count.ensures.lawful (omega (arith, c.requires.new.within, c.bucket_count-count.ensures.count)) (omega arith)
 
-pub returns-then-is_crowded : goal.returns-then-is_crowded
-returns-then-is_crowded g c =
+pub returns-then-is_full_once_doubled : goal.returns-then-is_full_once_doubled
+returns-then-is_full_once_doubled g c =
     record {
       ok = (search rules);
       err = (search rules);
@@ -30,18 +30,18 @@ returns-then-is_crowded g c =
             first = λ none ne. absurd (omega (arith, c.requires.new.within));
             half = λ some ne. omega (arith, c.bucket_count-count.ensures.count, c.len-length.ensures.len);
             below = λ some ne. omega (arith, c.bucket_count-count.ensures.count);
-            doubled = λ some ne. c.insert_made_crowded.ensures.doubled ne;
+            doubled = λ some ne. c.insert_made_and_double.ensures.doubled ne;
             not_waiting = λ some ne. c.requires.pending;
           });
-      due = (λ half below down. c.insert_made_crowded.ensures.due down);
+      due = (λ half below down. c.insert_made_and_double.ensures.due down);
       raised = (search rules);
       lowered = (search rules);
       down = (search rules);
       once = (search rules);
       unmarked = (search rules);
-      marked = (λ up. absurd (true≢false (sym up ∙ c.insert_made_crowded.ensures.unmarked)));
-      fewer = (λ same i up. absurd (let z : true ≡ false = sym up ∙ not_waiting-all c.insert_made_crowded.new.self (c.insert_made_crowded.ensures.none same) i in cc));
-      less = (λ same. let none = c.insert_made_crowded.ensures.none same in omega arith);
+      marked = (λ up. absurd (true≢false (sym up ∙ c.insert_made_and_double.ensures.unmarked)));
+      fewer = (λ same i up. absurd (let z : true ≡ false = sym up ∙ not_waiting-all c.insert_made_and_double.new.self (c.insert_made_and_double.ensures.none same) i in cc));
+      less = (λ same. let none = c.insert_made_and_double.ensures.none same in omega arith);
       grown = (search rules);
       spread = (search rules);
       drained = (search rules);
@@ -53,8 +53,8 @@ pub fresh_waiting-requires : goal.fresh_waiting-requires
 fresh_waiting-requires g c =
     (double-array c.bucket_count-count.result c.bucket_count-count.ensures.lawful (omega (arith, c.requires.new.within, c.bucket_count-count.ensures.count)) (omega arith)).most
 
-pub returns-else-is_crowded : goal.returns-else-is_crowded
-returns-else-is_crowded g c =
+pub returns-else-is_full_once_doubled : goal.returns-else-is_full_once_doubled
+returns-else-is_full_once_doubled g c =
     record {
       ok = (search rules);
       err = (search rules);

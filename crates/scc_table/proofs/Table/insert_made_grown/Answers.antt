@@ -1,5 +1,5 @@
 use Rattle.std.proofs.Common.{◌≡◌, ◌∙◌, Bool, true, false, sym, ap, arith, rules}
-use Rattle.scc_table.proofs.Same.{count-same, unchanged-same}
+use Rattle.scc_table.proofs.arrays.SameParts.{count-same, unchanged-same}
 use Rattle.scc_table.proofs.Table.insert_made_grown.Goals as goal
 
 pub returns-in-Ok : goal.returns-in-Ok

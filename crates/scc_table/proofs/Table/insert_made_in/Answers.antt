@@ -3,14 +3,14 @@ use Rattle.std.specs.List.{IsDistinct}
 use Rattle.scc_common.specs.Contents.{entries, owed_of, key_hash, settings_of, overflow_of}
 use Rattle.scc_buckets.specs.OneList.{HasSameLists, IsPutIn}
 use Rattle.scc_table.specs.TwoArrays.{draining_of, IsTable, together}
-use Rattle.scc_table.proofs.Joining.{waiting-together}
-use Rattle.scc_table.proofs.Noting.{fields-less, owed-kept}
-use Rattle.scc_table.proofs.PuttingLemmas.{unique-answered, fields-put, owed-put, put-together, same-together, new-own}
-use Rattle.scc_table.proofs.Same.{by-answer, hash-same, if-ok, on-err}
-use Rattle.scc_table.proofs.Viewed.{settings-seen, waiting-seen}
-use Rattle.scc_table.proofs.OneBucket.{flag-down, within-own}
+use Rattle.scc_table.proofs.arrays.JoinedLists.{waiting-together}
+use Rattle.scc_table.proofs.arrays.Notes.{fields-less, owed-kept}
+use Rattle.scc_table.proofs.insertions.CurrentArray.{unique-answered, fields-put, owed-put, put-together, same-together, new-own}
+use Rattle.scc_table.proofs.arrays.SameParts.{by-answer, hash-same, if-ok, on-err}
+use Rattle.scc_table.proofs.arrays.Views.{settings-seen, waiting-seen}
+use Rattle.scc_table.proofs.arrays.OneBucket.{flag-down, within-own}
 use Rattle.scc_table.proofs.Table.insert_made_in.Goals as goal
-use Rattle.scc_table.proofs.Table.insert_made_in.Goals.{then-self-gt0+else-is_overflow_full, else-self-gt0}
+use Rattle.scc_table.proofs.Table.insert_made_in.Goals.{then-self-gt0+else-has_no_room, else-self-gt0}
 
 pub insert_made_in-placed-requires : goal.insert_made_in-placed-requires
 insert_made_in-placed-requires g c =
@@ -47,9 +47,9 @@ invariant_of-self g c =
     let there : IsAfter = by-answer c.insert_made_in-placed.result c.insert_made_in-placed.ensures.exact c.insert_made_in-placed.ensures.stays
     (λ p put.
     let left : overflow_of new + t.draining.left_overflow < 2 ^ 62 = elim c.if-self-gt0.branch [
-      | then-self-gt0+else-is_overflow_full w ↦
+      | then-self-gt0+else-has_no_room w ↦
           let was = w.overflow_len-spilled.ensures.value in
-          elim (w.if-is_overflow_full.ensures.room (λ h. absurd (let z : false ≡ true = h in cc))) [
+          elim (w.if-has_no_room.ensures.room (λ h. absurd (let z : false ≡ true = h in cc))) [
             | inl q ↦ let s = put.short (omega (arith, w.list_len-listed.ensures)) in omega (arith, inv.few)
             | inr q ↦ omega (arith, put.spilled)
           ]

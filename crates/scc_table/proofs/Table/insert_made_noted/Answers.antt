@@ -2,8 +2,8 @@ use Rattle.std.proofs.Common.{◌∙◌, inl, sym, ap, arith, rules}
 use Rattle.scc_buckets.proofs.Resizes.{rests-inserted}
 use Rattle.scc_table.specs.Places.{spot_of}
 use Rattle.scc_table.specs.TwoArrays.{waits_at}
-use Rattle.scc_table.proofs.Same.{count-same, entries-same, if-err, if-ok, pending-same, unchanged-same, hash-same}
-use Rattle.scc_table.proofs.PuttingLemmas.{new-same}
+use Rattle.scc_table.proofs.arrays.SameParts.{count-same, entries-same, if-err, if-ok, pending-same, unchanged-same, hash-same}
+use Rattle.scc_table.proofs.insertions.CurrentArray.{new-same}
 use Rattle.scc_table.proofs.Table.insert_made_noted.Goals as goal
 
 pub insert_made_and_relocate-requires : goal.insert_made_and_relocate-requires

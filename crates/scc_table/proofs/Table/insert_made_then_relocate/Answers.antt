@@ -1,8 +1,8 @@
 use Rattle.std.proofs.Common.{◌∙◌, drop, ap, subst, arith, rules}
 use Rattle.scc_table.specs.Relocates.{AreMovedFrom}
-use Rattle.scc_table.proofs.Placing.{placed-at, placed-count, placed-down, placed-fewer, placed-short}
-use Rattle.scc_table.proofs.Same.{count-same, pending-same, unchanged-same, unique-same}
-use Rattle.scc_table.proofs.Targets.{targets-same}
+use Rattle.scc_table.proofs.insertions.Places.{placed-at, placed-count, placed-down, placed-fewer, placed-short}
+use Rattle.scc_table.proofs.arrays.SameParts.{count-same, pending-same, unchanged-same, unique-same}
+use Rattle.scc_table.proofs.relocations.Targets.{targets-same}
 use Rattle.scc_table.proofs.Table.insert_made_then_relocate.Goals as goal
 
 pub returns-in-Ok : goal.returns-in-Ok

@@ -4,9 +4,9 @@ use Rattle.scc_common.specs.Contents.{HasRoomAt, bucket_count, entries, key_hash
 use Rattle.scc_common.specs.Routing.{bucket_number}
 use Rattle.scc_table.specs.Relocates.{AreMovedBeside}
 use Rattle.scc_table.specs.TwoArrays.{pending_targets}
-use Rattle.scc_table.proofs.Listed.{count-listed}
-use Rattle.scc_table.proofs.Targets.{by-two}
-use Rattle.scc_table.proofs.Viewed.{pending-seen}
+use Rattle.scc_table.proofs.places.OneList.{count-listed}
+use Rattle.scc_table.proofs.relocations.Targets.{by-two}
+use Rattle.scc_table.proofs.arrays.Views.{pending-seen}
 use Rattle.scc_table.proofs.Table.insert_new.Goals as goal
 
 pub insert_with_room-requires-clause-none : goal.insert_with_room-requires-clause-none

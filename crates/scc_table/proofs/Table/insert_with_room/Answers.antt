@@ -3,15 +3,15 @@ use Rattle.std.specs.List.{IsDistinct}
 use Rattle.scc_common.specs.Contents.{entries, key_hash, list_of, overflow_of, pending_of, waiting_of}
 use Rattle.scc_buckets.specs.OneList.{IsPutIn}
 use Rattle.scc_table.specs.TwoArrays.{IsTable, draining_of, pending_targets, together}
-use Rattle.scc_table.proofs.Joining.{waiting-together}
-use Rattle.scc_table.proofs.NotWaiting.{not_waiting-all}
-use Rattle.scc_table.proofs.OldSpots.{own-list}
-use Rattle.scc_table.proofs.OneBucket.{flag-down, within-own}
-use Rattle.scc_table.proofs.Placing.{moved-nothing, none-left, placed-at, placed-count, placed-down, placed-fewer}
-use Rattle.scc_table.proofs.PuttingLemmas.{fields-put, put-together, unique-answered, new-own}
-use Rattle.scc_table.proofs.Same.{hash-same, pending-same}
-use Rattle.scc_table.proofs.Targets.{targets-same}
-use Rattle.scc_table.proofs.Viewed.{settings-seen, waiting-seen}
+use Rattle.scc_table.proofs.arrays.JoinedLists.{waiting-together}
+use Rattle.scc_table.proofs.arrays.NoneWaits.{not_waiting-all}
+use Rattle.scc_table.proofs.places.OldSpots.{own-list}
+use Rattle.scc_table.proofs.arrays.OneBucket.{flag-down, within-own}
+use Rattle.scc_table.proofs.insertions.Places.{moved-nothing, none-left, placed-at, placed-count, placed-down, placed-fewer}
+use Rattle.scc_table.proofs.insertions.CurrentArray.{fields-put, put-together, unique-answered, new-own}
+use Rattle.scc_table.proofs.arrays.SameParts.{hash-same, pending-same}
+use Rattle.scc_table.proofs.relocations.Targets.{targets-same}
+use Rattle.scc_table.proofs.arrays.Views.{settings-seen, waiting-seen}
 use Rattle.scc_table.proofs.Table.insert_with_room.Goals as goal
 
 pub insert_with_room-requires-clause-new : goal.insert_with_room-requires-clause-new

@@ -11,13 +11,13 @@ use Rattle.scc_buckets.proofs.Fresh.{empty-replicate}
 use Rattle.scc_buckets.proofs.MakingLemmas.{flat-empty, table-empty}
 use Rattle.scc_table.specs.TwoArrays.{together}
 use Rattle.scc_buckets.proofs.Bare.{all-bare}
-use Rattle.scc_table.proofs.Alone.{nothing-owed, spilled-together}
+use Rattle.scc_table.proofs.arrays.OneArray.{nothing-owed, spilled-together}
 use Rattle.scc_draining.proofs.Arriving.{IsDistinct-nil}
-use Rattle.scc_table.proofs.Joining.{waiting-together, pending-together, refused-together}
-use Rattle.scc_table.proofs.Same.{hash-same}
-use Rattle.scc_table.proofs.InstallingLemmas.{count-up}
-use Rattle.scc_table.proofs.Viewed.{not_waiting-flags, settings-seen, refused-seen, spilled-seen}
-use Rattle.scc_table.proofs.Begun.{begun, begun-lists, begun-same, exchanged}
+use Rattle.scc_table.proofs.arrays.JoinedLists.{waiting-together, pending-together, refused-together}
+use Rattle.scc_table.proofs.arrays.SameParts.{hash-same}
+use Rattle.scc_table.proofs.resizes.Installation.{count-up}
+use Rattle.scc_table.proofs.arrays.Views.{not_waiting-flags, settings-seen, refused-seen, spilled-seen}
+use Rattle.scc_table.proofs.resizes.Exchange.{begun, begun-lists, begun-same, exchanged}
 use Rattle.scc_table.proofs.Table.install.Goals as goal
 
 pub install-old-requires-clause-table : goal.install-old-requires-clause-table

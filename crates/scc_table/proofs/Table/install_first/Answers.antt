@@ -4,13 +4,13 @@ use Rattle.scc_common.specs.Contents.{bucket_count, entries, key_hash, minimum_o
 use Rattle.scc_common.specs.Sizes.{IsBucketCount, IsArraySize}
 use Rattle.scc_buckets.specs.Tables.{overflow_in}
 use Rattle.scc_table.specs.TwoArrays.{draining_of, IsTable, together}
-use Rattle.scc_table.proofs.Alone.{count-alone, entries-alone, nothing-owed, spilled-bare, spilled-together}
+use Rattle.scc_table.proofs.arrays.OneArray.{count-alone, entries-alone, nothing-owed, spilled-bare, spilled-together}
 use Rattle.scc_draining.proofs.Arriving.{IsDistinct-nil}
-use Rattle.scc_table.proofs.Firsts.{fields-first, first-grows, first-rests, no-flags, same-rests}
-use Rattle.scc_table.proofs.Joining.{refused-together, settings-together, waiting-together}
-use Rattle.scc_table.proofs.Same.{any-err, hash-same}
-use Rattle.scc_table.proofs.Short.{first-resized}
-use Rattle.scc_table.proofs.Viewed.{count-seen, refused-seen, settings-seen}
+use Rattle.scc_table.proofs.resizes.FirstArray.{fields-first, first-grows, first-rests, no-flags, same-rests}
+use Rattle.scc_table.proofs.arrays.JoinedLists.{refused-together, settings-together, waiting-together}
+use Rattle.scc_table.proofs.arrays.SameParts.{any-err, hash-same}
+use Rattle.scc_table.proofs.relocations.ShortLists.{first-resized}
+use Rattle.scc_table.proofs.arrays.Views.{count-seen, refused-seen, settings-seen}
 use Rattle.scc_table.proofs.Table.install_first.Goals as goal
 
 pub install_first-requires : goal.install_first-requires

@@ -1,7 +1,7 @@
 use Rattle.std.proofs.Common.{◌∙◌, sym, subst, rules}
 use Rattle.std.specs.List.Sorted.{IsPermutation}
 use Rattle.scc_common.specs.Contents.{entries}
-use Rattle.scc_table.proofs.Same.{entries-same, regrouped-same, pending-same}
+use Rattle.scc_table.proofs.arrays.SameParts.{entries-same, regrouped-same, pending-same}
 use Rattle.scc_table.proofs.Table.install_fresh.Goals as goal
 
 pub returns-in-Ok : goal.returns-in-Ok

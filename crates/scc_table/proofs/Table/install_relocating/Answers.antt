@@ -10,14 +10,14 @@ use Rattle.scc_buckets.proofs.Fresh.{empty-replicate}
 use Rattle.scc_buckets.proofs.MakingLemmas.{flat-empty}
 use Rattle.scc_table.specs.TwoArrays.{together, IsTable}
 use Rattle.scc_buckets.proofs.Bare.{all-bare}
-use Rattle.scc_table.proofs.Alone.{nothing-owed}
+use Rattle.scc_table.proofs.arrays.OneArray.{nothing-owed}
 use Rattle.scc_draining.proofs.Arriving.{same-contents, IsDistinct-nil}
-use Rattle.scc_table.proofs.Begun.{exchanged, begun, begun-bare, begun-count, begun-unique, begun-up, taken-fields, taken-less, taken-lists, taken-same}
-use Rattle.scc_table.proofs.Grown.{settle-all}
-use Rattle.scc_table.proofs.Joining.{refused-together, waiting-together}
-use Rattle.scc_table.proofs.Same.{hash-same}
-use Rattle.scc_table.proofs.Viewed.{refused-seen, settings-seen, not_waiting-flags}
-use Rattle.scc_table.proofs.OneBucket.{old-multiples, old-sized, unique-coming}
+use Rattle.scc_table.proofs.resizes.Exchange.{exchanged, begun, begun-bare, begun-count, begun-unique, begun-up, taken-fields, taken-less, taken-lists, taken-same}
+use Rattle.scc_table.proofs.resizes.Growth.{settle-all}
+use Rattle.scc_table.proofs.arrays.JoinedLists.{refused-together, waiting-together}
+use Rattle.scc_table.proofs.arrays.SameParts.{hash-same}
+use Rattle.scc_table.proofs.arrays.Views.{refused-seen, settings-seen, not_waiting-flags}
+use Rattle.scc_table.proofs.arrays.OneBucket.{old-multiples, old-sized, unique-coming}
 use Rattle.scc_table.proofs.Table.install_relocating.Goals as goal
 
 pub install-old-requires-clause-unique : goal.install-old-requires-clause-unique

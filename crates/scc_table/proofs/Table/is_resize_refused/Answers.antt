@@ -1,6 +1,6 @@
 use Rattle.std.proofs.Common.{Bool, sym, ap, ◌∙◌}
 use Rattle.scc_common.specs.Contents.{refused_of}
-use Rattle.scc_table.proofs.Joining.{refused-together}
+use Rattle.scc_table.proofs.arrays.JoinedLists.{refused-together}
 use Rattle.scc_table.proofs.Table.is_resize_refused.Goals as goal
 
 pub returns : goal.returns

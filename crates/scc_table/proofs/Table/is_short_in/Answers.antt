@@ -1,8 +1,8 @@
 use Rattle.std.proofs.Common.{◌≡◌, ◌∙◌, ◌*◌, ◌/◌, ◌<◌, ◌≤◌, length, ap, subst, sym, mul_comm, arith}
 use native.Mathlib.Decide.{dec_lt}
 use Rattle.scc_common.specs.Contents.{bucket_count, entries, key_hash, settings_of}
-use Rattle.scc_buckets.specs.Pour.{bound_for}
-use Rattle.scc_table.proofs.Short.{even-parts}
+use Rattle.scc_buckets.specs.Pour.{destined_for}
+use Rattle.scc_table.proofs.relocations.ShortLists.{even-parts}
 use Rattle.scc_table.proofs.Table.is_short_in.Goals as goal
 
 pub joined_len-requires-clause-spread : goal.joined_len-requires-clause-spread
@@ -23,5 +23,5 @@ loop-target-preserved g c =
     let hash = λ (e : g.row.E.Denot). key_hash g.H.BuildHasher g.H.Hasher.Hasher g.E.Key.Hash.hash_input a (g.E.Keyed.key_of e) in
     λ i l. elim (dec_lt i c.loop-target.target) [
       | yes q ↦ c.loop-target.invariant i q
-      | no q ↦ let at : c.loop-target.target ≡ i = omega arith in subst (λ m. length (bound_for hash (settings_of a).skipped c.args.count m (entries a)) ≤ 32) at (omega (arith, c.joined_len.ensures))
+      | no q ↦ let at : c.loop-target.target ≡ i = omega arith in subst (λ m. length (destined_for hash (settings_of a).skipped c.args.count m (entries a)) ≤ 32) at (omega (arith, c.joined_len.ensures))
     ]

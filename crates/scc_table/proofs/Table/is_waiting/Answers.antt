@@ -2,7 +2,7 @@ use Rattle.std.proofs.Common.{◌≡◌, ◌<◌, ◌∙◌, true, false, sym, a
 use Rattle.std.proofs.lemmas.List.{get_or_read}
 use Rattle.scc_common.specs.Contents.{bucket_count, waiting_of}
 use Rattle.scc_table.specs.TwoArrays.{waits_at}
-use Rattle.scc_table.proofs.Joining.{count-together, waiting-together, flags-length}
+use Rattle.scc_table.proofs.arrays.JoinedLists.{count-together, waiting-together, flags-length}
 use Rattle.scc_table.proofs.Table.is_waiting.Goals as goal
 
 pub index-requires : goal.index-requires

@@ -1,7 +1,7 @@
 use Rattle.std.proofs.Common.{◌≡◌, ◌∙◌, ◌+◌, ◌*◌, ◌^◌, ◌<◌, ◌≤◌, inl, inr, ap, sym, length, arith}
 use Rattle.scc_common.specs.Contents.{bucket_count, key_hash, settings_of}
-use Rattle.scc_buckets.specs.Pour.{bound_for}
-use Rattle.scc_table.proofs.Short.{entries_until, joined-start, joined-more, joined-end, row-within}
+use Rattle.scc_buckets.specs.Pour.{destined_for}
+use Rattle.scc_table.proofs.relocations.ShortLists.{entries_until, joined-start, joined-more, joined-end, row-within}
 use Rattle.scc_table.proofs.Table.joined_len.Goals as goal
 
 pub overflow_mul-first : goal.overflow_mul-first
@@ -37,5 +37,5 @@ returns g c =
     let hash = λ (e : g.row.E.Denot). key_hash g.H.BuildHasher g.H.Hasher.Hasher g.E.Key.Hash.hash_input a (g.E.Keyed.key_of e) in
     let upper = c.loop-bucket.auto.bucket-end (omega arith) in
     let at : c.loop-bucket.bucket ≡ c.args.target * c.args.spread + c.args.spread = omega arith in
-    c.loop-bucket.invariant.total ∙ ap (λ m. length (bound_for hash (settings_of a).skipped c.args.count c.args.target (entries_until a m))) at
+    c.loop-bucket.invariant.total ∙ ap (λ m. length (destined_for hash (settings_of a).skipped c.args.count c.args.target (entries_until a m))) at
     ∙ joined-end hash a c.requires.listed c.args.count c.args.spread c.requires.spread c.requires.some c.args.target

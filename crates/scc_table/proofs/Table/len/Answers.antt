@@ -4,7 +4,7 @@ use Rattle.scc_array.specs.Shelf.{Shelf, shelf_entries}
 use Rattle.scc_common.specs.Contents.{entries, bucket_count, key_hash, overflow_of}
 use Rattle.scc_buckets.specs.Tables.{overflow_in}
 use Rattle.scc_draining.specs.Moves.{AreMultiples}
-use Rattle.scc_table.proofs.Gathered.{owed-most, len-fits, length-together, none-owed}
+use Rattle.scc_table.proofs.arrays.Lists.{owed-most, len-fits, length-together, none-owed}
 use Rattle.scc_table.proofs.Table.len.Goals as goal
 
 pub overflow_add-result : goal.overflow_add-result

@@ -1,8 +1,8 @@
 use Rattle.std.proofs.Common.{subst}
 use Rattle.scc_common.specs.Contents.{key_hash, IsRouted}
 use Rattle.scc_common.specs.Hashing.{hash_of}
-use Rattle.scc_table.proofs.Seen.{settings-seen}
-use Rattle.scc_table.proofs.SearchingLemmas.{routed-together}
+use Rattle.scc_table.proofs.arrays.CurrentParts.{settings-seen}
+use Rattle.scc_table.proofs.places.Searches.{routed-together}
 use Rattle.scc_table.proofs.Table.list_facts.Goals as goal
 
 pub returns-clause-routed : goal.returns-clause-routed

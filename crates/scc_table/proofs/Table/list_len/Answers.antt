@@ -1,14 +1,14 @@
 use Rattle.std.proofs.Common.{◌≡◌, ◌∙◌, ◌^◌, ◌<◌, true, false, length, sym, ap, arith}
 use Rattle.std.specs.List.{flat_map}
 use Rattle.scc_array.specs.Shelf.{shelf_entries}
-use Rattle.scc_buckets.specs.Pour.{bound_for}
+use Rattle.scc_buckets.specs.Pour.{destined_for}
 use Rattle.scc_common.specs.Contents.{bucket_count, key_hash, list_of, settings_of}
 use Rattle.scc_table.specs.TwoArrays.{waits_at}
-use Rattle.scc_table.proofs.OldSpots.{own-list}
+use Rattle.scc_table.proofs.places.OldSpots.{own-list}
 use Rattle.scc_draining.proofs.FromBuckets.{most-entry_count, within-sources}
-use Rattle.scc_table.proofs.Preparing.{long-flags, waiting-list}
+use Rattle.scc_table.proofs.relocations.Preparation.{long-flags, waiting-list}
 use Rattle.scc_buckets.specs.Tables.{overflow_in}
-use Rattle.scc_table.proofs.OneBucket.{count-own, flag-free, flag-up, old-multiples, old-sized, target-within}
+use Rattle.scc_table.proofs.arrays.OneBucket.{count-own, flag-free, flag-up, old-multiples, old-sized, target-within}
 use Rattle.scc_table.proofs.Table.list_len.Goals as goal
 
 pub sources-first-requires-clause-some : goal.sources-first-requires-clause-some
@@ -77,7 +77,7 @@ returns-then-is_waiting g c =
     let up = flag-up c.self.invariant _ c.self.view_is (c.is_waiting.ensures.0 c.if-is_waiting.true) in
     let es = flat_map shelf_entries olds in
     let all = waiting-list hash cur ws olds inv.arrays i up (long-flags cur ws i inv.arrays.flags up) in
-    c.count_all.ensures ∙ ap (λ s. length (bound_for hash s c.bucket_count-count.result i es)) inv.skips ∙ ap (λ n. length (bound_for hash (settings_of cur).skipped n i es)) c.bucket_count-count.ensures.count ∙ ap length (sym all)
+    c.count_all.ensures ∙ ap (λ s. length (destined_for hash s c.bucket_count-count.result i es)) inv.skips ∙ ap (λ n. length (destined_for hash (settings_of cur).skipped n i es)) c.bucket_count-count.ensures.count ∙ ap length (sym all)
     ∙ ap (λ d. length (list_of d i)) c.self.view_is
 
 pub list_len-requires : goal.list_len-requires

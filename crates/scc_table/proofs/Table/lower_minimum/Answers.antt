@@ -1,8 +1,8 @@
 use Rattle.std.proofs.Common.{◌≡◌, ◌+◌, ◌-◌, ◌∙◌, rules, ap, sym, arith}
 use Rattle.scc_common.specs.Contents.{Settings, bucket_count, key_hash, settings_of, minimum_of}
-use Rattle.scc_table.proofs.Seen.{settings-seen}
+use Rattle.scc_table.proofs.arrays.CurrentParts.{settings-seen}
 use Rattle.scc_buckets.proofs.Resizes.{smaller-by, shrinks-after}
-use Rattle.scc_table.proofs.Spreading.{shrink-due_after, spreads-after}
+use Rattle.scc_table.proofs.resizes.Attempts.{shrink-due_after, spreads-after}
 use Rattle.scc_table.proofs.Table.lower_minimum.Goals as goal
 
 pub returns : goal.returns

@@ -3,10 +3,10 @@ use Rattle.std.specs.List.{count_by}
 use Rattle.scc_common.specs.Contents.{HasRoomAt, bucket_count, entries, key_hash, list_of, pending_of, settings_of}
 use Rattle.scc_common.specs.Routing.{bucket_number}
 use Rattle.scc_buckets.proofs.Resizes.{rests-resizes}
-use Rattle.scc_table.proofs.Listed.{count-listed}
-use Rattle.scc_table.proofs.Marked.{due-left, marks-left, marks-up, not-full, not-not_waiting}
-use Rattle.scc_table.proofs.Once.{room-marked, room-of}
-use Rattle.scc_table.proofs.Same.{count-same, hash-same}
+use Rattle.scc_table.proofs.places.OneList.{count-listed}
+use Rattle.scc_table.proofs.resizes.Marks.{due-left, marks-left, marks-up, not-full, not-not_waiting}
+use Rattle.scc_table.proofs.insertions.Room.{room-marked, room-of}
+use Rattle.scc_table.proofs.arrays.SameParts.{count-same, hash-same}
 use Rattle.scc_table.proofs.Table.make_room.Goals as goal
 
 pub returns-then-pending-gt0-clause-ok : goal.returns-then-pending-gt0-clause-ok

@@ -1,6 +1,6 @@
 use Rattle.std.proofs.Common.{◌∙◌, ◌+◌, ap}
 use Rattle.scc_common.specs.Contents.{key_hash}
-use Rattle.scc_table.proofs.Seen.{settings-seen}
+use Rattle.scc_table.proofs.arrays.CurrentParts.{settings-seen}
 use Rattle.scc_table.proofs.Table.minimum.Goals as goal
 
 pub returns-clause-value : goal.returns-clause-value

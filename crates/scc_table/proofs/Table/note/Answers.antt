@@ -1,10 +1,10 @@
 use Rattle.std.proofs.Common.{◌∙◌, ℕ, sym, ap, subst}
 use Rattle.scc_common.specs.Contents.{key_hash, lists_of, owed_of, overflow_of}
 use Rattle.scc_table.specs.TwoArrays.{draining_of, IsTable, together}
-use Rattle.scc_table.proofs.Joining.{settings-together, refused-together, waiting-together}
-use Rattle.scc_table.proofs.Noting.{fields-kept, lists-kept, owed-kept, spilled-kept}
-use Rattle.scc_table.proofs.Same.{hash-same}
-use Rattle.scc_table.proofs.Viewed.{settings-seen, waiting-seen}
+use Rattle.scc_table.proofs.arrays.JoinedLists.{settings-together, refused-together, waiting-together}
+use Rattle.scc_table.proofs.arrays.Notes.{fields-kept, lists-kept, owed-kept, spilled-kept}
+use Rattle.scc_table.proofs.arrays.SameParts.{hash-same}
+use Rattle.scc_table.proofs.arrays.Views.{settings-seen, waiting-seen}
 use Rattle.scc_table.proofs.Table.note.Goals as goal
 
 pub invariant_of-self : goal.invariant_of-self

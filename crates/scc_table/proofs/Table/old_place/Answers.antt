@@ -4,9 +4,9 @@ use Rattle.scc_buckets.specs.Places as spots
 use Rattle.scc_buckets.specs.declared.place.Place.{Place}
 use Rattle.scc_table.specs.Places.{StandsAt}
 use Rattle.scc_table.specs.NextPlaces.{rank_on}
-use Rattle.scc_table.proofs.Nexts.{bound-same, next-same, rank-end, rank-next, sources-more}
+use Rattle.scc_table.proofs.places.NextPlaces.{destined-same, next-same, rank-end, rank-next, sources-more}
 use Rattle.scc_draining.proofs.FromBuckets.{within-sources}
-use Rattle.scc_table.proofs.OneBucket.{flag-up, old-multiples, old-sized, owed-length, target-within}
+use Rattle.scc_table.proofs.arrays.OneBucket.{flag-up, old-multiples, old-sized, owed-length, target-within}
 use Rattle.scc_table.proofs.Table.old_place.Goals as goal
 
 pub sources-end-requires-clause-some : goal.sources-end-requires-clause-some
@@ -95,5 +95,5 @@ returns-in-None g c =
     let sources = within-sources hash (settings_of cur).skipped (bucket_count cur) i c.sources-end.result.0 c.sources-end.result.1 olds inv.arrays.own c.sources-end.ensures.order end only in
     let past : c.end_past-last.result ≤ length olds = elim c.end_past-last.ensures.one [ inl e ↦ omega (arith, e, end) | inr e ↦ omega (arith, e, few) ] in
     let more = sources-more hash (settings_of cur).skipped (bucket_count cur) i c.sources-end.result.0 c.sources-end.result.1 c.end_past-last.result olds sources c.end_past-last.ensures.least past in
-    let none = bound-same hash t.skipped (settings_of cur).skipped c.bucket_count-count.result (bucket_count cur) i _ _ inv.skips c.bucket_count-count.ensures.count c.in-None.ensures in
+    let none = destined-same hash t.skipped (settings_of cur).skipped c.bucket_count-count.result (bucket_count cur) i _ _ inv.skips c.bucket_count-count.ensures.count c.in-None.ensures in
     subst (λ d. rank_on d i c.args.source c.args.slot ≡ length (list_of d i)) c.self.view_is (rank-end hash cur ws olds inv.arrays i up c.sources-end.result.0 c.end_past-last.result c.args.source c.args.slot few more none)

@@ -1,7 +1,7 @@
 use Rattle.std.proofs.Common.{◌∙◌, arith}
 use Rattle.scc_common.specs.Contents.{key_hash}
-use Rattle.scc_table.proofs.Alone.{fields-alone, lists-alone, spilled-alone}
-use Rattle.scc_table.proofs.Joining.{settings-together, refused-together, waiting-together}
+use Rattle.scc_table.proofs.arrays.OneArray.{fields-alone, lists-alone, spilled-alone}
+use Rattle.scc_table.proofs.arrays.JoinedLists.{settings-together, refused-together, waiting-together}
 use Rattle.scc_table.proofs.Table.over.Goals as goal
 
 pub invariant_of-result : goal.invariant_of-result

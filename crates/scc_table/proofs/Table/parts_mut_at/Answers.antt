@@ -8,9 +8,9 @@ use Rattle.scc_common.specs.Hashing.{hash_of}
 use Rattle.scc_buckets.specs.Writes as writes
 use Rattle.scc_table.specs.Places.{index_of, with_write_at}
 use Rattle.scc_table.specs.TwoArrays.{draining_of, together, IsTable}
-use Rattle.scc_table.proofs.CurrentChanges.{settings-write}
-use Rattle.scc_table.proofs.SearchingLemmas.{near-not_waiting}
-use Rattle.scc_table.proofs.Written.{place-seen, own-got, own-is, own-kept, own-written, old-got, old-is, old-kept, old-written}
+use Rattle.scc_table.proofs.arrays.CurrentChanges.{settings-write}
+use Rattle.scc_table.proofs.places.Searches.{near-not_waiting}
+use Rattle.scc_table.proofs.arrays.Writes.{place-seen, own-got, own-is, own-kept, own-written, old-got, old-is, old-kept, old-written}
 use Rattle.scc_table.proofs.Table.parts_mut_at.Goals as goal
 use Rattle.scc_table.proofs.Table.parts_mut_at.Goals.{then-self-eq0-via-then-self-eq0, then-self-eq0-via-else-self-eq0+then-place-count}
 

@@ -1,6 +1,6 @@
 use Rattle.std.proofs.Common.{sym, ap, ◌∙◌}
 use Rattle.scc_common.specs.Contents.{pending_of}
-use Rattle.scc_table.proofs.Joining.{pending-together}
+use Rattle.scc_table.proofs.arrays.JoinedLists.{pending-together}
 use Rattle.scc_table.proofs.Table.pending.Goals as goal
 
 pub returns : goal.returns

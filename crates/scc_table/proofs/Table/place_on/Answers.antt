@@ -6,10 +6,10 @@ use Rattle.scc_buckets.proofs.Standing.{along, index-skip}
 use Rattle.scc_table.specs.Places.{StandsAt}
 use Rattle.scc_table.specs.NextPlaces.{index_on, rank_on}
 use Rattle.scc_table.specs.TwoArrays.{waits_at}
-use Rattle.scc_table.proofs.Nexts.{start-old, start-own, spot-on_old, spot-on_own, own-stands}
-use Rattle.scc_table.proofs.OldSpots.{own-list}
-use Rattle.scc_table.proofs.Seen.{waiting-seen}
-use Rattle.scc_table.proofs.OneBucket.{count-own}
+use Rattle.scc_table.proofs.places.NextPlaces.{start-old, start-own, spot-on_old, spot-on_own, own-stands}
+use Rattle.scc_table.proofs.places.OldSpots.{own-list}
+use Rattle.scc_table.proofs.arrays.CurrentParts.{waiting-seen}
+use Rattle.scc_table.proofs.arrays.OneBucket.{count-own}
 use Rattle.scc_table.proofs.Table.place_on.Goals as goal
 
 pub returns-then-slot-list_len : goal.returns-then-slot-list_len

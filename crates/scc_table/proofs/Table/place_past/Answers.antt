@@ -3,7 +3,7 @@ use Rattle.scc_common.specs.Contents.{bucket_count}
 use Rattle.scc_buckets.specs.Places as spots
 use Rattle.scc_buckets.specs.declared.place.Place.{Place}
 use Rattle.scc_buckets.proofs.Standing.{index-end, index-skip}
-use Rattle.scc_table.proofs.OneBucket.{count-own}
+use Rattle.scc_table.proofs.arrays.OneBucket.{count-own}
 use Rattle.scc_table.proofs.Table.place_past.Goals as goal
 
 pub first_in-requires : goal.first_in-requires

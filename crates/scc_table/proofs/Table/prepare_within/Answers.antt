@@ -1,8 +1,8 @@
 use Rattle.std.proofs.Common.{◌∙◌, Bool, inr, sym, ap, arith, rules}
 use Rattle.scc_common.specs.Hashing.{hash_of}
 use Rattle.scc_buckets.proofs.Bounds.{keeps-count}
-use Rattle.scc_table.proofs.Same.{count-same}
-use Rattle.scc_table.proofs.Short.{listed-later, listed-none}
+use Rattle.scc_table.proofs.arrays.SameParts.{count-same}
+use Rattle.scc_table.proofs.relocations.ShortLists.{listed-later, listed-none}
 use Rattle.scc_table.proofs.Table.prepare_within.Goals as goal
 
 pub returns-then-bucket_count-eq0 : goal.returns-then-bucket_count-eq0

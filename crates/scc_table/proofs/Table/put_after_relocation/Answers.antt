@@ -1,9 +1,9 @@
 use Rattle.std.proofs.Common.{arith, rules}
 use Rattle.scc_table.specs.TwoArrays.{pending_targets}
-use Rattle.scc_table.proofs.Placing.{relocated-left}
-use Rattle.scc_table.proofs.Same.{hash-same}
-use Rattle.scc_table.proofs.Short.{puts-from}
-use Rattle.scc_table.proofs.PuttingLemmas.{new-same}
+use Rattle.scc_table.proofs.insertions.Places.{relocated-left}
+use Rattle.scc_table.proofs.arrays.SameParts.{hash-same}
+use Rattle.scc_table.proofs.relocations.ShortLists.{puts-from}
+use Rattle.scc_table.proofs.insertions.CurrentArray.{new-same}
 use Rattle.scc_table.proofs.Table.put_after_relocation.Goals as goal
 
 pub put_then_relocate-requires-clause-new : goal.put_then_relocate-requires-clause-new

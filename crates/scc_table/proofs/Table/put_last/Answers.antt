@@ -4,13 +4,13 @@ use Rattle.scc_buckets.specs.Bounded.{IsBounded, IsListed, PutsLast}
 use Rattle.scc_common.specs.Contents.{Contents, bucket_count, entries, owed_of, key_hash, overflow_of}
 use Rattle.scc_common.specs.Hashing.{hash_of}
 use Rattle.scc_table.specs.TwoArrays.{draining_of, together, IsTable}
-use Rattle.scc_table.proofs.CurrentChanges.{own-fields, own-owed, own-list}
-use Rattle.scc_table.proofs.Joining.{settings-together, waiting-together}
-use Rattle.scc_table.proofs.Listing.{own-bounded, own-listed, own-puts_last, puts-list, unique-puts}
-use Rattle.scc_table.proofs.Seen.{settings-seen, waiting-seen}
-use Rattle.scc_table.proofs.OneBucket.{flag-free, within-own}
-use Rattle.scc_table.proofs.PuttingLemmas.{new-own}
-use Rattle.scc_table.proofs.Same.{hash-same}
+use Rattle.scc_table.proofs.arrays.CurrentChanges.{own-fields, own-owed, own-list}
+use Rattle.scc_table.proofs.arrays.JoinedLists.{settings-together, waiting-together}
+use Rattle.scc_table.proofs.insertions.AtEnds.{own-bounded, own-listed, own-puts_last, puts-list, unique-puts}
+use Rattle.scc_table.proofs.arrays.CurrentParts.{settings-seen, waiting-seen}
+use Rattle.scc_table.proofs.arrays.OneBucket.{flag-free, within-own}
+use Rattle.scc_table.proofs.insertions.CurrentArray.{new-own}
+use Rattle.scc_table.proofs.arrays.SameParts.{hash-same}
 use Rattle.scc_table.proofs.Table.put_last.Goals as goal
 
 pub put_last-requires-clause-new : goal.put_last-requires-clause-new

@@ -4,9 +4,9 @@ use Rattle.scc_common.specs.Contents.{waiting_of}
 use Rattle.scc_common.specs.Hashing.{hash_of}
 use Rattle.scc_buckets.proofs.PairSplits.{by_answer}
 use Rattle.scc_table.specs.TwoArrays.{pending_targets, waits_at}
-use Rattle.scc_table.proofs.Short.{listed-later, puts-later, short-listed}
-use Rattle.scc_table.proofs.Targets.{targets-length, targets-same}
-use Rattle.scc_table.proofs.Same.{list-same, unique-same}
+use Rattle.scc_table.proofs.relocations.ShortLists.{listed-later, puts-later, short-listed}
+use Rattle.scc_table.proofs.relocations.Targets.{targets-length, targets-same}
+use Rattle.scc_table.proofs.arrays.SameParts.{list-same, unique-same}
 use Rattle.scc_table.proofs.Table.put_then_relocate.Goals as goal
 
 pub put_last-put-requires-clause-not_waiting : goal.put_last-put-requires-clause-not_waiting

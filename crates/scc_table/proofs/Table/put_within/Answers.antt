@@ -2,7 +2,7 @@ use Rattle.std.proofs.Common.{◌≡◌, ◌∙◌, true, false, sym, rules}
 use Rattle.scc_common.specs.Contents.{waiting_of}
 use Rattle.scc_buckets.proofs.PairSplits.{by_answer}
 use Rattle.scc_table.specs.TwoArrays.{pending_targets, waits_at}
-use Rattle.scc_table.proofs.Placing.{not_waiting-left}
+use Rattle.scc_table.proofs.insertions.Places.{not_waiting-left}
 use Rattle.scc_table.proofs.Table.put_within.Goals as goal
 
 pub put_then_relocate-requires-clause-not_waiting : goal.put_then_relocate-requires-clause-not_waiting

@@ -1,7 +1,7 @@
 use Rattle.std.proofs.Common.{◌≡◌, ◌∙◌, ◌+◌, Bool, rules, sym, ap, arith}
 use Rattle.scc_common.specs.Contents.{key_hash, minimum_of, settings_of}
-use Rattle.scc_table.proofs.Seen.{settings-seen}
-use Rattle.scc_table.proofs.Spreading.{growth-due_after, spreads-after}
+use Rattle.scc_table.proofs.arrays.CurrentParts.{settings-seen}
+use Rattle.scc_table.proofs.resizes.Attempts.{growth-due_after, spreads-after}
 use Rattle.scc_table.proofs.Table.raise_minimum.Goals as goal
 
 pub returns : goal.returns

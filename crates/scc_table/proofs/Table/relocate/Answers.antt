@@ -5,11 +5,11 @@ use Rattle.scc_buckets.specs.Tables.{overflow_in}
 use Rattle.scc_common.specs.Hashing.{hash_of}
 use Rattle.scc_table.specs.TwoArrays.{draining_of, together, IsTable, IsRelocated}
 use Rattle.scc_buckets.proofs.Bare.{all-bare}
-use Rattle.scc_table.proofs.Alone.{bare-together, spilled-alone, spilled-together}
-use Rattle.scc_table.proofs.Relocated.{others, last, bare-after, fields-after, fields-last, relocated-after, spilled-le}
-use Rattle.scc_table.proofs.RelocatingLemmas.{up-within, one-down}
-use Rattle.scc_table.proofs.Viewed.{spilled-seen}
-use Rattle.scc_table.proofs.OneBucket.{flag-up, flags-whole, list-coming, moved-within, old-multiples, old-sized, some-pending, target-within, unique-coming}
+use Rattle.scc_table.proofs.arrays.OneArray.{bare-together, spilled-alone, spilled-together}
+use Rattle.scc_table.proofs.relocations.Fields.{others, last, bare-after, fields-after, fields-last, relocated-after, spilled-le}
+use Rattle.scc_table.proofs.relocations.Contents.{up-within, one-down}
+use Rattle.scc_table.proofs.arrays.Views.{spilled-seen}
+use Rattle.scc_table.proofs.arrays.OneBucket.{flag-up, flags-whole, list-coming, moved-within, old-multiples, old-sized, some-pending, target-within, unique-coming}
 use Rattle.scc_table.proofs.Table.relocate.Goals as goal
 
 pub move_target-requires-clause-target : goal.move_target-requires-clause-target

@@ -1,7 +1,7 @@
 use Rattle.std.proofs.Common.{◌≡◌, ◌∙◌, sym, ap}
 use Rattle.scc_common.specs.Contents.{waiting_of}
 use Rattle.scc_table.specs.TwoArrays.{waits_at}
-use Rattle.scc_table.proofs.Joining.{waiting-together}
+use Rattle.scc_table.proofs.arrays.JoinedLists.{waiting-together}
 use Rattle.scc_table.proofs.Table.relocate_next.Goals as goal
 
 pub invariant_of-self : goal.invariant_of-self

@@ -1,8 +1,8 @@
 use Rattle.std.proofs.Common.{◌≡◌, ◌∙◌, ◌+◌, sym, ap, subst, arith}
 use Rattle.scc_common.specs.Contents.{pending_of}
 use Rattle.scc_table.specs.Relocations.{RelocatesUpTo, TriesSecond}
-use Rattle.scc_table.proofs.RelocatingWithin.{SettlesFirst, settles-all, settles-most, settles-none, settles-one, settles-second, settles-start}
-use Rattle.scc_table.proofs.Viewed.{pending-seen}
+use Rattle.scc_table.proofs.relocations.FirstWaiting.{SettlesFirst, settles-all, settles-most, settles-none, settles-one, settles-second, settles-start}
+use Rattle.scc_table.proofs.arrays.Views.{pending-seen}
 use Rattle.scc_table.proofs.Table.relocate_some.Goals as goal
 
 pub loop-done-init : goal.loop-done-init

@@ -1,4 +1,4 @@
-use Rattle.scc_table.proofs.RelocatingWithin.{SettlesFirst}
+use Rattle.scc_table.proofs.relocations.FirstWaiting.{SettlesFirst}
 use Rattle.scc_table.proofs.Table.relocate_some.Given as goal
 
 abbrev pub invariant-loop-done : goal.invariant-loop-done

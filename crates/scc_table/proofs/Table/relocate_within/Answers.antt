@@ -2,8 +2,8 @@ use Rattle.std.proofs.Common.{◌∙◌, ap, arith}
 use Rattle.scc_common.specs.Contents.{waiting_of}
 use Rattle.scc_common.specs.Hashing.{hash_of}
 use Rattle.scc_table.specs.TwoArrays.{waits_at}
-use Rattle.scc_table.proofs.Short.{listed-later, settle-here}
-use Rattle.scc_table.proofs.Targets.{targets-after}
+use Rattle.scc_table.proofs.relocations.ShortLists.{listed-later, settle-here}
+use Rattle.scc_table.proofs.relocations.Targets.{targets-after}
 use Rattle.scc_table.proofs.Table.relocate_within.Goals as goal
 
 pub unreachable-requires : goal.unreachable-requires

@@ -1,7 +1,7 @@
 use Rattle.std.proofs.Common.{◌∙◌, sym, ap, arith}
 use Rattle.scc_common.specs.Contents.{key_hash, pending_of, waiting_of}
-use Rattle.scc_table.proofs.Joining.{pending-together, waiting-together}
-use Rattle.scc_table.proofs.ShrunkTakes.{removed-at}
+use Rattle.scc_table.proofs.arrays.JoinedLists.{pending-together, waiting-together}
+use Rattle.scc_table.proofs.removals.Shrinks.{removed-at}
 use Rattle.scc_table.proofs.Table.remove.Goals as goal
 
 pub remove_from_both-requires-clause-pending : goal.remove_from_both-requires-clause-pending

@@ -1,4 +1,4 @@
-use Rattle.scc_table.proofs.ShrunkTakes.{removed-at}
+use Rattle.scc_table.proofs.removals.Shrinks.{removed-at}
 use Rattle.scc_table.proofs.Table.remove_at.Goals as goal
 
 pub returns : goal.returns

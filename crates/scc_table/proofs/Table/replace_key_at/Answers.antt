@@ -8,8 +8,8 @@ use Rattle.scc_common.specs.Hashing.{hash_of}
 use Rattle.scc_buckets.specs.Writes as writes
 use Rattle.scc_table.specs.Places.{index_of, with_write_at}
 use Rattle.scc_table.specs.TwoArrays.{draining_of, together, IsTable}
-use Rattle.scc_table.proofs.CurrentChanges.{settings-write}
-use Rattle.scc_table.proofs.Written.{place-seen, own-got, own-is, own-kept, own-written, old-got, old-is, old-kept, old-written}
+use Rattle.scc_table.proofs.arrays.CurrentChanges.{settings-write}
+use Rattle.scc_table.proofs.arrays.Writes.{place-seen, own-got, own-is, own-kept, own-written, old-got, old-is, old-kept, old-written}
 use Rattle.scc_table.proofs.Table.replace_key_at.Goals as goal
 
 pub replace_key_at-requires-clause-within : goal.replace_key_at-requires-clause-within

@@ -2,8 +2,8 @@ use Rattle.std.proofs.Common.{◌≡◌, ◌∙◌, ℕ, ap, subst, arith, rules
 use Rattle.std.specs.List.{count_by}
 use Rattle.std.specs.List.Sorted.{IsPermutation}
 use Rattle.scc_common.specs.Contents.{entries, key_hash}
-use Rattle.scc_table.proofs.Finishing.{pending-is}
-use Rattle.scc_table.proofs.Same.{count-same, entries-same, hash-same, on-ok, on-err, pending-same, regrouped-from, unchanged-same}
+use Rattle.scc_table.proofs.relocations.OneByOne.{pending-is}
+use Rattle.scc_table.proofs.arrays.SameParts.{count-same, entries-same, hash-same, on-ok, on-err, pending-same, regrouped-from, unchanged-same}
 use Rattle.scc_table.proofs.Table.resize_to.Goals as goal
 
 pub install_fresh-requires-clause-not_waiting : goal.install_fresh-requires-clause-not_waiting

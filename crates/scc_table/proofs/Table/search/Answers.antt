@@ -4,9 +4,9 @@ use Rattle.scc_common.specs.Contents.{entries, key_hash, pending_of}
 use Rattle.scc_common.specs.Hashing.{hash_of}
 use Rattle.scc_buckets.proofs.Standing.{along}
 use Rattle.scc_table.specs.Places.{IsFoundAt}
-use Rattle.scc_table.proofs.Joining.{pending-together}
-use Rattle.scc_table.proofs.Seen.{settings-seen}
-use Rattle.scc_table.proofs.SearchingLemmas.{entries-not_waiting, found-not_waiting}
+use Rattle.scc_table.proofs.arrays.JoinedLists.{pending-together}
+use Rattle.scc_table.proofs.arrays.CurrentParts.{settings-seen}
+use Rattle.scc_table.proofs.places.Searches.{entries-not_waiting, found-not_waiting}
 use Rattle.scc_table.proofs.Table.search.Goals as goal
 
 pub search-requires : goal.search-requires

@@ -7,9 +7,9 @@ use Rattle.scc_buckets.specs.declared.place.Place.{Place}
 use Rattle.scc_buckets.proofs.FindingLemmas.{HashOf, has_tag}
 use Rattle.scc_table.specs.Places.{IsFoundAt}
 use Rattle.scc_table.specs.TwoArrays.{waits_at}
-use Rattle.scc_table.proofs.Seen.{settings-seen}
-use Rattle.scc_table.proofs.SearchingLemmas.{found-own, missed-own, found-old, missed-old}
-use Rattle.scc_table.proofs.OneBucket.{bucket-within, flag-read, index-within, source-within, source-number}
+use Rattle.scc_table.proofs.arrays.CurrentParts.{settings-seen}
+use Rattle.scc_table.proofs.places.Searches.{found-own, missed-own, found-old, missed-old}
+use Rattle.scc_table.proofs.arrays.OneBucket.{bucket-within, flag-read, index-within, source-within, source-number}
 use Rattle.scc_table.proofs.Table.search_both.Goals as goal
 
 pub index-requires : goal.index-requires

@@ -4,10 +4,10 @@ use Rattle.scc_common.specs.Contents.{Contents, bucket_count, entries, key_hash,
 use Rattle.scc_common.specs.Hashing.{hash_of}
 use Rattle.scc_common.specs.Routing.{bucket_number}
 use Rattle.scc_buckets.proofs.FindingLemmas.{HashOf}
-use Rattle.scc_table.proofs.CurrentChanges.{own-list}
-use Rattle.scc_table.proofs.SearchingLemmas.{missed-own}
-use Rattle.scc_table.proofs.Seen.{settings-seen}
-use Rattle.scc_table.proofs.OneBucket.{count-own, flag-free}
+use Rattle.scc_table.proofs.arrays.CurrentChanges.{own-list}
+use Rattle.scc_table.proofs.places.Searches.{missed-own}
+use Rattle.scc_table.proofs.arrays.CurrentParts.{settings-seen}
+use Rattle.scc_table.proofs.arrays.OneBucket.{count-own, flag-free}
 use Rattle.scc_table.proofs.Table.search_in.Goals as goal
 
 pub search_in-requires-clause-within : goal.search_in-requires-clause-within

@@ -5,7 +5,7 @@ use Rattle.scc_common.specs.Routing.{bucket_number}
 use Rattle.scc_buckets.proofs.FindingLemmas.{HashOf}
 use Rattle.scc_buckets.proofs.Standing.{along}
 use Rattle.scc_table.specs.Places.{spot_of}
-use Rattle.scc_table.proofs.FoundInList.{listed-found, unlisted-missed}
+use Rattle.scc_table.proofs.places.ListFinds.{listed-found, unlisted-missed}
 use Rattle.scc_table.proofs.Table.search_place.Goals as goal
 
 pub returns : goal.returns

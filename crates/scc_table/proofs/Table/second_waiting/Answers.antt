@@ -3,8 +3,8 @@ use native.Mathlib.Decide.{dec_lt}
 use Rattle.std.proofs.lemmas.List.{get_or_past, get_or_read}
 use Rattle.scc_common.specs.Contents.{waiting_of}
 use Rattle.scc_table.specs.TwoArrays.{waits_at}
-use Rattle.scc_table.proofs.Joining.{waiting-together}
-use Rattle.scc_table.proofs.RelocatingLemmas.{up-within}
+use Rattle.scc_table.proofs.arrays.JoinedLists.{waiting-together}
+use Rattle.scc_table.proofs.relocations.Contents.{up-within}
 use Rattle.scc_table.proofs.Table.second_waiting.Goals as goal
 
 pub overflow_step-bucket : goal.overflow_step-bucket

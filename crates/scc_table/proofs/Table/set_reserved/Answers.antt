@@ -1,10 +1,10 @@
 use Rattle.std.proofs.Common.{◌∙◌, ℕ, sym, ap, subst}
 use Rattle.scc_common.specs.Contents.{Settings, key_hash, lists_of, owed_of}
 use Rattle.scc_table.specs.TwoArrays.{draining_of, IsTable, together}
-use Rattle.scc_table.proofs.Joining.{settings-together, refused-together, waiting-together}
-use Rattle.scc_table.proofs.Noting.{fields-kept, lists-kept, owed-kept}
-use Rattle.scc_table.proofs.Same.{hash-like, entries-same, count-same}
-use Rattle.scc_table.proofs.Viewed.{settings-seen, refused-seen, waiting-seen}
+use Rattle.scc_table.proofs.arrays.JoinedLists.{settings-together, refused-together, waiting-together}
+use Rattle.scc_table.proofs.arrays.Notes.{fields-kept, lists-kept, owed-kept}
+use Rattle.scc_table.proofs.arrays.SameParts.{hash-like, entries-same, count-same}
+use Rattle.scc_table.proofs.arrays.Views.{settings-seen, refused-seen, waiting-seen}
 use Rattle.scc_table.proofs.Table.set_reserved.Goals as goal
 
 pub set_reserved-requires : goal.set_reserved-requires

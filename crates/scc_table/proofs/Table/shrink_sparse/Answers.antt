@@ -3,7 +3,7 @@ use Rattle.std.proofs.lemmas.Bool.{true≢false}
 use Rattle.std.proofs.lemmas.List.Sorted.{length_permutation}
 use Rattle.scc_common.specs.Contents.{entries}
 use Rattle.scc_buckets.proofs.Resizes.{regrouped-shrunk, shrinks-due}
-use Rattle.scc_table.proofs.Spreading.{shrink-due, spreads-all, spreads-less}
+use Rattle.scc_table.proofs.resizes.Attempts.{shrink-due, spreads-all, spreads-less}
 use Rattle.scc_table.proofs.Table.shrink_sparse.Goals as goal
 
 pub overflow_mul-len : goal.overflow_mul-len

@@ -3,12 +3,12 @@ use Rattle.std.proofs.lemmas.Bool.{true≢false}
 use Rattle.scc_buckets.specs.Bounded.{IsResized, MayShrinkWithin, stays_wide, denied_narrow, narrows}
 use Rattle.scc_common.specs.Contents.{bucket_count, entries, key_hash, minimum_of, settings_of}
 use Rattle.scc_common.specs.Hashing.{hash_of}
-use Rattle.scc_buckets.specs.Pour.{IsRegrouped, bound_for}
+use Rattle.scc_buckets.specs.Pour.{IsRegrouped, destined_for}
 use Rattle.scc_common.specs.Sizes.{IsBucketCount, IsSmaller}
 use Rattle.scc_buckets.proofs.Powers.{max-array, smaller-to, smaller-only}
-use Rattle.scc_table.proofs.Same.{count-same}
-use Rattle.scc_table.proofs.Short.{listed-anew, listed-later, listed-resized, routed-before, short-listed}
-use Rattle.scc_table.proofs.Spreading.{spreads-all, spreads-less}
+use Rattle.scc_table.proofs.arrays.SameParts.{count-same}
+use Rattle.scc_table.proofs.relocations.ShortLists.{listed-anew, listed-later, listed-resized, routed-before, short-listed}
+use Rattle.scc_table.proofs.resizes.Attempts.{spreads-all, spreads-less}
 use Rattle.scc_table.proofs.Table.shrink_sparse_within.Goals as goal
 
 pub returns-then-count-present-clause-shrinks : goal.returns-then-count-present-clause-shrinks
@@ -28,7 +28,7 @@ returns-in-Ok-clause-shrinks g c =
     let made : IsSmaller (minimum_of a) (length (entries a)) (bucket_count a) n =
     rw c.max-count.ensures (smaller-to c.buckets_for.result c.buckets_for-2.result _ _ _ least fitting (omega (arith, c.requires.few)) (omega (arith, c.max-count.ensures, c.bucket_count-present.ensures.count))) in
     let array : IsBucketCount n = rw c.max-count.ensures (max-array _ _ c.buckets_for.ensures.array c.buckets_for-2.ensures.array) in
-    let short : (i : ℕ) → i < n → length (bound_for hash (settings_of a).skipped n i (entries a)) ≤ 32 = c.is_short_in.ensures.0 (search rules) in
+    let short : (i : ℕ) → i < n → length (destined_for hash (settings_of a).skipped n i (entries a)) ≤ 32 = c.is_short_in.ensures.0 (search rules) in
     let may : MayShrinkWithin hash a n = record { array = array; smaller = made; short = short } in
     let r = c.in-Ok.ensures in
     let size = r.lists.count in
@@ -50,7 +50,7 @@ returns-in-Ok-clause-listed g c =
     let made : IsSmaller (minimum_of a) (length (entries a)) (bucket_count a) n =
     rw c.max-count.ensures (smaller-to c.buckets_for.result c.buckets_for-2.result _ _ _ least fitting (omega (arith, c.requires.few)) (omega (arith, c.max-count.ensures, c.bucket_count-present.ensures.count))) in
     let array : IsBucketCount n = rw c.max-count.ensures (max-array _ _ c.buckets_for.ensures.array c.buckets_for-2.ensures.array) in
-    let short : (i : ℕ) → i < n → length (bound_for hash (settings_of a).skipped n i (entries a)) ≤ 32 = c.is_short_in.ensures.0 (search rules) in
+    let short : (i : ℕ) → i < n → length (destined_for hash (settings_of a).skipped n i (entries a)) ≤ 32 = c.is_short_in.ensures.0 (search rules) in
     let r = c.in-Ok.ensures in
     let size = r.lists.count in
     let resized : IsResized hash a d = record {
@@ -61,7 +61,7 @@ returns-in-Ok-clause-listed g c =
     let settings = c.resize_to.ensures.settings in
     let routed = routed-before (λ s (e : g.row.E.Denot). hash_of g.H.BuildHasher g.H.Hasher.Hasher s.hasher (g.E.Key.Hash.hash_input (g.E.Keyed.key_of e))) a d settings c.list_facts.ensures.routed in
     listed-anew (λ s (e : g.row.E.Denot). hash_of g.H.BuildHasher g.H.Hasher.Hasher s.hasher (g.E.Key.Hash.hash_input (g.E.Keyed.key_of e))) a d settings
-    (listed-resized hash a d resized routed (subst (λ m. (i : ℕ) → i < m → length (bound_for hash (settings_of a).skipped m i (entries a)) ≤ 32) (sym size) short))
+    (listed-resized hash a d resized routed (subst (λ m. (i : ℕ) → i < m → length (destined_for hash (settings_of a).skipped m i (entries a)) ≤ 32) (sym size) short))
 
 pub returns-in-Ok-clause-spreads : goal.returns-in-Ok-clause-spreads
 returns-in-Ok-clause-spreads g c =
@@ -74,7 +74,7 @@ returns-in-Ok-clause-spreads g c =
     let made : IsSmaller (minimum_of a) (length (entries a)) (bucket_count a) n =
     rw c.max-count.ensures (smaller-to c.buckets_for.result c.buckets_for-2.result _ _ _ least fitting (omega (arith, c.requires.few)) (omega (arith, c.max-count.ensures, c.bucket_count-present.ensures.count))) in
     let array : IsBucketCount n = rw c.max-count.ensures (max-array _ _ c.buckets_for.ensures.array c.buckets_for-2.ensures.array) in
-    let short : (i : ℕ) → i < n → length (bound_for hash (settings_of a).skipped n i (entries a)) ≤ 32 = c.is_short_in.ensures.0 (search rules) in
+    let short : (i : ℕ) → i < n → length (destined_for hash (settings_of a).skipped n i (entries a)) ≤ 32 = c.is_short_in.ensures.0 (search rules) in
     let may : MayShrinkWithin hash a n = record { array = array; smaller = made; short = short } in
     let r = c.in-Ok.ensures in
     spreads-all a d n r.lists.count (λ e. absurd (omega (arith, c.bucket_count-present.ensures.count))) r.pending (n, may)
@@ -89,7 +89,7 @@ returns-in-Err-clause-shrinks g c =
     let made : IsSmaller (minimum_of a) (length (entries a)) (bucket_count a) n =
     rw c.max-count.ensures (smaller-to c.buckets_for.result c.buckets_for-2.result _ _ _ least fitting (omega (arith, c.requires.few)) (omega (arith, c.max-count.ensures, c.bucket_count-present.ensures.count))) in
     let array : IsBucketCount n = rw c.max-count.ensures (max-array _ _ c.buckets_for.ensures.array c.buckets_for-2.ensures.array) in
-    let short : (i : ℕ) → i < n → length (bound_for hash (settings_of a).skipped n i (entries a)) ≤ 32 = c.is_short_in.ensures.0 (search rules) in
+    let short : (i : ℕ) → i < n → length (destined_for hash (settings_of a).skipped n i (entries a)) ≤ 32 = c.is_short_in.ensures.0 (search rules) in
     let may : MayShrinkWithin hash a n = record { array = array; smaller = made; short = short } in
     let r = c.in-Err.ensures in
     let bounded = c.resize_to.ensures.bounded c.requires.listed.bounded (short-listed hash a c.requires.listed) in
@@ -112,7 +112,7 @@ returns-in-Err-clause-spreads g c =
     let made : IsSmaller (minimum_of a) (length (entries a)) (bucket_count a) n =
     rw c.max-count.ensures (smaller-to c.buckets_for.result c.buckets_for-2.result _ _ _ least fitting (omega (arith, c.requires.few)) (omega (arith, c.max-count.ensures, c.bucket_count-present.ensures.count))) in
     let array : IsBucketCount n = rw c.max-count.ensures (max-array _ _ c.buckets_for.ensures.array c.buckets_for-2.ensures.array) in
-    let short : (i : ℕ) → i < n → length (bound_for hash (settings_of a).skipped n i (entries a)) ≤ 32 = c.is_short_in.ensures.0 (search rules) in
+    let short : (i : ℕ) → i < n → length (destined_for hash (settings_of a).skipped n i (entries a)) ≤ 32 = c.is_short_in.ensures.0 (search rules) in
     let may : MayShrinkWithin hash a n = record { array = array; smaller = made; short = short } in
     let r = c.in-Err.ensures in
     spreads-less a d (count-same a d r.still) r.fewer r.less (n, may)
@@ -125,4 +125,4 @@ returns-then-not-is_short_in-clause-shrinks g c =
     let fitting = rw c.len.ensures.len at c.buckets_for-2.ensures.size in
     stays_wide (λ m may.
     let same : m ≡ c.max-count.result = smaller-only c.buckets_for.result c.buckets_for-2.result m _ _ _ least fitting may.smaller ∙ sym c.max-count.ensures in
-    let yes = c.is_short_in.ensures.1 (subst (λ k. (i : ℕ) → i < k → length (bound_for hash (settings_of a).skipped k i (entries a)) ≤ 32) same may.short) in search rules) refl
+    let yes = c.is_short_in.ensures.1 (subst (λ k. (i : ℕ) → i < k → length (destined_for hash (settings_of a).skipped k i (entries a)) ≤ 32) same may.short) in search rules) refl

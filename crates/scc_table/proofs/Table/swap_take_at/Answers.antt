@@ -6,12 +6,12 @@ use Rattle.scc_buckets.specs.OneList.{IsSwappedOutOf}
 use Rattle.scc_table.specs.Places.{index_of, spot_of}
 use Rattle.scc_table.specs.Takes.{owed_taken}
 use Rattle.scc_table.specs.TwoArrays.{draining_of, together, IsTable}
-use Rattle.scc_table.proofs.Joining.{waiting-together}
-use Rattle.scc_table.proofs.Taken.{own-owed_kept, own-less_swapped, own-swapped}
-use Rattle.scc_table.proofs.TakenFrom.{swapped-count, swapped-moved, swapped-unique, taken-swapped}
-use Rattle.scc_table.proofs.SearchingLemmas.{near-not_waiting}
-use Rattle.scc_table.proofs.Viewed.{count-seen}
-use Rattle.scc_table.proofs.Written.{place-seen, own-got, own-is}
+use Rattle.scc_table.proofs.arrays.JoinedLists.{waiting-together}
+use Rattle.scc_table.proofs.removals.Fields.{own-owed_kept, own-less_swapped, own-swapped}
+use Rattle.scc_table.proofs.removals.OneList.{swapped-count, swapped-moved, swapped-unique, taken-swapped}
+use Rattle.scc_table.proofs.places.Searches.{near-not_waiting}
+use Rattle.scc_table.proofs.arrays.Views.{count-seen}
+use Rattle.scc_table.proofs.arrays.Writes.{place-seen, own-got, own-is}
 use Rattle.scc_table.proofs.Table.swap_take_at.Goals as goal
 use Rattle.scc_table.proofs.Table.swap_take_at.Goals.{then-self-eq0-via-then-self-eq0, then-self-eq0-via-else-self-eq0+then-place-bucket_count}
 

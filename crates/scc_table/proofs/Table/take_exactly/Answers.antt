@@ -6,10 +6,10 @@ use Rattle.scc_buckets.specs.OneList.{IsTakenFrom}
 use Rattle.scc_table.specs.Places.{index_of, spot_of}
 use Rattle.scc_table.specs.Takes.{owed_taken}
 use Rattle.scc_table.specs.TwoArrays.{draining_of, together, IsTable}
-use Rattle.scc_table.proofs.Joining.{waiting-together}
-use Rattle.scc_table.proofs.Taken.{own-owed_kept, own-less, own-taken}
-use Rattle.scc_table.proofs.Viewed.{count-seen}
-use Rattle.scc_table.proofs.Written.{place-seen, own-got, own-is}
+use Rattle.scc_table.proofs.arrays.JoinedLists.{waiting-together}
+use Rattle.scc_table.proofs.removals.Fields.{own-owed_kept, own-less, own-taken}
+use Rattle.scc_table.proofs.arrays.Views.{count-seen}
+use Rattle.scc_table.proofs.arrays.Writes.{place-seen, own-got, own-is}
 use Rattle.scc_table.proofs.Table.take_exactly.Goals as goal
 
 pub take_in-requires : goal.take_in-requires

@@ -3,9 +3,9 @@ use Rattle.scc_common.specs.Contents.{Contents, Settings, key_hash, waiting_of}
 use Rattle.scc_common.specs.Hashing.{hash_of}
 use Rattle.scc_table.specs.Removals.{SwapTakesFirst}
 use Rattle.scc_table.specs.TwoArrays.{draining_of, together}
-use Rattle.scc_table.proofs.Joining.{waiting-together}
-use Rattle.scc_table.proofs.Seen.{settings-seen}
-use Rattle.scc_table.proofs.CurrentTakes.{not_waiting-taken, not_waiting-left}
+use Rattle.scc_table.proofs.arrays.JoinedLists.{waiting-together}
+use Rattle.scc_table.proofs.arrays.CurrentParts.{settings-seen}
+use Rattle.scc_table.proofs.removals.CurrentArray.{not_waiting-taken, not_waiting-left}
 use Rattle.scc_table.proofs.Table.take_from_current.Goals as goal
 
 pub take_first-requires : goal.take_first-requires

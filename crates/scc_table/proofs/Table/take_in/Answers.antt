@@ -1,6 +1,6 @@
 use Rattle.std.proofs.Common.{rules}
 use Rattle.scc_table.specs.Places.{spot_of}
-use Rattle.scc_table.proofs.TakenFrom.{got-there, taken-exactly, taken-gone, taken-listed, taken-short, taken-unique}
+use Rattle.scc_table.proofs.removals.OneList.{got-there, taken-exactly, taken-gone, taken-listed, taken-short, taken-unique}
 use Rattle.scc_table.proofs.Table.take_in.Goals as goal
 
 pub returns : goal.returns

@@ -7,10 +7,10 @@ use Rattle.scc_buckets.specs.OneList.{IsTakenFrom}
 use Rattle.scc_table.specs.Places.{index_of, spot_of}
 use Rattle.scc_table.specs.Takes.{owed_taken}
 use Rattle.scc_table.specs.TwoArrays.{draining_of, together, IsTable}
-use Rattle.scc_table.proofs.Joining.{waiting-together}
-use Rattle.scc_table.proofs.Taken.{old-owed_taken, old-less, old-some, old-taken_at}
-use Rattle.scc_table.proofs.Viewed.{count-seen}
-use Rattle.scc_table.proofs.Written.{place-seen, old-got, old-is}
+use Rattle.scc_table.proofs.arrays.JoinedLists.{waiting-together}
+use Rattle.scc_table.proofs.removals.Fields.{old-owed_taken, old-less, old-some, old-taken_at}
+use Rattle.scc_table.proofs.arrays.Views.{count-seen}
+use Rattle.scc_table.proofs.arrays.Writes.{place-seen, old-got, old-is}
 use Rattle.scc_table.proofs.Table.take_old.Goals as goal
 
 pub remove_at-entry-requires-clause-bucket : goal.remove_at-entry-requires-clause-bucket

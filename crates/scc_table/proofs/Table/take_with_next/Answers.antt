@@ -1,5 +1,5 @@
 use Rattle.std.proofs.Common.{rules}
-use Rattle.scc_table.proofs.TakeSteps.{step-next, step-start}
+use Rattle.scc_table.proofs.walks.TakeSteps.{step-next, step-start}
 use Rattle.scc_table.proofs.Table.take_with_next.Goals as goal
 
 pub place_on-next-requires-clause-start : goal.place_on-next-requires-clause-start

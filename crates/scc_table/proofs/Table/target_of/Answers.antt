@@ -4,9 +4,9 @@ use Rattle.scc_array.specs.Shelf.{shelf_entries}
 use Rattle.scc_common.specs.Contents.{bucket_count, key_hash, settings_of}
 use Rattle.scc_common.specs.Routing.{bucket_number}
 use Rattle.scc_table.specs.Places.{spot_of}
-use Rattle.scc_table.proofs.Nexts.{NextStart, old-next, own-next, slot-below, few-entries}
-use Rattle.scc_table.proofs.OldSpots.{old-within, old-spot, own-spot}
-use Rattle.scc_table.proofs.OneBucket.{count-own, old-here, own-here}
+use Rattle.scc_table.proofs.places.NextPlaces.{NextStart, old-next, own-next, slot-below, few-entries}
+use Rattle.scc_table.proofs.places.OldSpots.{old-within, old-spot, own-spot}
+use Rattle.scc_table.proofs.arrays.OneBucket.{count-own, old-here, own-here}
 use Rattle.scc_table.proofs.Table.target_of.Goals as goal
 
 pub returns-then-place-count-clause-value : goal.returns-then-place-count-clause-value

@@ -4,11 +4,11 @@ use Rattle.scc_buckets.specs.Bounded.{HasList, IsBounded, IsListed}
 use Rattle.scc_common.specs.Contents.{Contents, bucket_count, entries, owed_of, key_hash, list_of, lists_of, overflow_of}
 use Rattle.scc_common.specs.Hashing.{hash_of}
 use Rattle.scc_table.specs.TwoArrays.{draining_of, together, IsTable}
-use Rattle.scc_table.proofs.CurrentChanges.{own-fields, own-owed, own-list}
-use Rattle.scc_table.proofs.Joining.{settings-together, waiting-together}
-use Rattle.scc_table.proofs.Listing.{own-bounded, own-has_list, own-listed, unique-moved}
-use Rattle.scc_table.proofs.Seen.{settings-seen, waiting-seen}
-use Rattle.scc_table.proofs.OneBucket.{flag-free, routed-own, within-own}
+use Rattle.scc_table.proofs.arrays.CurrentChanges.{own-fields, own-owed, own-list}
+use Rattle.scc_table.proofs.arrays.JoinedLists.{settings-together, waiting-together}
+use Rattle.scc_table.proofs.insertions.AtEnds.{own-bounded, own-has_list, own-listed, unique-moved}
+use Rattle.scc_table.proofs.arrays.CurrentParts.{settings-seen, waiting-seen}
+use Rattle.scc_table.proofs.arrays.OneBucket.{flag-free, routed-own, within-own}
 use Rattle.scc_table.proofs.Table.touch.Goals as goal
 
 pub touch-requires-clause-within : goal.touch-requires-clause-within

@@ -2,10 +2,10 @@ use Rattle.std.proofs.Common.{◌∙◌, subst, arith}
 use Rattle.scc_common.specs.Clones.{HasClones}
 use Rattle.scc_common.specs.Contents.{key_hash}
 use Rattle.scc_table.specs.TwoArrays.{together}
-use Rattle.scc_table.proofs.Cloned.{clones-together, old-short}
-use Rattle.scc_table.proofs.Gathered.{gathered}
-use Rattle.scc_table.proofs.Joining.{count-together, settings-together}
-use Rattle.scc_table.proofs.Same.{entries-same, count-same}
+use Rattle.scc_table.proofs.arrays.Clones.{clones-together, old-short}
+use Rattle.scc_table.proofs.arrays.Lists.{gathered}
+use Rattle.scc_table.proofs.arrays.JoinedLists.{count-together, settings-together}
+use Rattle.scc_table.proofs.arrays.SameParts.{entries-same, count-same}
 use Rattle.scc_table.proofs.Table.try_clone.Goals as goal
 
 pub insert_clones_of-requires : goal.insert_clones_of-requires

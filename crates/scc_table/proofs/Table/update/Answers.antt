@@ -6,10 +6,10 @@ use Rattle.scc_common.specs.Hashing.{hash_of}
 use Rattle.scc_table.specs.Places.{IsFoundAt, index_of}
 use Rattle.scc_table.specs.TwoArrays.{draining_of, together}
 use Rattle.scc_table.specs.Updates.{UpdatesFirst}
-use Rattle.scc_table.proofs.Joining.{pending-together}
-use Rattle.scc_table.proofs.SearchingLemmas.{entries-not_waiting}
-use Rattle.scc_table.proofs.Seen.{settings-seen}
-use Rattle.scc_table.proofs.UpdatingLemmas.{not_waiting-first, not_waiting-kept}
+use Rattle.scc_table.proofs.arrays.JoinedLists.{pending-together}
+use Rattle.scc_table.proofs.places.Searches.{entries-not_waiting}
+use Rattle.scc_table.proofs.arrays.CurrentParts.{settings-seen}
+use Rattle.scc_table.proofs.arrays.Updates.{not_waiting-first, not_waiting-kept}
 use Rattle.scc_table.proofs.Table.update.Goals as goal
 
 pub update-requires-clause-hashed : goal.update-requires-clause-hashed

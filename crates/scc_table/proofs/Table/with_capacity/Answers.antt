@@ -1,7 +1,7 @@
 use Rattle.std.proofs.Common.{◌∙◌, ℕ, sym, subst, ap, rules}
 use Rattle.scc_buckets.specs.Bounded.{IsListed}
 use Rattle.scc_common.specs.Contents.{key_hash}
-use Rattle.scc_table.proofs.Same.{entries-same, count-same, listed-same, hash-same}
+use Rattle.scc_table.proofs.arrays.SameParts.{entries-same, count-same, listed-same, hash-same}
 use Rattle.scc_table.proofs.Table.with_capacity.Goals as goal
 
 pub over-requires-clause-skips : goal.over-requires-clause-skips

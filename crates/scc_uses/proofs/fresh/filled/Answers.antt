@@ -1,5 +1,5 @@
 use Rattle.std.proofs.Common.{arith}
-use Rattle.scc_table.proofs.NotWaiting.{none-flagged}
+use Rattle.scc_table.proofs.arrays.NoneWaits.{none-flagged}
 use Rattle.scc_uses.proofs.fresh.filled.Goals as goal
 
 pub loop-key-init : goal.loop-key-init

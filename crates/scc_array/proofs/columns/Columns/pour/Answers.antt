@@ -2,7 +2,7 @@ use Rattle.std.proofs.Common.{◌≡◌, ◌*◌, arith, set, get_or, [], length
 use Rattle.scc_array.proofs.Bucket.{packed-there, number-small, row-within, row-read}
 use Rattle.scc_array.proofs.Parting.{packed-at, windows-parted, columns-parted}
 use Rattle.scc_array.proofs.columns.Columns.pour.Goals as goal
-use Rattle.scc_array.specs.Sifts.{all_up, unflagged_of, AreAt}
+use Rattle.scc_array.specs.Sifts.{all_raised, unflagged_of, AreAt}
 use Rattle.scc_array.specs.Windows.{window_of}
 
 pub overflow_mul-base : goal.overflow_mul-base
@@ -45,7 +45,7 @@ invariant_of-self g c =
     let at : AreAt cells c.index_mut.result.now (32 * b) w = packed-at rows cells b w c.index_mut.result.now (packed-there rows cells unflagged ws view b c.requires.bucket) row in
     let wide : length c.pour.new.row ≡ 32 = c.pour.ensures.wide ∙ ap length (sym row) ∙ unflagged.lanes b within in
     let parted = c.pour.ensures.stays w at c.count-entry_count.ensures.count in
-    columns-parted rows cells unflagged b within c.pour.new.slots c.pour.new.row wide c.pour.ensures.count c.pour.ensures.others (unflagged_of all_up w) parted
+    columns-parted rows cells unflagged b within c.pour.new.slots c.pour.new.row wide c.pour.ensures.count c.pour.ensures.others (unflagged_of all_raised w) parted
 
 pub returns-clause-stays : goal.returns-clause-stays
 returns-clause-stays g c =
@@ -57,7 +57,7 @@ returns-clause-stays g c =
     let at : AreAt cells c.index_mut.result.now (32 * b) w = packed-at rows cells b w c.index_mut.result.now (packed-there rows cells unflagged ws view b c.requires.bucket) row in
     let wide : length c.pour.new.row ≡ 32 = c.pour.ensures.wide ∙ ap length (sym row) ∙ unflagged.lanes b within in
     let parted = c.pour.ensures.stays w at c.count-entry_count.ensures.count in
-    windows-parted rows cells unflagged b within c.pour.new.slots c.pour.new.row wide c.pour.ensures.count c.pour.ensures.others (unflagged_of all_up w) parted ∙ ap (λ v. set v b (unflagged_of all_up w)) view
+    windows-parted rows cells unflagged b within c.pour.new.slots c.pour.new.row wide c.pour.ensures.count c.pour.ensures.others (unflagged_of all_raised w) parted ∙ ap (λ v. set v b (unflagged_of all_raised w)) view
 
 pub returns-clause-moved : goal.returns-clause-moved
 returns-clause-moved g c =

@@ -2,7 +2,7 @@ use Rattle.std.proofs.Common.{◌≡◌, ◌*◌, arith, set, get_or, [], length
 use Rattle.scc_array.proofs.Bucket.{packed-there, number-small, row-within, row-read}
 use Rattle.scc_array.proofs.Parting.{packed-at, windows-parted, columns-parted}
 use Rattle.scc_array.proofs.columns.Columns.split.Goals as goal
-use Rattle.scc_array.specs.Sifts.{unflagged_of, ups, AreAt}
+use Rattle.scc_array.specs.Sifts.{unflagged_of, raised, AreAt}
 use Rattle.scc_array.specs.Windows.{window_of}
 
 pub overflow_mul-base : goal.overflow_mul-base
@@ -45,7 +45,7 @@ invariant_of-self g c =
     let at : AreAt cells c.index_mut-row.result.now (32 * b) w = packed-at rows cells b w c.index_mut-row.result.now (packed-there rows cells unflagged ws view b c.requires.bucket) row in
     let wide : length c.sift.new.row ≡ 32 = c.sift.ensures.wide ∙ ap length (sym row) ∙ unflagged.lanes b within in
     let parted = c.sift.ensures.stays w at in
-    columns-parted rows cells unflagged b within c.sift.new.slots c.sift.new.row wide c.sift.ensures.count c.sift.ensures.others (unflagged_of (ups c.args.flags.now) w) parted
+    columns-parted rows cells unflagged b within c.sift.new.slots c.sift.new.row wide c.sift.ensures.count c.sift.ensures.others (unflagged_of (raised c.args.flags.now) w) parted
 
 pub returns-clause-stays : goal.returns-clause-stays
 returns-clause-stays g c =
@@ -57,7 +57,7 @@ returns-clause-stays g c =
     let at : AreAt cells c.index_mut-row.result.now (32 * b) w = packed-at rows cells b w c.index_mut-row.result.now (packed-there rows cells unflagged ws view b c.requires.bucket) row in
     let wide : length c.sift.new.row ≡ 32 = c.sift.ensures.wide ∙ ap length (sym row) ∙ unflagged.lanes b within in
     let parted = c.sift.ensures.stays w at in
-    windows-parted rows cells unflagged b within c.sift.new.slots c.sift.new.row wide c.sift.ensures.count c.sift.ensures.others (unflagged_of (ups c.args.flags.now) w) parted ∙ ap (λ v. set v b (unflagged_of (ups c.args.flags.now) w)) view
+    windows-parted rows cells unflagged b within c.sift.new.slots c.sift.new.row wide c.sift.ensures.count c.sift.ensures.others (unflagged_of (raised c.args.flags.now) w) parted ∙ ap (λ v. set v b (unflagged_of (raised c.args.flags.now) w)) view
 
 pub returns-clause-moved : goal.returns-clause-moved
 returns-clause-moved g c =

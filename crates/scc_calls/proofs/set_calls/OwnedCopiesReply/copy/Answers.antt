@@ -3,7 +3,7 @@ use Rattle.std.specs.Prelude.{IsSome}
 use Rattle.std.proofs.lemmas.Bool.Decides.{nat_tests}
 use Rattle.scc_common.specs.Contents.{entries}
 use Rattle.scc_set.specs.Keys.{find}
-use Rattle.scc_table.proofs.Same.{on-err}
+use Rattle.scc_table.proofs.arrays.SameParts.{on-err}
 use Rattle.scc_calls.specs.declared.replies.Reply.TheVariants.{Exists}
 use Rattle.scc_calls.proofs.set_calls.OwnedCopiesReply.copy.Goals as goal
 

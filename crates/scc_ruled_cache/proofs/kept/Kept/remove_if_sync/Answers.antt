@@ -1,4 +1,4 @@
-use Rattle.scc_table.proofs.Replies.{if-map}
+use Rattle.scc_table.proofs.places.Replies.{if-map}
 use Rattle.scc_ruled_cache.proofs.CachePairs.{kept-there, kept-removed_if, removes_if-kept}
 use Rattle.scc_ruled_cache.proofs.kept.Kept.remove_if_sync.Goals as goal
 

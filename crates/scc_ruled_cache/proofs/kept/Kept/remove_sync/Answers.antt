@@ -1,5 +1,5 @@
 use Rattle.scc_common.specs.Contents.{key_hash}
-use Rattle.scc_table.proofs.Replies.{if-map}
+use Rattle.scc_table.proofs.places.Replies.{if-map}
 use Rattle.scc_ruled_cache.proofs.CachePairs.{kept-removed, removes-kept}
 use Rattle.scc_ruled_cache.proofs.kept.Kept.remove_sync.Goals as goal
 

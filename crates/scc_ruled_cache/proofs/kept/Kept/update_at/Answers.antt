@@ -1,7 +1,7 @@
 use Rattle.std.proofs.Common.{ap, sym, subst}
 use Rattle.scc_common.specs.Pairs.{with_pair_value}
 use Rattle.scc_table.specs.Places.{IsPlace}
-use Rattle.scc_table.proofs.AtPlaces.{entry_of-is}
+use Rattle.scc_table.proofs.places.Entries.{entry_of-is}
 use Rattle.scc_ruled_cache.specs.Places.{IsPairAt}
 use Rattle.scc_ruled_cache.proofs.KeptPlaces.{kept-pair, kept-written, pair-listed}
 use Rattle.scc_ruled_cache.proofs.kept.Kept.update_at.Goals as goal

@@ -2,7 +2,7 @@ use Rattle.std.proofs.Common.{◌∙◌, subst}
 use Rattle.std.specs.Sync.RwLock.{write_guard_value}
 use Rattle.scc_rules.specs.Rules.{KeepsAll}
 use Rattle.scc_table.specs.Places.{IsPlace}
-use Rattle.scc_table.proofs.AtPlaces.{front-none, splits-there}
+use Rattle.scc_table.proofs.places.Entries.{front-none, splits-there}
 use Rattle.scc_ruled_index.proofs.KeptPlaces.{kept-at}
 use Rattle.scc_ruled_index.proofs.entries.OccupiedEntry.first.Goals as goal
 

@@ -1,6 +1,6 @@
 use Rattle.std.specs.Sync.RwLock.{write_guard_value}
 use Rattle.scc_owned.proofs.EntrySteps.{none-past}
-use Rattle.scc_table.proofs.AtPlaces.{back-none, past-there}
+use Rattle.scc_table.proofs.places.Entries.{back-none, past-there}
 use Rattle.scc_ruled_map.proofs.AtEntries.{pair-is}
 use Rattle.scc_ruled_map.proofs.KeptPlaces.{kept-at}
 use Rattle.scc_ruled_map.proofs.entries.OccupiedEntry.remove_and_sync.Goals as goal

@@ -5,7 +5,7 @@ use Rattle.scc_common.specs.Contents.{entries}
 use Rattle.scc_common.specs.Pairs.{with_pair_key}
 use Rattle.scc_table.specs.Placed.{IsPlace-with_write_at}
 use Rattle.scc_table.specs.Places.{IsFoundAt, IsPlace, index_of, with_write_at}
-use Rattle.scc_table.proofs.AtPlaces.{place-found}
+use Rattle.scc_table.proofs.places.Entries.{place-found}
 use Rattle.scc_ruled_map.proofs.AtEntries.{swapped-is}
 use Rattle.scc_ruled_map.proofs.entries.ReplaceResult.of.Goals as goal
 

@@ -3,7 +3,7 @@ use Rattle.std.specs.List.{slice_get}
 use Rattle.scc_common.specs.Contents.{entries}
 use Rattle.scc_common.specs.Pairs.{with_pair_value}
 use Rattle.scc_table.specs.Places.{IsPlace, index_of}
-use Rattle.scc_table.proofs.AtPlaces.{entry_of-is}
+use Rattle.scc_table.proofs.places.Entries.{entry_of-is}
 use Rattle.scc_ruled_map.proofs.KeptPlaces.{kept-got, kept-written}
 use Rattle.scc_ruled_map.proofs.kept.Kept.update_at.Goals as goal
 

@@ -4,7 +4,7 @@ use Rattle.scc_common.specs.Contents.{entries}
 use Rattle.scc_common.specs.Pairs.{with_pair_value}
 use Rattle.scc_table.specs.Placed.{entry_of}
 use Rattle.scc_table.specs.Places.{IsPlace, index_of}
-use Rattle.scc_table.proofs.AtPlaces.{entry_of-get}
+use Rattle.scc_table.proofs.places.Entries.{entry_of-get}
 use Rattle.scc_ruled_map.proofs.KeptPlaces.{kept-got, kept-written}
 use Rattle.scc_ruled_map.proofs.kept.Kept.write_at.Goals as goal
 

@@ -1,5 +1,5 @@
 use Rattle.std.proofs.Common.{sym}
-use Rattle.scc_table.proofs.AtPlaces.{entry_of-is}
+use Rattle.scc_table.proofs.places.Entries.{entry_of-is}
 use Rattle.scc_set.proofs.entry.OccupiedEntry.get.Goals as goal
 
 pub returns : goal.returns

@@ -1,5 +1,5 @@
 use Rattle.std.proofs.Common.{refl}
-use Rattle.scc_table.proofs.AtPlaces.{back-none, next-there}
+use Rattle.scc_table.proofs.places.Entries.{back-none, next-there}
 use Rattle.scc_set.proofs.entry.OccupiedEntry.next_sync.Goals as goal
 
 pub returns-in-Some : goal.returns-in-Some

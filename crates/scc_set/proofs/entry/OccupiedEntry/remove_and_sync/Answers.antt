@@ -1,5 +1,5 @@
 use Rattle.std.proofs.Common.{refl, sym}
-use Rattle.scc_table.proofs.AtPlaces.{back-none, left-there, past-there, entry_of-is}
+use Rattle.scc_table.proofs.places.Entries.{back-none, left-there, past-there, entry_of-is}
 use Rattle.scc_set.proofs.entry.OccupiedEntry.remove_and_sync.Goals as goal
 
 pub returns-in-Some : goal.returns-in-Some

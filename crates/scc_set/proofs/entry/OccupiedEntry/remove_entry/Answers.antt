@@ -1,6 +1,6 @@
 use Rattle.std.proofs.Common.{sym}
 use Rattle.scc_buckets.specs.Placed as spots
-use Rattle.scc_table.proofs.AtPlaces.{entry_of-is}
+use Rattle.scc_table.proofs.places.Entries.{entry_of-is}
 use Rattle.scc_set.proofs.entry.OccupiedEntry.remove_entry.Goals as goal
 
 pub returns-clause-key : goal.returns-clause-key

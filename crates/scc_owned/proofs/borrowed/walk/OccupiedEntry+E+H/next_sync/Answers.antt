@@ -1,5 +1,5 @@
 use Rattle.std.proofs.Common.{refl}
-use Rattle.scc_table.proofs.AtPlaces.{back-none}
+use Rattle.scc_table.proofs.places.Entries.{back-none}
 use Rattle.scc_owned.proofs.HeldEntries.{same-name}
 use Rattle.scc_owned.proofs.EntrySteps.{next-at}
 use Rattle.scc_owned.proofs.borrowed.walk.OccupiedEntry+E+H.next_sync.Goals as goal

@@ -4,8 +4,8 @@ use Rattle.std.proofs.lemmas.List.{map-append}
 use Rattle.scc_common.specs.Contents.{entries}
 use Rattle.scc_table.specs.Places.{index_of}
 use Rattle.scc_buckets.proofs.Placed.{take-more}
-use Rattle.scc_table.proofs.WalkReached.{take-all}
-use Rattle.scc_table.proofs.Reached.{nearer, reached-at, reached-first}
+use Rattle.scc_table.proofs.walks.Steps.{take-all}
+use Rattle.scc_table.proofs.walks.Reach.{nearer, reached-at, reached-first}
 use Rattle.scc_owned.proofs.index.snapshots.Index+K+V+H.iter_into.Goals as goal
 
 pub loop-at-init : goal.loop-at-init

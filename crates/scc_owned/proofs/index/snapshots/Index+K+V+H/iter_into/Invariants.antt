@@ -2,7 +2,7 @@ use Rattle.std.proofs.Common.{◌≡◌, ◌-◌, ◌++◌, length, map, take, I
 use Rattle.std.specs.Arc.{arc_value}
 use Rattle.scc_common.specs.Contents.{entries}
 use Rattle.scc_table.specs.Places.{IsPlace}
-use Rattle.scc_table.proofs.Reached.{reached}
+use Rattle.scc_table.proofs.walks.Reach.{reached}
 use Rattle.scc_owned.proofs.index.snapshots.Index+K+V+H.iter_into.Given as goal
 
 abbrev pub invariant-loop-at : goal.invariant-loop-at

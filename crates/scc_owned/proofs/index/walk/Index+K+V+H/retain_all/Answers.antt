@@ -4,8 +4,8 @@ use Rattle.scc_table.specs.Places.{index_of}
 use Rattle.scc_common.specs.Walks.{CalledOn}
 use Rattle.scc_owned.specs.IndexWalks.{Retains, ended}
 use Rattle.scc_buckets.proofs.Placed.{drop-all}
-use Rattle.scc_table.proofs.WalkReached.{take-all}
-use Rattle.scc_table.proofs.Reached.{nearer, reached-at, reached-first}
+use Rattle.scc_table.proofs.walks.Steps.{take-all}
+use Rattle.scc_table.proofs.walks.Reach.{nearer, reached-at, reached-first}
 use Rattle.scc_owned.proofs.Visits.{took-next, took-nearer, retains-kept, retains-removed, turn-here, turn-kept, turn-removed}
 use Rattle.scc_owned.proofs.index.walk.Index+K+V+H.retain_all.Goals as goal
 

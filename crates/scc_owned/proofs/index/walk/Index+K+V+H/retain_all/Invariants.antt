@@ -3,7 +3,7 @@ use Rattle.scc_common.specs.Contents.{entries, bucket_count, settings_of, refuse
 use Rattle.scc_table.specs.Places.{IsPlace}
 use Rattle.scc_common.specs.Walks.{CalledOn}
 use Rattle.scc_owned.specs.IndexWalks.{CallableOnAll, Retains}
-use Rattle.scc_table.proofs.Reached.{reached}
+use Rattle.scc_table.proofs.walks.Reach.{reached}
 use Rattle.scc_owned.proofs.index.walk.Index+K+V+H.retain_all.Given as goal
 
 abbrev pub invariant-loop-at : goal.invariant-loop-at

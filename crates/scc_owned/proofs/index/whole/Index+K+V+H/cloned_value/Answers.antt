@@ -1,4 +1,4 @@
-use Rattle.scc_table.proofs.Same.{any-err}
+use Rattle.scc_table.proofs.arrays.SameParts.{any-err}
 use Rattle.scc_owned.proofs.index.whole.Index+K+V+H.cloned_value.Goals as goal
 
 pub returns-in_ok-clone-in-Some-clause-ok : goal.returns-in_ok-clone-in-Some-clause-ok

@@ -2,7 +2,7 @@ use Rattle.std.proofs.Common.{nat_eq, sym, ◌∙◌, arith}
 use Rattle.std.proofs.lemmas.Bool.{eqb-true}
 use Rattle.scc_common.specs.Contents.{entries}
 use Rattle.scc_buckets.proofs.PairSplits.{by_answer}
-use Rattle.scc_table.proofs.Comparing.{equal-there, unequal-there, unequal-length}
+use Rattle.scc_table.proofs.walks.Comparisons.{equal-there, unequal-there, unequal-length}
 use Rattle.scc_owned.proofs.index.whole.IndexPartialEq.eq.Goals as goal
 
 pub returns-then-len : goal.returns-then-len

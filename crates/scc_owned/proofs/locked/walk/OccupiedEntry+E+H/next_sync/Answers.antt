@@ -1,5 +1,5 @@
 use Rattle.std.proofs.Common.{refl}
-use Rattle.scc_table.proofs.AtPlaces.{back-none}
+use Rattle.scc_table.proofs.places.Entries.{back-none}
 use Rattle.scc_owned.proofs.EntrySteps.{next-at, none-after}
 use Rattle.scc_owned.proofs.locked.walk.OccupiedEntry+E+H.next_sync.Goals as goal
 

@@ -5,9 +5,9 @@ use Rattle.scc_table.specs.Placed.{IsPlace-with_write_at}
 use Rattle.scc_common.specs.Pairs.{with_pair_value}
 use Rattle.scc_owned.proofs.CallerLemmas.{finds-without}
 use Rattle.scc_buckets.proofs.Lookups.{find-position_none}
-use Rattle.scc_table.proofs.AtPlaces.{place-found, value-written, value-unique, written-taken_out, written-pair, noted-write}
+use Rattle.scc_table.proofs.places.Entries.{place-found, value-written, value-unique, written-taken_out, written-pair, noted-write}
 use Rattle.scc_buckets.proofs.Resizes.{shrinks-after}
-use Rattle.scc_table.proofs.Relocations.{removed-after, waiting-write}
+use Rattle.scc_table.proofs.relocations.AfterWrites.{removed-after, waiting-write}
 use Rattle.scc_owned.proofs.map.calls.Map+K+V+H.remove_if_sync.Goals as goal
 
 pub returns-in_err-place-clause-step : goal.returns-in_err-place-clause-step

@@ -4,9 +4,9 @@ use Rattle.scc_common.specs.Pairs.{find, with_pair_value}
 use Rattle.scc_owned.proofs.CallerLemmas.{finds-rearranged, finds-set_value}
 use Rattle.scc_buckets.proofs.Lookups.{find-position_none, finds-added}
 use Rattle.scc_buckets.proofs.KeyWrites.{grows-same}
-use Rattle.scc_table.proofs.AtPlaces.{noted-write, place-found, value-written, value-unique}
+use Rattle.scc_table.proofs.places.Entries.{noted-write, place-found, value-written, value-unique}
 use Rattle.scc_table.specs.Relocations.{RelocatesTwo}
-use Rattle.scc_table.proofs.Relocations.{waiting-write}
+use Rattle.scc_table.proofs.relocations.AfterWrites.{waiting-write}
 use Rattle.scc_owned.proofs.map.calls.Map+K+V+H.upsert_sync.Goals as goal
 use Rattle.scc_owned.proofs.map.calls.Map+K+V+H.upsert_sync.Goals.{in-Ok, in-Err}
 

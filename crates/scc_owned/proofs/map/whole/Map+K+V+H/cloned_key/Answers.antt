@@ -2,7 +2,7 @@ use Rattle.std.proofs.Common.{◌≡◌, Some, None, sym, ◌∙◌}
 use Rattle.scc_common.specs.Contents.{entries}
 use Rattle.scc_common.specs.Pairs.{find}
 use Rattle.scc_buckets.proofs.Finds.{lookup-find}
-use Rattle.scc_table.proofs.Same.{any-err}
+use Rattle.scc_table.proofs.arrays.SameParts.{any-err}
 use Rattle.scc_owned.proofs.map.whole.Map+K+V+H.cloned_key.Goals as goal
 
 pub returns-in_ok-clone-in-Some-clause-ok : goal.returns-in_ok-clone-in-Some-clause-ok

@@ -2,7 +2,7 @@ use Rattle.std.proofs.Common.{◌≡◌, Some, refl, of_calls}
 use Rattle.std.specs.Option.{option_eq}
 use Rattle.scc_common.specs.Contents.{entries}
 use Rattle.scc_common.specs.Pairs.{find}
-use Rattle.scc_table.proofs.Comparing.{walk-list_all}
+use Rattle.scc_table.proofs.walks.Comparisons.{walk-list_all}
 use Rattle.scc_owned.proofs.map.whole.Map+K+V+H.is_within.Goals as goal
 
 pub returns : goal.returns

@@ -1,6 +1,6 @@
 use Rattle.std.proofs.Common.{◌∙◌, sym, ap}
 use Rattle.scc_common.specs.Contents.{entries}
-use Rattle.scc_table.proofs.Alone.{entries-alone}
+use Rattle.scc_table.proofs.arrays.OneArray.{entries-alone}
 use Rattle.scc_table.proofs.walk.pairs.Table+SharedVersion+K+V+H.walk.Goals as goal
 
 pub walk-requires : goal.walk-requires

@@ -4,7 +4,7 @@ use Rattle.scc_common.specs.Contents.{entries}
 use Rattle.scc_buckets.proofs.Placed.{drop-here, take-more}
 use Rattle.scc_common.proofs.WalkLemmas.{turn-first, turn-others}
 use Rattle.scc_table.specs.Places.{IsPlace, index_of}
-use Rattle.scc_table.proofs.Reached.{all-taken, nearer, reached-at, reached-first, split-at, walk-more, walk-ends}
+use Rattle.scc_table.proofs.walks.Reach.{all-taken, nearer, reached-at, reached-first, split-at, walk-more, walk-ends}
 use Rattle.scc_table.proofs.walk.pairs.Table+SharedVersion+K+V+H.walk_versions.Goals as goal
 
 pub loop-at-init : goal.loop-at-init

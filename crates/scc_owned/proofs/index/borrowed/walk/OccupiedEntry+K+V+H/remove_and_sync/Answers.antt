@@ -1,6 +1,6 @@
 use Rattle.std.proofs.Common.{refl, ap, ◌∙◌}
 use Rattle.scc_common.specs.Contents.{waiting_of}
-use Rattle.scc_table.proofs.AtPlaces.{back-none, left-there}
+use Rattle.scc_table.proofs.places.Entries.{back-none, left-there}
 use Rattle.scc_owned.proofs.HeldEntries.{same-name}
 use Rattle.scc_owned.proofs.EntrySteps.{next-past}
 use Rattle.scc_owned.proofs.index.borrowed.walk.OccupiedEntry+K+V+H.remove_and_sync.Goals as goal

@@ -1,5 +1,5 @@
 use Rattle.std.proofs.Common.{refl}
-use Rattle.scc_table.proofs.AtPlaces.{back-none}
+use Rattle.scc_table.proofs.places.Entries.{back-none}
 use Rattle.scc_owned.proofs.EntrySteps.{next-past, none-past}
 use Rattle.scc_owned.proofs.index.locked.walk.OccupiedEntry+K+V+H.remove_and_sync.Goals as goal
 

@@ -7,8 +7,8 @@ use Rattle.scc_table.specs.Placed.{IsPlace-with_write_at}
 use Rattle.scc_common.specs.Pairs.{with_pair_key}
 use Rattle.scc_owned.proofs.HeldEntries.{pair-at}
 use Rattle.scc_buckets.proofs.Lookups.{find-position_none}
-use Rattle.scc_table.proofs.AtPlaces.{place-found, key-written, key-unique, key-got, noted-write}
-use Rattle.scc_table.proofs.Relocations.{waiting-write}
+use Rattle.scc_table.proofs.places.Entries.{place-found, key-written, key-unique, key-got, noted-write}
+use Rattle.scc_table.proofs.relocations.AfterWrites.{waiting-write}
 use Rattle.scc_owned.proofs.map.borrowed.methods.Map+K+V+H.replace_sync.Goals as goal
 
 pub replace_key_at-old-requires-clause-same : goal.replace_key_at-old-requires-clause-same

@@ -4,8 +4,8 @@ use Rattle.std.specs.List.{slice_get}
 use Rattle.scc_common.specs.Pairs.{find, with_pair_key}
 use Rattle.scc_table.specs.Places.{IsPlace, index_of, with_write_at}
 use Rattle.scc_table.specs.Placed.{IsPlace-with_write_at}
-use Rattle.scc_table.proofs.AtPlaces.{place-found, key-written, key-unique, key-got, noted-write}
-use Rattle.scc_table.proofs.Relocations.{waiting-write}
+use Rattle.scc_table.proofs.places.Entries.{place-found, key-written, key-unique, key-got, noted-write}
+use Rattle.scc_table.proofs.relocations.AfterWrites.{waiting-write}
 use Rattle.scc_buckets.proofs.Lookups.{find-position_none}
 use Rattle.scc_owned.proofs.HeldEntries.{pair-at}
 use Rattle.scc_owned.proofs.map.locked.making.HeldReplace+G+N+tuple2+K+V+H.of.Goals as goal

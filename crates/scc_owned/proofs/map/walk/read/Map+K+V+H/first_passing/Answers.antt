@@ -4,8 +4,8 @@ use Rattle.scc_table.specs.Places.{IsPlace, index_of}
 use Rattle.scc_common.proofs.WalkLemmas.{turn-first, turn-others}
 use Rattle.scc_common.specs.PairWalks.{ended}
 use Rattle.scc_buckets.proofs.Placed.{drop-here, take-more}
-use Rattle.scc_table.proofs.WalkReached.{declines-more, take-all}
-use Rattle.scc_table.proofs.Reached.{nearer, reached-at, reached-first}
+use Rattle.scc_table.proofs.walks.Steps.{declines-more, take-all}
+use Rattle.scc_table.proofs.walks.Reach.{nearer, reached-at, reached-first}
 use Rattle.scc_owned.proofs.map.walk.read.Map+K+V+H.first_passing.Goals as goal
 
 pub loop-at-init : goal.loop-at-init

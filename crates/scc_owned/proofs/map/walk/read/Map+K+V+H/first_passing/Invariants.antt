@@ -3,7 +3,7 @@ use Rattle.scc_common.specs.Contents.{entries}
 use Rattle.scc_table.specs.Places.{IsPlace}
 use Rattle.scc_common.specs.Walks.{CalledOn, CallableWhile}
 use Rattle.scc_common.specs.PairWalks.{Declines}
-use Rattle.scc_table.proofs.Reached.{reached}
+use Rattle.scc_table.proofs.walks.Reach.{reached}
 use Rattle.scc_owned.proofs.map.walk.read.Map+K+V+H.first_passing.Given as goal
 
 abbrev pub invariant-loop-at : goal.invariant-loop-at

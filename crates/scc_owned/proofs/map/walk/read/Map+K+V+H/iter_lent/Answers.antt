@@ -4,7 +4,7 @@ use Rattle.scc_table.specs.Places.{IsPlace, index_of}
 use Rattle.scc_common.specs.Walks.{ended, stopped, went_on}
 use Rattle.scc_common.proofs.WalkLemmas.{turn-first, turn-others}
 use Rattle.scc_buckets.proofs.Placed.{drop-here, drop-all}
-use Rattle.scc_table.proofs.Reached.{nearer, reached-at, reached-first}
+use Rattle.scc_table.proofs.walks.Reach.{nearer, reached-at, reached-first}
 use Rattle.scc_owned.proofs.map.walk.read.Map+K+V+H.iter_lent.Goals as goal
 
 pub loop-at-init : goal.loop-at-init

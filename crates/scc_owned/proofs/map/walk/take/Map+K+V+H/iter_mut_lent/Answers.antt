@@ -2,8 +2,8 @@ use Rattle.std.proofs.Common.{◌+◌, ◌<◌, ◌≤◌, length, ap, arith, ru
 use Rattle.std.proofs.lemmas.List.Sorted.{IsPermutation-refl}
 use Rattle.scc_common.specs.Contents.{entries, bucket_count, minimum_of}
 use Rattle.scc_buckets.proofs.Resizes.{smaller-by, shrinks-after}
-use Rattle.scc_table.proofs.Takings.{appended-none, appended-some, holds-after, takes-count}
-use Rattle.scc_table.proofs.Relocations.{shrunk-after, kept-after}
+use Rattle.scc_table.proofs.walks.Takes.{appended-none, appended-some, holds-after, takes-count}
+use Rattle.scc_table.proofs.relocations.AfterWrites.{shrunk-after, kept-after}
 use Rattle.scc_owned.proofs.map.walk.take.Map+K+V+H.iter_mut_lent.Goals as goal
 
 pub take_walk-result-requires : goal.take_walk-result-requires

@@ -3,12 +3,12 @@ use Rattle.scc_common.specs.Contents.{entries, waiting_of}
 use Rattle.scc_common.specs.Pairs.{with_pair_value}
 use Rattle.scc_common.specs.PairWalks.{CalledToWrite, Retains, ended}
 use Rattle.scc_buckets.proofs.Placed.{drop-all}
-use Rattle.scc_table.proofs.WalkReached.{take-all}
+use Rattle.scc_table.proofs.walks.Steps.{take-all}
 use Rattle.scc_table.specs.Places.{spot_of}
-use Rattle.scc_table.proofs.Reached.{walk_spot}
-use Rattle.scc_table.proofs.Visits.{visited, kept-nearer, took-nearer, retains-kept, retains-removed, turn-here, turn-kept, turn-removed}
-use Rattle.scc_table.proofs.Relocations.{waiting-write}
-use Rattle.scc_table.proofs.SpotVisits.{first-spot, place-after, kept-spot, others-out, took-spot}
+use Rattle.scc_table.proofs.walks.Reach.{walk_spot}
+use Rattle.scc_table.proofs.walks.Visits.{visited, kept-nearer, took-nearer, retains-kept, retains-removed, turn-here, turn-kept, turn-removed}
+use Rattle.scc_table.proofs.relocations.AfterWrites.{waiting-write}
+use Rattle.scc_table.proofs.walks.Spots.{first-spot, place-after, kept-spot, others-out, took-spot}
 use Rattle.scc_owned.proofs.map.walk.write.Map+K+V+H.retain_all.Goals as goal
 
 pub loop-at-init : goal.loop-at-init

@@ -3,8 +3,8 @@ use Rattle.std.specs.Prelude.{⊤}
 use Rattle.scc_common.specs.Contents.{entries, bucket_count, settings_of, refused_of, waiting_of}
 use Rattle.scc_table.specs.Places.{IsPlace}
 use Rattle.scc_common.specs.PairWalks.{CallableToWrite, CalledToWrite, Retains}
-use Rattle.scc_table.proofs.WalkReached.{reached}
-use Rattle.scc_table.proofs.Reached.{walk_spot}
+use Rattle.scc_table.proofs.walks.Steps.{reached}
+use Rattle.scc_table.proofs.walks.Reach.{walk_spot}
 use Rattle.scc_owned.proofs.map.walk.write.Map+K+V+H.retain_all.Given as goal
 
 abbrev pub invariant-loop-at : goal.invariant-loop-at

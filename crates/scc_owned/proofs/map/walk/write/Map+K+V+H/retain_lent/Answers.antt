@@ -2,8 +2,8 @@ use Rattle.std.proofs.Common.{◌+◌, ap, rules}
 use Rattle.std.proofs.lemmas.List.Sorted.{IsPermutation-refl}
 use Rattle.scc_common.specs.Contents.{entries, bucket_count, minimum_of}
 use Rattle.scc_buckets.proofs.Resizes.{smaller-by, shrinks-after}
-use Rattle.scc_table.proofs.Takings.{holds-after}
-use Rattle.scc_table.proofs.Relocations.{shrunk-after}
+use Rattle.scc_table.proofs.walks.Takes.{holds-after}
+use Rattle.scc_table.proofs.relocations.AfterWrites.{shrunk-after}
 use Rattle.scc_owned.proofs.map.walk.write.Map+K+V+H.retain_lent.Goals as goal
 
 pub retain_all-requires : goal.retain_all-requires

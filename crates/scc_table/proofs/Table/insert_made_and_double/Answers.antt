@@ -1,0 +1,155 @@
+use Rattle.std.proofs.Common.{◌≡◌, ◌∙◌, ◌*◌, ℕ, Bool, true, false, Some, sym, ap, subst, arith, rules}
+use Rattle.std.specs.List.{range_with_len}
+use Rattle.scc_common.specs.Contents.{bucket_count, key_hash, settings_of, waiting_of}
+use Rattle.scc_common.specs.Routing.{bucket_number}
+use Rattle.scc_table.specs.Relocates.{left_after, AreMovedBeside, AreShortBut}
+use Rattle.scc_table.specs.TwoArrays.{waits_at}
+use Rattle.scc_table.proofs.resizes.Growth.{around-inserted, around-short}
+use Rattle.scc_table.proofs.insertions.OneList.{put-count, put-here, put-within}
+use Rattle.scc_table.proofs.arrays.SameParts.{count-same, hash-same, pending-same, unchanged-same}
+use Rattle.scc_table.proofs.arrays.NoneWaits.{not_waiting-all}
+use Rattle.scc_table.proofs.Table.insert_made_and_double.Goals as goal
+
+pub double_and_relocate-requires-clause-within : goal.double_and_relocate-requires-clause-within
+double_and_relocate-requires-clause-within g c =
+    let a = c.args.self.now in
+    let m = c.insert_made_in.new.self in
+    let i = c.args.bucket in
+    let p = c.in-Ok.place in
+    let e = g.E.Made.made_of c.args.parts in
+    let put = c.in-Ok.ensures.exact in
+    let l = c.requires.new.within in
+    let counted = put-count a i e m p put l in
+    omega (arith, put.bucket)
+
+pub double_and_relocate-requires-clause-slot : goal.double_and_relocate-requires-clause-slot
+double_and_relocate-requires-clause-slot g c =
+    let a = c.args.self.now in
+    let m = c.insert_made_in.new.self in
+    let i = c.args.bucket in
+    let p = c.in-Ok.place in
+    let e = g.E.Made.made_of c.args.parts in
+    let put = c.in-Ok.ensures.exact in
+    let l = c.requires.new.within in
+    let w = put-within a i e m p put l in w.slot
+
+pub double_and_relocate-requires-clause-hashed : goal.double_and_relocate-requires-clause-hashed
+double_and_relocate-requires-clause-hashed g c =
+    let a = c.args.self.now in
+    let m = c.insert_made_in.new.self in
+    let i = c.args.bucket in
+    let p = c.in-Ok.place in
+    let e = g.E.Made.made_of c.args.parts in
+    let put = c.in-Ok.ensures.exact in
+    let l = c.requires.new.within in
+    let counted = put-count a i e m p put l in
+    let outer = hash-same g.H.BuildHasher g.H.Hasher.Hasher g.E.Key.Hash.hash_input a m put.settings in
+    λ x got.
+    let same : Some x ≡ Some e = sym got ∙ put-here a i e m p put l in
+    let here : x ≡ e = cc in
+    c.requires.new.hashed ∙ ap (λ (h : g.row.E-Key.Denot → ℕ). h (g.E.Keyed.key_of e)) (sym outer) ∙ ap (λ z. key_hash g.H.BuildHasher g.H.Hasher.Hasher g.E.Key.Hash.hash_input m (g.E.Keyed.key_of z)) (sym here)
+
+pub double_and_relocate-requires-clause-pending : goal.double_and_relocate-requires-clause-pending
+double_and_relocate-requires-clause-pending g c =
+    pending-same c.args.self.now c.insert_made_in.new.self c.insert_made_in.ensures.waiting ∙ c.requires.pending
+
+pub double_and_relocate-requires-clause-below : goal.double_and_relocate-requires-clause-below
+double_and_relocate-requires-clause-below g c =
+    let a = c.args.self.now in
+    let m = c.insert_made_in.new.self in
+    let i = c.args.bucket in
+    let p = c.in-Ok.place in
+    let e = g.E.Made.made_of c.args.parts in
+    let put = c.in-Ok.ensures.exact in
+    let l = c.requires.new.within in
+    let counted = put-count a i e m p put l in
+    omega (arith, c.requires.below)
+
+pub returns-in-Ok : goal.returns-in-Ok
+returns-in-Ok g c =
+    let a = c.args.self.now in
+    let m = c.insert_made_in.new.self in
+    let i = c.args.bucket in
+    let p = c.in-Ok.place in
+    let e = g.E.Made.made_of c.args.parts in
+    let put = c.in-Ok.ensures.exact in
+    let l = c.requires.new.within in
+    let d = c.double_and_relocate.new.self in
+    let q = c.double_and_relocate.result in
+    let r = c.double_and_relocate.ensures in
+    let at : q.bucket ≡ bucket_number (settings_of a).skipped (bucket_count d) c.args.hash = r.routed ∙ ap (λ s. bucket_number s.skipped (bucket_count d) c.args.hash) put.settings in
+    record {
+      ok = (
+          let counted = put-count a i e m p put l in
+          around-inserted a i e m p put l d q r.rests r.within r.here r.not_waiting);
+      err = (search rules);
+      up = (search rules);
+      doubled = (
+          let counted = put-count a i e m p put l in
+          λ ne. r.doubled (λ z. ne (z ∙ counted)) ∙ ap (λ n. 2 * n) counted);
+      due = (
+          let counted = put-count a i e m p put l in
+          λ down. r.doubled (r.due down) ∙ ap (λ n. 2 * n) counted);
+      lowered = (
+          let counted = put-count c.args.self.now c.args.bucket (g.E.Made.made_of c.args.parts) c.insert_made_in.new.self c.in-Ok.place c.in-Ok.ensures.exact c.requires.new.within in
+          λ up low z. c.double_and_relocate.ensures.due low (z ∙ sym counted));
+      fallen = (
+          let counted = put-count c.args.self.now c.args.bucket (g.E.Made.made_of c.args.parts) c.insert_made_in.new.self c.in-Ok.place c.in-Ok.ensures.exact c.requires.new.within in
+          λ ne. c.double_and_relocate.ensures.down (λ z. ne (z ∙ counted)));
+      unmarked = (search rules);
+      none = (
+          let counted = put-count a i e m p put l in
+          λ z. r.none (z ∙ sym counted));
+      most = (
+          let counted = put-count a i e m p put l in
+          λ ne. r.most (λ z. ne (z ∙ counted)));
+      spread = (
+          let counted = put-count a i e m p put l in
+          let hash = λ (x : g.row.E.Denot). key_hash g.H.BuildHasher g.H.Hasher.Hasher g.E.Key.Hash.hash_input a (g.E.Keyed.key_of x) in
+          let same = hash-same g.H.BuildHasher g.H.Hasher.Hasher g.E.Key.Hash.hash_input a m put.settings in
+          λ ne short.
+          let few : AreShortBut hash (bucket_count d) q.bucket m = around-short a i e m p put l hash (bucket_count d) q.bucket (at ∙ ap (bucket_number (settings_of a).skipped (bucket_count d)) c.requires.new.hashed) short in
+          r.spread (λ z. ne (z ∙ counted)) (subst (λ (h : g.row.E-Key.Denot → ℕ). AreShortBut (λ x. h (g.E.Keyed.key_of x)) (bucket_count d) q.bucket m) (sym same) few) ∙ ap (λ z. left_after z (range_with_len 0 (bucket_count d))) at);
+      drained = (
+          let counted = put-count a i e m p put l in
+          λ ne. subst (λ z. AreMovedBeside z (range_with_len 0 (bucket_count d)) d) at (r.drained (λ z. ne (z ∙ counted))));
+      not_waiting = (
+          let counted = put-count a i e m p put l in
+          ap (waits_at (waiting_of d)) (sym at) ∙ r.not_waiting);
+      unique = (search rules);
+    }
+
+pub returns-in-Err : goal.returns-in-Err
+returns-in-Err g c =
+    record {
+      ok = (search rules);
+      err = (
+          let z = c.in-Err.ensures.stays in
+          let lists = c.note.ensures.lists ∙ z.lists in
+          (c.in-Err.ensures.err, unchanged-same c.args.self.now c.note.new.self lists (c.note.ensures.settings ∙ z.settings)));
+      up = (search rules);
+      doubled = (λ ne. absurd (ne (count-same c.args.self.now c.note.new.self (c.note.ensures.lists ∙ c.in-Err.ensures.stays.lists))));
+      due = (λ down. absurd (let z : true ≡ false = sym (ap (λ (x : Bool × Bool). x.0) c.note.ensures.noted) ∙ down in cc));
+      lowered = (λ up low. absurd (let z : true ≡ false = sym (ap (λ (x : Bool × Bool). x.0) c.note.ensures.noted) ∙ low in cc));
+      fallen = (λ ne. absurd (ne (count-same c.args.self.now c.note.new.self (c.note.ensures.lists ∙ c.in-Err.ensures.stays.lists))));
+      unmarked = (search rules);
+      none = (λ same. pending-same c.args.self.now c.note.new.self (c.note.ensures.waiting ∙ c.insert_made_in.ensures.waiting) ∙ c.requires.pending);
+      most = (λ ne. absurd (ne (count-same c.args.self.now c.note.new.self (c.note.ensures.lists ∙ c.in-Err.ensures.stays.lists))));
+      spread = (search rules);
+      drained = (search rules);
+      not_waiting = (search rules);
+      unique = (search rules);
+    }
+
+pub insert_made_in-requires-clause-not_waiting : goal.insert_made_in-requires-clause-not_waiting
+insert_made_in-requires-clause-not_waiting g c = not_waiting-all c.args.self.now c.requires.pending c.args.bucket
+
+pub double_and_relocate-requires-clause-empty : goal.double_and_relocate-requires-clause-empty
+double_and_relocate-requires-clause-empty g c =
+    let counted = put-count c.args.self.now c.args.bucket (g.E.Made.made_of c.args.parts) c.insert_made_in.new.self c.in-Ok.place c.in-Ok.ensures.exact c.requires.new.within in
+    rw counted c.requires.empty
+
+pub double_and_relocate-requires-clause-flags : goal.double_and_relocate-requires-clause-flags
+double_and_relocate-requires-clause-flags g c =
+    let counted = put-count c.args.self.now c.args.bucket (g.E.Made.made_of c.args.parts) c.insert_made_in.new.self c.in-Ok.place c.in-Ok.ensures.exact c.requires.new.within in
+    rw counted c.requires.flags

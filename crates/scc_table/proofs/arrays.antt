@@ -1,0 +1,16 @@
+pub mod Clones
+pub mod CurrentCalls
+pub mod CurrentChanges
+pub mod CurrentParts
+pub mod JoinedLists
+pub mod ListChanges
+pub mod Lists
+pub mod NoneWaits
+pub mod Notes
+pub mod OldChanges
+pub mod OneArray
+pub mod OneBucket
+pub mod SameParts
+pub mod Updates
+pub mod Views
+pub mod Writes

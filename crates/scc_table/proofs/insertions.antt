@@ -1,0 +1,5 @@
+pub mod AtEnds
+pub mod CurrentArray
+pub mod OneList
+pub mod Places
+pub mod Room

@@ -1,0 +1,9 @@
+pub mod Entries
+pub mod Finds
+pub mod ListFinds
+pub mod Mapped
+pub mod NextPlaces
+pub mod OldSpots
+pub mod OneList
+pub mod Replies
+pub mod Searches

@@ -1,0 +1,9 @@
+pub mod AfterWrites
+pub mod Contents
+pub mod Fields
+pub mod FirstWaiting
+pub mod Mapped
+pub mod OneByOne
+pub mod Preparation
+pub mod ShortLists
+pub mod Targets

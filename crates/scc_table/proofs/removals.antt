@@ -1,0 +1,4 @@
+pub mod CurrentArray
+pub mod Fields
+pub mod OneList
+pub mod Shrinks

@@ -1,0 +1,7 @@
+pub mod Attempts
+pub mod Doubling
+pub mod Exchange
+pub mod FirstArray
+pub mod Growth
+pub mod Installation
+pub mod Marks
