@@ -14,3 +14,4 @@ pub mod SameParts
 pub mod Updates
 pub mod Views
 pub mod Writes
+pub mod WritesAt

@@ -1,160 +1,69 @@
-use Rattle.std.proofs.Common.{◌≡◌, ℕ, ◌-◌, ◌<◌, ◌≤◌, Some, List, set, sym, ap, ◌∙◌, subst, arith}
-use Rattle.std.specs.List.{slice_get}
-use Rattle.scc_array.specs.Shelves.{shelf_of}
-use Rattle.scc_array.specs.Shelf.{Shelf, shelf_entries}
-use Rattle.scc_array.specs.ShelfWrites.{shelf_write_at}
-use Rattle.scc_common.specs.Contents.{Contents, bucket_count, entries, key_hash, settings_of}
+use Rattle.std.proofs.Common.{◌≡◌, ℕ, ◌≤◌, ◌<◌, ap, ◌∙◌, arith}
+use Rattle.scc_common.specs.Contents.{bucket_count, settings_of}
 use Rattle.scc_common.specs.Hashing.{hash_of}
-use Rattle.scc_buckets.specs.Writes as writes
-use Rattle.scc_table.specs.Places.{index_of, with_write_at}
-use Rattle.scc_table.specs.TwoArrays.{draining_of, together, IsTable}
-use Rattle.scc_table.proofs.arrays.CurrentChanges.{settings-write}
-use Rattle.scc_table.proofs.arrays.Writes.{place-seen, own-got, own-is, own-kept, own-written, old-got, old-is, old-kept, old-written}
+use Rattle.scc_table.proofs.arrays.WritesAt.{near-is, near-got, near-kept, near-written, far-bucket, far-slot, far-got, far-kept, far-written}
 use Rattle.scc_table.proofs.Table.replace_key_at.Goals as goal
 
 pub replace_key_at-requires-clause-within : goal.replace_key_at-requires-clause-within
 replace_key_at-requires-clause-within g c =
-    let inv = c.self.invariant in
-    let laws = g.met.E.Key.Eq.laws in
-    let within = place-seen c.self.invariant c.args.place c.self.view_is c.requires.within in
-    let count = c.bucket_count-count.ensures.count in
-    let near : c.args.place.bucket < bucket_count c.self.inside.current = omega (arith, count) in
-    (own-is laws inv c.args.place within near).0
+    let hashes = λ s k. hash_of g.H.BuildHasher g.H.Hasher.Hasher s (g.E.Key.Hash.hash_input k) in
+    let near : c.args.place.bucket < bucket_count c.self.inside.current = omega (arith, c.bucket_count-count.ensures.count) in
+    near-is g.met.E.Key.Eq.laws hashes c.self.invariant c.self.view_is c.args.place c.requires.within near
 
 pub replace_key_at-requires-clause-same : goal.replace_key_at-requires-clause-same
-replace_key_at-requires-clause-same g c = λ e got.
-    let inv = c.self.invariant in
-    let laws = g.met.E.Key.Eq.laws in
-    let p = c.args.place in
-    let view = c.self.view_is in
-    let within = place-seen c.self.invariant c.args.place c.self.view_is c.requires.within in
-    let count = c.bucket_count-count.ensures.count in
-    let near : c.args.place.bucket < bucket_count c.self.inside.current = omega (arith, count) in
-    c.requires.same e (subst (λ (z : Contents g.row.E.Denot g.row.H.Denot). slice_get (entries z) (index_of z p) ≡ Some e) view (own-got laws inv c.args.place within near e got))
+replace_key_at-requires-clause-same g c =
+    let hashes = λ s k. hash_of g.H.BuildHasher g.H.Hasher.Hasher s (g.E.Key.Hash.hash_input k) in
+    let near : c.args.place.bucket < bucket_count c.self.inside.current = omega (arith, c.bucket_count-count.ensures.count) in
+    λ e got. c.requires.same e (near-got g.met.E.Key.Eq.laws hashes c.self.invariant c.self.view_is c.args.place c.requires.within near e got)
 
 pub invariant_of-self : goal.invariant_of-self
 invariant_of-self g c =
-    let t = c.self.inside in
-    let cur = t.current in
-    let inv = c.self.invariant in
-    let key = g.E.Keyed.key_of in
-    let laws = g.met.E.Key.Eq.laws in
-    let p = c.args.place in
-    let view = c.self.view_is in
-    let within = place-seen c.self.invariant c.args.place c.self.view_is c.requires.within in
-    let count = c.bucket_count-count.ensures.count in
-    let near : c.args.place.bucket < bucket_count c.self.inside.current = omega (arith, count) in
-    let there = subst (λ (z : Contents g.row.E.Denot g.row.H.Denot). slice_get (entries z) (index_of z p) ≡ Some c.replace_key_at.ensures.old.0) view (own-got laws inv c.args.place within near c.replace_key_at.ensures.old.0 c.replace_key_at.ensures.old.1) in
-    let same = λ (w : g.row.E-Key.Denot). ap (λ s. let h : g.row.E-Key.Denot → ℕ = λ k. hash_of g.H.BuildHasher g.H.Hasher.Hasher s.hasher (g.E.Key.Hash.hash_input k) in h) (settings-write g.E.Valued.with_key cur p w) in
-    let d = writes.with_write_at_spot g.E.Valued.with_key cur p c.args.key in
-    subst (λ (z : Contents g.row.E.Denot g.row.H.Denot). IsTable g.E.Key.PartialEq.eq key (key_hash g.H.BuildHasher g.H.Hasher.Hasher g.E.Key.Hash.hash_input z) z (draining_of t.draining) t.skipped) (sym c.replace_key_at.ensures.new)
-    (subst (λ (h : g.row.E-Key.Denot → ℕ). IsTable g.E.Key.PartialEq.eq key h d (draining_of t.draining) t.skipped) (sym (same c.args.key))
-    (own-kept laws inv c.args.place within near g.E.Valued.with_key c.args.key c.replace_key_at.ensures.old.0 c.replace_key_at.ensures.old.1 (ap (λ k. g.E.Key.PartialEq.eq k (key c.replace_key_at.ensures.old.0)) (g.met.E.Valued.key_is c.replace_key_at.ensures.old.0 c.args.key) ∙ c.requires.same c.replace_key_at.ensures.old.0 there)))
+    let hashes = λ s k. hash_of g.H.BuildHasher g.H.Hasher.Hasher s (g.E.Key.Hash.hash_input k) in
+    let near : c.args.place.bucket < bucket_count c.self.inside.current = omega (arith, c.bucket_count-count.ensures.count) in
+    near-kept g.met.E.Key.Eq.laws hashes c.self.invariant c.self.view_is c.args.place c.requires.within near g.E.Valued.with_key c.args.key c.replace_key_at.new.self c.replace_key_at.ensures.new c.replace_key_at.ensures.old.0 c.replace_key_at.ensures.old.1
+        (ap (λ k. g.E.Key.PartialEq.eq k (g.E.Keyed.key_of c.replace_key_at.ensures.old.0)) (g.met.E.Valued.key_is c.replace_key_at.ensures.old.0 c.args.key) ∙ c.requires.same c.replace_key_at.ensures.old.0 (near-got g.met.E.Key.Eq.laws hashes c.self.invariant c.self.view_is c.args.place c.requires.within near c.replace_key_at.ensures.old.0 c.replace_key_at.ensures.old.1))
 
 pub returns-then-place-count-clause-old : goal.returns-then-place-count-clause-old
 returns-then-place-count-clause-old g c =
-    let inv = c.self.invariant in
-    let laws = g.met.E.Key.Eq.laws in
-    let p = c.args.place in
-    let view = c.self.view_is in
-    let within = place-seen c.self.invariant c.args.place c.self.view_is c.requires.within in
-    let count = c.bucket_count-count.ensures.count in
-    let near : c.args.place.bucket < bucket_count c.self.inside.current = omega (arith, count) in
-    let there = subst (λ (z : Contents g.row.E.Denot g.row.H.Denot). slice_get (entries z) (index_of z p) ≡ Some c.replace_key_at.ensures.old.0) view (own-got laws inv c.args.place within near c.replace_key_at.ensures.old.0 c.replace_key_at.ensures.old.1) in
-    (c.replace_key_at.ensures.old.0, there, c.replace_key_at.ensures.old.2)
+    let hashes = λ s k. hash_of g.H.BuildHasher g.H.Hasher.Hasher s (g.E.Key.Hash.hash_input k) in
+    let near : c.args.place.bucket < bucket_count c.self.inside.current = omega (arith, c.bucket_count-count.ensures.count) in
+    (c.replace_key_at.ensures.old.0, near-got g.met.E.Key.Eq.laws hashes c.self.invariant c.self.view_is c.args.place c.requires.within near c.replace_key_at.ensures.old.0 c.replace_key_at.ensures.old.1, c.replace_key_at.ensures.old.2)
 
 pub returns-then-place-count-clause-new : goal.returns-then-place-count-clause-new
 returns-then-place-count-clause-new g c =
-    let t = c.self.inside in
-    let cur = t.current in
-    let ws = t.draining.waiting.items in
-    let olds = t.draining.array in
-    let inv = c.self.invariant in
-    let key = g.E.Keyed.key_of in
-    let laws = g.met.E.Key.Eq.laws in
-    let p = c.args.place in
-    let view = c.self.view_is in
-    let within = place-seen c.self.invariant c.args.place c.self.view_is c.requires.within in
-    let count = c.bucket_count-count.ensures.count in
-    let near : c.args.place.bucket < bucket_count c.self.inside.current = omega (arith, count) in
-    let same = λ (w : g.row.E-Key.Denot). ap (λ s. let h : g.row.E-Key.Denot → ℕ = λ k. hash_of g.H.BuildHasher g.H.Hasher.Hasher s.hasher (g.E.Key.Hash.hash_input k) in h) (settings-write g.E.Valued.with_key cur p w) in
-    let d = writes.with_write_at_spot g.E.Valued.with_key cur p c.args.key in
-    ap (λ (z : Contents g.row.E.Denot g.row.H.Denot). together (λ e. key_hash g.H.BuildHasher g.H.Hasher.Hasher g.E.Key.Hash.hash_input z (key e)) z ws olds) c.replace_key_at.ensures.new
-    ∙ ap (λ (h : g.row.E-Key.Denot → ℕ). together (λ e. h (key e)) d ws olds) (same c.args.key)
-    ∙ own-written laws inv c.args.place within near g.E.Valued.with_key c.args.key ∙ ap (λ z. with_write_at g.E.Valued.with_key z p c.args.key) view
+    let hashes = λ s k. hash_of g.H.BuildHasher g.H.Hasher.Hasher s (g.E.Key.Hash.hash_input k) in
+    let near : c.args.place.bucket < bucket_count c.self.inside.current = omega (arith, c.bucket_count-count.ensures.count) in
+    near-written g.met.E.Key.Eq.laws hashes c.self.invariant c.self.view_is c.args.place c.requires.within near g.E.Valued.with_key c.args.key c.replace_key_at.new.self c.replace_key_at.ensures.new
 
 pub replace_key_at-requires-2-clause-bucket : goal.replace_key_at-requires-2-clause-bucket
 replace_key_at-requires-2-clause-bucket g c =
-    let inv = c.self.invariant in
-    let laws = g.met.E.Key.Eq.laws in
-    let within = place-seen c.self.invariant c.args.place c.self.view_is c.requires.within in
-    let count = c.bucket_count-count.ensures.count in
-    let far : bucket_count c.self.inside.current ≤ c.args.place.bucket = omega (arith, count) in
-    rw count (old-is laws inv c.args.place within far).0
+    let hashes = λ s k. hash_of g.H.BuildHasher g.H.Hasher.Hasher s (g.E.Key.Hash.hash_input k) in
+    let far : bucket_count c.self.inside.current ≤ c.args.place.bucket = omega (arith, c.bucket_count-count.ensures.count) in
+    far-bucket g.met.E.Key.Eq.laws hashes c.self.invariant c.self.view_is c.args.place c.requires.within far c.bucket_count-count.result c.bucket_count-count.ensures.count
 
 pub replace_key_at-requires-2-clause-slot : goal.replace_key_at-requires-2-clause-slot
 replace_key_at-requires-2-clause-slot g c =
-    let inv = c.self.invariant in
-    let laws = g.met.E.Key.Eq.laws in
-    let within = place-seen c.self.invariant c.args.place c.self.view_is c.requires.within in
-    let count = c.bucket_count-count.ensures.count in
-    let far : bucket_count c.self.inside.current ≤ c.args.place.bucket = omega (arith, count) in
-    rw count (old-is laws inv c.args.place within far).1
+    let hashes = λ s k. hash_of g.H.BuildHasher g.H.Hasher.Hasher s (g.E.Key.Hash.hash_input k) in
+    let far : bucket_count c.self.inside.current ≤ c.args.place.bucket = omega (arith, c.bucket_count-count.ensures.count) in
+    far-slot g.met.E.Key.Eq.laws hashes c.self.invariant c.self.view_is c.args.place c.requires.within far c.bucket_count-count.result c.bucket_count-count.ensures.count
 
 pub invariant_of-self-2 : goal.invariant_of-self-2
 invariant_of-self-2 g c =
-    let t = c.self.inside in
-    let cur = t.current in
-    let olds = t.draining.array in
-    let inv = c.self.invariant in
-    let hk = key_hash g.H.BuildHasher g.H.Hasher.Hasher g.E.Key.Hash.hash_input cur in
-    let key = g.E.Keyed.key_of in
-    let laws = g.met.E.Key.Eq.laws in
-    let p = c.args.place in
-    let view = c.self.view_is in
-    let within = place-seen c.self.invariant c.args.place c.self.view_is c.requires.within in
-    let count = c.bucket_count-count.ensures.count in
-    let far : bucket_count c.self.inside.current ≤ c.args.place.bucket = omega (arith, count) in
-    let got = subst (λ n. slice_get (shelf_entries (shelf_of olds (p.bucket - n))) p.slot ≡ Some c.replace_key_at-2.ensures.old.0) count c.replace_key_at-2.ensures.old.1 in
-    let there = subst (λ (z : Contents g.row.E.Denot g.row.H.Denot). slice_get (entries z) (index_of z p) ≡ Some c.replace_key_at-2.ensures.old.0) view (old-got laws inv c.args.place within far c.replace_key_at-2.ensures.old.0 got) in
-    let equal = c.requires.same c.replace_key_at-2.ensures.old.0 there in
-    let hashed = ap (hash_of g.H.BuildHasher g.H.Hasher.Hasher (settings_of cur).hasher) (ap g.E.Key.Hash.hash_input (g.met.E.Valued.key_is c.replace_key_at-2.ensures.old.0 c.args.key) ∙ g.met.E.Key.Hash.respects_eq c.args.key (key c.replace_key_at-2.ensures.old.0) equal) in
-    let new = c.replace_key_at-2.ensures.new ∙ ap (λ n. let r : List (Shelf g.row.E.Denot) = set olds (p.bucket - n) (shelf_write_at g.E.Valued.with_key (shelf_of olds (p.bucket - n)) p.slot c.args.key) in r) count in
-    subst (λ z. IsTable g.E.Key.PartialEq.eq key hk cur (record (draining_of t.draining) { array = z }) t.skipped) (sym new) (old-kept laws inv c.args.place within far c.replace_key_at-2.ensures.old.0 got g.E.Valued.with_key c.args.key hashed (ap (λ k. g.E.Key.PartialEq.eq k (key c.replace_key_at-2.ensures.old.0)) (g.met.E.Valued.key_is c.replace_key_at-2.ensures.old.0 c.args.key) ∙ equal))
+    let hashes = λ s k. hash_of g.H.BuildHasher g.H.Hasher.Hasher s (g.E.Key.Hash.hash_input k) in
+    let far : bucket_count c.self.inside.current ≤ c.args.place.bucket = omega (arith, c.bucket_count-count.ensures.count) in
+    let equal = c.requires.same c.replace_key_at-2.ensures.old.0 (far-got g.met.E.Key.Eq.laws hashes c.self.invariant c.self.view_is c.args.place c.requires.within far c.bucket_count-count.result c.bucket_count-count.ensures.count c.replace_key_at-2.ensures.old.0 c.replace_key_at-2.ensures.old.1) in
+    far-kept g.met.E.Key.Eq.laws hashes c.self.invariant c.self.view_is c.args.place c.requires.within far c.bucket_count-count.result c.bucket_count-count.ensures.count c.replace_key_at-2.ensures.old.0 c.replace_key_at-2.ensures.old.1 g.E.Valued.with_key c.args.key (ap (hash_of g.H.BuildHasher g.H.Hasher.Hasher (settings_of c.self.inside.current).hasher) (ap g.E.Key.Hash.hash_input (g.met.E.Valued.key_is c.replace_key_at-2.ensures.old.0 c.args.key) ∙ g.met.E.Key.Hash.respects_eq c.args.key (g.E.Keyed.key_of c.replace_key_at-2.ensures.old.0) equal)) c.replace_key_at-2.new.self c.replace_key_at-2.ensures.new
+        (ap (λ k. g.E.Key.PartialEq.eq k (g.E.Keyed.key_of c.replace_key_at-2.ensures.old.0)) (g.met.E.Valued.key_is c.replace_key_at-2.ensures.old.0 c.args.key) ∙ equal)
 
 pub returns-clause-old : goal.returns-clause-old
 returns-clause-old g c =
-    let t = c.self.inside in
-    let olds = t.draining.array in
-    let inv = c.self.invariant in
-    let laws = g.met.E.Key.Eq.laws in
-    let p = c.args.place in
-    let view = c.self.view_is in
-    let within = place-seen c.self.invariant c.args.place c.self.view_is c.requires.within in
-    let count = c.bucket_count-count.ensures.count in
-    let far : bucket_count c.self.inside.current ≤ c.args.place.bucket = omega (arith, count) in
-    let got = subst (λ n. slice_get (shelf_entries (shelf_of olds (p.bucket - n))) p.slot ≡ Some c.replace_key_at-2.ensures.old.0) count c.replace_key_at-2.ensures.old.1 in
-    let there = subst (λ (z : Contents g.row.E.Denot g.row.H.Denot). slice_get (entries z) (index_of z p) ≡ Some c.replace_key_at-2.ensures.old.0) view (old-got laws inv c.args.place within far c.replace_key_at-2.ensures.old.0 got) in
-    (c.replace_key_at-2.ensures.old.0, there, c.replace_key_at-2.ensures.old.2)
+    let hashes = λ s k. hash_of g.H.BuildHasher g.H.Hasher.Hasher s (g.E.Key.Hash.hash_input k) in
+    let far : bucket_count c.self.inside.current ≤ c.args.place.bucket = omega (arith, c.bucket_count-count.ensures.count) in
+    (c.replace_key_at-2.ensures.old.0, far-got g.met.E.Key.Eq.laws hashes c.self.invariant c.self.view_is c.args.place c.requires.within far c.bucket_count-count.result c.bucket_count-count.ensures.count c.replace_key_at-2.ensures.old.0 c.replace_key_at-2.ensures.old.1, c.replace_key_at-2.ensures.old.2)
 
 pub returns-clause-new : goal.returns-clause-new
 returns-clause-new g c =
-    let t = c.self.inside in
-    let cur = t.current in
-    let ws = t.draining.waiting.items in
-    let olds = t.draining.array in
-    let inv = c.self.invariant in
-    let hk = key_hash g.H.BuildHasher g.H.Hasher.Hasher g.E.Key.Hash.hash_input cur in
-    let key = g.E.Keyed.key_of in
-    let laws = g.met.E.Key.Eq.laws in
-    let p = c.args.place in
-    let view = c.self.view_is in
-    let within = place-seen c.self.invariant c.args.place c.self.view_is c.requires.within in
-    let count = c.bucket_count-count.ensures.count in
-    let far : bucket_count c.self.inside.current ≤ c.args.place.bucket = omega (arith, count) in
-    let got = subst (λ n. slice_get (shelf_entries (shelf_of olds (p.bucket - n))) p.slot ≡ Some c.replace_key_at-2.ensures.old.0) count c.replace_key_at-2.ensures.old.1 in
-    let there = subst (λ (z : Contents g.row.E.Denot g.row.H.Denot). slice_get (entries z) (index_of z p) ≡ Some c.replace_key_at-2.ensures.old.0) view (old-got laws inv c.args.place within far c.replace_key_at-2.ensures.old.0 got) in
-    let equal = c.requires.same c.replace_key_at-2.ensures.old.0 there in
-    let hashed = ap (hash_of g.H.BuildHasher g.H.Hasher.Hasher (settings_of cur).hasher) (ap g.E.Key.Hash.hash_input (g.met.E.Valued.key_is c.replace_key_at-2.ensures.old.0 c.args.key) ∙ g.met.E.Key.Hash.respects_eq c.args.key (key c.replace_key_at-2.ensures.old.0) equal) in
-    let new = c.replace_key_at-2.ensures.new ∙ ap (λ n. let r : List (Shelf g.row.E.Denot) = set olds (p.bucket - n) (shelf_write_at g.E.Valued.with_key (shelf_of olds (p.bucket - n)) p.slot c.args.key) in r) count in
-    ap (λ z. together (λ e. hk (key e)) cur ws z) new ∙ old-written laws inv c.args.place within far c.replace_key_at-2.ensures.old.0 got g.E.Valued.with_key c.args.key hashed ∙ ap (λ z. with_write_at g.E.Valued.with_key z p c.args.key) view
+    let hashes = λ s k. hash_of g.H.BuildHasher g.H.Hasher.Hasher s (g.E.Key.Hash.hash_input k) in
+    let far : bucket_count c.self.inside.current ≤ c.args.place.bucket = omega (arith, c.bucket_count-count.ensures.count) in
+    let equal = c.requires.same c.replace_key_at-2.ensures.old.0 (far-got g.met.E.Key.Eq.laws hashes c.self.invariant c.self.view_is c.args.place c.requires.within far c.bucket_count-count.result c.bucket_count-count.ensures.count c.replace_key_at-2.ensures.old.0 c.replace_key_at-2.ensures.old.1) in
+    far-written g.met.E.Key.Eq.laws hashes c.self.invariant c.self.view_is c.args.place c.requires.within far c.bucket_count-count.result c.bucket_count-count.ensures.count c.replace_key_at-2.ensures.old.0 c.replace_key_at-2.ensures.old.1 g.E.Valued.with_key c.args.key (ap (hash_of g.H.BuildHasher g.H.Hasher.Hasher (settings_of c.self.inside.current).hasher) (ap g.E.Key.Hash.hash_input (g.met.E.Valued.key_is c.replace_key_at-2.ensures.old.0 c.args.key) ∙ g.met.E.Key.Hash.respects_eq c.args.key (g.E.Keyed.key_of c.replace_key_at-2.ensures.old.0) equal)) c.replace_key_at-2.new.self c.replace_key_at-2.ensures.new
