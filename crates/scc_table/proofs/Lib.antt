@@ -28,6 +28,7 @@ pub mod NotWaiting
 pub mod Noting
 pub mod OldChanges
 pub mod OldSpots
+pub mod OldSwaps
 mod Once
 pub mod OneBucket
 pub mod Placing
