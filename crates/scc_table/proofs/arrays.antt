@@ -8,6 +8,7 @@ pub mod Lists
 pub mod NoneWaits
 pub mod Notes
 pub mod OldChanges
+pub mod OldSwaps
 pub mod OneArray
 pub mod OneBucket
 pub mod SameParts

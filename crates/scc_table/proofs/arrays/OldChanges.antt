@@ -57,6 +57,50 @@ pub remove-middle : {X : Type 0} (xs : List X) (x : X) (ys : List X) → remove 
 remove-middle [] x ys = refl
 remove-middle (z ∷ xs) x ys = ap (λ l. z ∷ l) (remove-middle xs x ys)
 
+-- bucket j of the old array is written over by b
+module _ {E S : Type 0} (hash : E → ℕ) (c : Contents E S) (ws : List Bool) (olds : List (Shelf E)) (arrays : TwoArrays hash c ws olds) (j : ℕ) (lj : j < length olds) (b : Shelf E) where
+  -- if only the entries of the waiting bucket i change, and become xs, only its list changes
+  pub lists-over : (i : ℕ) (xs : List E) → waits_at ws i ≡ true → i < bucket_count c → destined_for hash (settings_of c).skipped (bucket_count c) i (flat_map shelf_entries (set olds j b)) ≡ xs
+      → ((k : ℕ) → k ≢ i → destined_for hash (settings_of c).skipped (bucket_count c) k (flat_map shelf_entries (set olds j b)) ≡ destined_for hash (settings_of c).skipped (bucket_count c) k (flat_map shelf_entries olds))
+      → lists_of (together hash c ws (set olds j b)) ≡ set (lists_of (together hash c ws olds)) i xs
+  lists-over i xs up within here others =
+      let near : 0 + i ≡ i = omega arith in
+      let f = target_by hash c in
+      lists-together hash c ws (set olds j b)
+      ∙ joined-changed f (flat_map shelf_entries olds) (flat_map shelf_entries (set olds j b)) 0 i ws (lists_of c) xs up (omega (arith, count-is c))
+      (ap (λ n. filter (λ x. f x == n) (flat_map shelf_entries (set olds j b))) near ∙ here) (λ k ne. others k (λ z. ne (z ∙ sym near)))
+      ∙ ap (λ z. set z i xs) (sym (lists-together hash c ws olds))
+
+  -- if b holds entries of bucket j alone, and the buckets that don't wait still have none, `TwoArrays` still holds
+  pub arrays-over : IsOwn hash (settings_of c).skipped (length olds) j b
+      → ((k : ℕ) → waits_at ws k ≡ false → destined_for hash (settings_of c).skipped (bucket_count c) k (flat_map shelf_entries (set olds j b)) ≡ destined_for hash (settings_of c).skipped (bucket_count c) k (flat_map shelf_entries olds))
+      → TwoArrays hash c ws (set olds j b)
+  arrays-over ours others =
+      let news = set olds j b in
+      let n : length news ≡ length olds = length-set olds j b in
+      let t = (settings_of c).skipped in
+      record {
+        flags = arrays.flags;
+        multiples = elim arrays.multiples [ inl z ↦ inl z | inr z ↦ inr (subst (λ m. AreMultiples m (bucket_count c)) (sym n) z) ];
+        sized = elim arrays.sized [ inl z ↦ inl z | inr z ↦ inr (subst IsBucketCount (sym n) z) ];
+        own = record {
+          own = λ k l.
+              let apart = λ (ne : k ≢ j). subst (λ m. IsOwn hash t m k (shelf_of news k)) (sym n) (subst (IsOwn hash t (length olds) k) (sym (get_or-set_other olds j k b empty_shelf ne)) (arrays.own.own k (omega arith))) in
+              elim (dec_lt k j) [
+                | yes r ↦ apart (omega arith)
+                | no r ↦ elim (dec_lt j k) [
+                  | yes q ↦ apart (omega arith)
+                  | no q ↦
+                      let here : k ≡ j = omega arith in
+                      let at : shelf_of news k ≡ b = ap (shelf_of news) here ∙ get_or-set_same olds j b empty_shelf lj in
+                      subst (λ m. IsOwn hash t m k (shelf_of news k)) (sym n) (subst (IsOwn hash t (length olds) k) (sym at) (subst (λ m. IsOwn hash t (length olds) m b) (sym here) ours))
+                ]
+              ];
+        };
+        not_waiting = λ k down. others k down ∙ arrays.not_waiting k down;
+        bare = arrays.bare;
+      }
+
 module _ {E S : Type 0} (hash : E → ℕ) (c : Contents E S) (ws : List Bool) (olds : List (Shelf E)) (arrays : TwoArrays hash c ws olds) (j s : ℕ) (e : E) (lj : j < length olds) (got : slice_get (shelf_entries (shelf_of olds j)) s ≡ Some e) where
   -- the entries before e in the list of its bucket; `list_back` has the entries after e
   abbrev pub list_front : List E
@@ -105,43 +149,10 @@ module _ {E S : Type 0} (hash : E → ℕ) (c : Contents E S) (ws : List Bool) (
         ∙ sym (ap (filter q) (flat-split olds j s e lj got) ∙ filter-append q (entries_before olds j s) (e ∷ entries_after olds j s) ∙ ap (λ (v : Bool). fs ++ cond v (e ∷ gs) gs) off)
 
     pub old-lists : lists_of (together hash c ws (set olds j b)) ≡ set (lists_of (together hash c ws olds)) (target_by hash c e) (list_front ++ (mid ++ list_back))
-    old-lists =
-        let i = target_by hash c e in
-        let up = old-waits hash c ws olds arrays j s e lj got in
-        let within = old-within hash c ws olds arrays j s e lj got in
-        let near : 0 + i ≡ i = omega arith in
-        let f = target_by hash c in
-        lists-together hash c ws (set olds j b)
-        ∙ joined-changed f (flat_map shelf_entries olds) (flat_map shelf_entries (set olds j b)) 0 i ws (lists_of c) (list_front ++ (mid ++ list_back)) up (omega (arith, count-is c))
-        (ap (λ n. filter (λ x. f x == n) (flat_map shelf_entries (set olds j b))) near ∙ destined-here) (λ k ne. destined-other k (λ z. ne (z ∙ sym near)))
-        ∙ ap (λ z. set z i (list_front ++ (mid ++ list_back))) (sym (lists-together hash c ws olds))
+    old-lists = lists-over hash c ws olds arrays j lj b (target_by hash c e) (list_front ++ (mid ++ list_back)) (old-waits hash c ws olds arrays j s e lj got) (old-within hash c ws olds arrays j s e lj got) destined-here destined-other
 
     pub old-arrays : IsOwn hash (settings_of c).skipped (length olds) j b → TwoArrays hash c ws (set olds j b)
-    old-arrays ours =
-        let news = set olds j b in
-        let n : length news ≡ length olds = length-set olds j b in
-        let t = (settings_of c).skipped in
-        record {
-          flags = arrays.flags;
-          multiples = elim arrays.multiples [ inl z ↦ inl z | inr z ↦ inr (subst (λ m. AreMultiples m (bucket_count c)) (sym n) z) ];
-          sized = elim arrays.sized [ inl z ↦ inl z | inr z ↦ inr (subst IsBucketCount (sym n) z) ];
-          own = record {
-            own = λ k l.
-                let apart = λ (ne : k ≢ j). subst (λ m. IsOwn hash t m k (shelf_of news k)) (sym n) (subst (IsOwn hash t (length olds) k) (sym (get_or-set_other olds j k b empty_shelf ne)) (arrays.own.own k (omega arith))) in
-                elim (dec_lt k j) [
-                  | yes r ↦ apart (omega arith)
-                  | no r ↦ elim (dec_lt j k) [
-                    | yes q ↦ apart (omega arith)
-                    | no q ↦
-                        let here : k ≡ j = omega arith in
-                        let at : shelf_of news k ≡ b = ap (shelf_of news) here ∙ get_or-set_same olds j b empty_shelf lj in
-                        subst (λ m. IsOwn hash t m k (shelf_of news k)) (sym n) (subst (IsOwn hash t (length olds) k) (sym at) (subst (λ m. IsOwn hash t (length olds) m b) (sym here) ours))
-                  ]
-                ];
-          };
-          not_waiting = λ k down. destined-other k (λ z. let q : false ≡ true = sym down ∙ ap (waits_at ws) z ∙ old-waits hash c ws olds arrays j s e lj got in absurd (let q2 = q in cc)) ∙ arrays.not_waiting k down;
-          bare = arrays.bare;
-        }
+    old-arrays ours = arrays-over hash c ws olds arrays j lj b ours (λ k down. destined-other k (λ z. let q : false ≡ true = sym down ∙ ap (waits_at ws) z ∙ old-waits hash c ws olds arrays j s e lj got in absurd (let q2 = q in cc)))
 
 -- the invariant `IsTable` holds after the old array becomes news
 pub old-fields : {E K S : Type 0} (eq : K → K → Bool) (key : E → K) (hash : K → ℕ) (c : Contents E S) (drain : Draining E) (news : List (Shelf E)) (skipped kept under : ℕ) → IsTable eq key hash c drain skipped

@@ -38,7 +38,7 @@ map-remove f [] (suc i) = refl
 map-remove f (x ∷ xs) zero = refl
 map-remove f (x ∷ xs) (suc i) = ap (λ z. f x ∷ z) (map-remove f xs i)
 
-owed-removed : {E : Type 0} (f : E → ℕ) (ws : List Bool) (olds : List (Shelf E)) (j s : ℕ) → j < length olds → s < length (shelf_entries (shelf_of olds j))
+pub owed-removed : {E : Type 0} (f : E → ℕ) (ws : List Bool) (olds : List (Shelf E)) (j s : ℕ) → j < length olds → s < length (shelf_entries (shelf_of olds j))
     → owed_in f ws (set olds j (without_slot (shelf_of olds j) s)) ≡ set (owed_in f ws olds) j (remove (get_or (owed_in f ws olds) j []) s)
 owed-removed f [] olds j s lj ls = sym (set-none j (remove (get_or [] j []) s))
 owed-removed f (w ∷ ws) olds j s lj ls =

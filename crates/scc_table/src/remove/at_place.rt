@@ -82,6 +82,25 @@ where
         if self.draining.pending == 0 || place.bucket < self.bucket_count() {
             return self.current.swap_take_at(place);
         }
-        self.take_old(place)
+        self.swap_take_old(place)
+    }
+
+    /// As `swap_take_at`, for a place in the old array. If the old array has more buckets than the current one, the
+    /// entries of an old bucket stand beside each other in one list, and their order may change. Otherwise they stand
+    /// in several lists, and keep their order.
+    #[inline(always)]
+    fn swap_take_old(&mut self, place: Place) -> E
+        requires place { IsPlace self.old place }
+        requires old { bucket_count self.old ≤ place.bucket }
+        ensures { SwapTakesAt E.Key.eq E.key_of self.old place result self.new }
+    {
+        let count = self.current.bucket_count();
+        if self.draining.array.len() <= count {
+            return self.take_old(place);
+        }
+        self.draining.left -= 1;
+        self.draining
+            .array
+            .swap_remove_at(place.bucket - count, place.slot)
     }
 }

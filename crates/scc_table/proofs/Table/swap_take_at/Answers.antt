@@ -1,4 +1,4 @@
-use Rattle.std.proofs.Common.{◌≡◌, ℕ, ◌<◌, Some, map, sym, ap, ◌∙◌, subst, arith, rules}
+use Rattle.std.proofs.Common.{◌≡◌, ℕ, ◌<◌, Some, map, sym, ap, ◌∙◌, subst, arith}
 use Rattle.std.specs.List.{slice_get, IsDistinct}
 use Rattle.scc_common.specs.Contents.{Contents, bucket_count, entries, key_hash, waiting_of, owed_of}
 use Rattle.scc_common.specs.Hashing.{hash_of}
@@ -8,7 +8,7 @@ use Rattle.scc_table.specs.Takes.{owed_taken}
 use Rattle.scc_table.specs.TwoArrays.{draining_of, together, IsTable}
 use Rattle.scc_table.proofs.arrays.JoinedLists.{waiting-together}
 use Rattle.scc_table.proofs.removals.Fields.{own-owed_kept, own-less_swapped, own-swapped}
-use Rattle.scc_table.proofs.removals.OneList.{swapped-count, swapped-moved, swapped-unique, taken-swapped}
+use Rattle.scc_table.proofs.removals.OneList.{swapped-count, swapped-moved, swapped-unique}
 use Rattle.scc_table.proofs.places.Searches.{near-not_waiting}
 use Rattle.scc_table.proofs.arrays.Views.{count-seen}
 use Rattle.scc_table.proofs.arrays.Writes.{place-seen, own-got, own-is}
@@ -97,22 +97,4 @@ returns-then-self-eq0 g c =
       unique = (
           let unique = subst (λ (z : Contents g.row.E.Denot g.row.H.Denot). IsDistinct g.E.Key.PartialEq.eq (map key (entries z))) view inv.unique in
           swapped-unique now after q c.requires taken laws key c.swap_take_at.result there unique);
-    }
-
-pub returns : goal.returns
-returns g c =
-    let now = c.args.self.now in
-    let after = c.take_old.new.self in
-    let q = spot_of now c.args.place in
-    let taken = taken-swapped now after q c.requires c.take_old.ensures.exact in
-    record {
-      entry = (search rules);
-      others = (swapped-moved now after q c.requires taken);
-      buckets = (swapped-count now after q c.requires taken);
-      noted = taken.refused;
-      settings = taken.settings;
-      waiting = (search rules);
-      owed = (search rules);
-      exact = taken;
-      unique = (swapped-unique now after q c.requires taken g.met.E.Key.Eq.laws g.E.Keyed.key_of c.take_old.result c.take_old.ensures.entry c.take_old.ensures.unique);
     }

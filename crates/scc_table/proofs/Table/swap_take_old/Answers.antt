@@ -1,0 +1,141 @@
+use Rattle.std.proofs.Common.{◌-◌, ◌≤◌, ◌<◌, List, length, sym, subst, arith}
+use Rattle.scc_array.specs.Shelves.{shelf_of}
+use Rattle.scc_array.specs.Shelf.{Shelf, shelf_entries}
+use Rattle.scc_common.specs.Contents.{Contents, bucket_count, key_hash}
+use Rattle.scc_buckets.specs.Placed.{at, at-get}
+use Rattle.scc_table.specs.Removals.{SwapTakesAt}
+use Rattle.scc_table.specs.TwoArrays.{draining_of, together, IsTable}
+use Rattle.scc_table.proofs.arrays.OldSwaps.{swap-some, swap-table, swap-takes}
+use Rattle.scc_table.proofs.arrays.OneBucket.{old-here}
+use Rattle.scc_table.proofs.removals.OneList.{swapped-count, swapped-moved, swapped-unique, taken-swapped}
+use Rattle.scc_table.proofs.arrays.Views.{count-seen}
+use Rattle.scc_table.proofs.arrays.Writes.{place-seen}
+use Rattle.scc_table.specs.Places.{spot_of}
+use Rattle.scc_table.proofs.Table.swap_take_old.Goals as goal
+
+pub returns-then-len-count : goal.returns-then-len-count
+returns-then-len-count g c =
+    let now = c.args.self.now in
+    let after = c.take_old.new.self in
+    let q = spot_of now c.args.place in
+    let taken = taken-swapped now after q c.requires.place c.take_old.ensures.exact in
+    record {
+      entry = c.take_old.ensures.entry;
+      others = (swapped-moved now after q c.requires.place taken);
+      buckets = (swapped-count now after q c.requires.place taken);
+      noted = taken.refused;
+      settings = taken.settings;
+      waiting = c.take_old.ensures.waiting;
+      owed = c.take_old.ensures.owed;
+      exact = taken;
+      unique = (swapped-unique now after q c.requires.place taken g.met.E.Key.Eq.laws g.E.Keyed.key_of c.take_old.result c.take_old.ensures.entry c.take_old.ensures.unique);
+    }
+
+pub overflow_sub-self : goal.overflow_sub-self
+overflow_sub-self g c =
+    let t = c.self.inside in
+    let cur = t.current in
+    let inv = c.self.invariant in
+    let hk = key_hash g.H.BuildHasher g.H.Hasher.Hasher g.E.Key.Hash.hash_input cur in
+    let key = g.E.Keyed.key_of in
+    let p = c.args.place in
+    let view = c.self.view_is in
+    let n = c.bucket_count-count.result in
+    let count = c.bucket_count-count.ensures.count in
+    let far : n ≤ p.bucket = omega (arith, count, count-seen (λ e. hk (key e)) cur t.draining.waiting.items t.draining.array c.args.self.now view inv.arrays.flags, c.requires.old) in
+    let there = old-here inv p view c.requires.place n count far in
+    let fewer : bucket_count cur < length t.draining.array = omega (arith, count, c.len.ensures.count, c.if-len-count.false) in
+    let within = place-seen inv p view c.requires.place in
+    let laws = g.met.E.Key.Eq.laws in
+    let es = shelf_entries (shelf_of t.draining.array (p.bucket - n)) in
+    swap-some laws inv p within (p.bucket - n) there.0 there.1 (at es p.slot there.2) (at-get es p.slot there.2) fewer
+
+pub overflow_sub-place : goal.overflow_sub-place
+overflow_sub-place g c =
+    let t = c.self.inside in
+    let cur = t.current in
+    let inv = c.self.invariant in
+    let hk = key_hash g.H.BuildHasher g.H.Hasher.Hasher g.E.Key.Hash.hash_input cur in
+    let key = g.E.Keyed.key_of in
+    let p = c.args.place in
+    let view = c.self.view_is in
+    let n = c.bucket_count-count.result in
+    let count = c.bucket_count-count.ensures.count in
+    let far : n ≤ p.bucket = omega (arith, count, count-seen (λ e. hk (key e)) cur t.draining.waiting.items t.draining.array c.args.self.now view inv.arrays.flags, c.requires.old) in
+    far
+
+pub swap_remove_at-requires-clause-bucket : goal.swap_remove_at-requires-clause-bucket
+swap_remove_at-requires-clause-bucket g c =
+    let t = c.self.inside in
+    let cur = t.current in
+    let inv = c.self.invariant in
+    let hk = key_hash g.H.BuildHasher g.H.Hasher.Hasher g.E.Key.Hash.hash_input cur in
+    let key = g.E.Keyed.key_of in
+    let p = c.args.place in
+    let view = c.self.view_is in
+    let n = c.bucket_count-count.result in
+    let count = c.bucket_count-count.ensures.count in
+    let far : n ≤ p.bucket = omega (arith, count, count-seen (λ e. hk (key e)) cur t.draining.waiting.items t.draining.array c.args.self.now view inv.arrays.flags, c.requires.old) in
+    let there = old-here inv p view c.requires.place n count far in
+    there.1
+
+pub swap_remove_at-requires-clause-slot : goal.swap_remove_at-requires-clause-slot
+swap_remove_at-requires-clause-slot g c =
+    let t = c.self.inside in
+    let cur = t.current in
+    let inv = c.self.invariant in
+    let hk = key_hash g.H.BuildHasher g.H.Hasher.Hasher g.E.Key.Hash.hash_input cur in
+    let key = g.E.Keyed.key_of in
+    let p = c.args.place in
+    let view = c.self.view_is in
+    let n = c.bucket_count-count.result in
+    let count = c.bucket_count-count.ensures.count in
+    let far : n ≤ p.bucket = omega (arith, count, count-seen (λ e. hk (key e)) cur t.draining.waiting.items t.draining.array c.args.self.now view inv.arrays.flags, c.requires.old) in
+    let there = old-here inv p view c.requires.place n count far in
+    there.2
+
+pub invariant_of-self : goal.invariant_of-self
+invariant_of-self g c =
+    let t = c.self.inside in
+    let cur = t.current in
+    let inv = c.self.invariant in
+    let hk = key_hash g.H.BuildHasher g.H.Hasher.Hasher g.E.Key.Hash.hash_input cur in
+    let key = g.E.Keyed.key_of in
+    let p = c.args.place in
+    let view = c.self.view_is in
+    let n = c.bucket_count-count.result in
+    let count = c.bucket_count-count.ensures.count in
+    let far : n ≤ p.bucket = omega (arith, count, count-seen (λ e. hk (key e)) cur t.draining.waiting.items t.draining.array c.args.self.now view inv.arrays.flags, c.requires.old) in
+    let there = old-here inv p view c.requires.place n count far in
+    let fewer : bucket_count cur < length t.draining.array = omega (arith, count, c.len.ensures.count, c.if-len-count.false) in
+    let within = place-seen inv p view c.requires.place in
+    let laws = g.met.E.Key.Eq.laws in
+    let j = p.bucket - n in
+    let x = c.swap_remove_at.result in
+    subst (λ ns. IsTable g.E.Key.PartialEq.eq key hk cur (record (draining_of t.draining) { array = ns; left = t.draining.left - 1 }) t.skipped) (sym c.swap_remove_at.ensures.others)
+    (swap-table laws inv p within j there.0 there.1 x c.swap_remove_at.ensures.entry fewer)
+
+pub returns : goal.returns
+returns g c =
+    let t = c.self.inside in
+    let cur = t.current in
+    let inv = c.self.invariant in
+    let hk = key_hash g.H.BuildHasher g.H.Hasher.Hasher g.E.Key.Hash.hash_input cur in
+    let key = g.E.Keyed.key_of in
+    let p = c.args.place in
+    let view = c.self.view_is in
+    let n = c.bucket_count-count.result in
+    let count = c.bucket_count-count.ensures.count in
+    let far : n ≤ p.bucket = omega (arith, count, count-seen (λ e. hk (key e)) cur t.draining.waiting.items t.draining.array c.args.self.now view inv.arrays.flags, c.requires.old) in
+    let there = old-here inv p view c.requires.place n count far in
+    let fewer : bucket_count cur < length t.draining.array = omega (arith, count, c.len.ensures.count, c.if-len-count.false) in
+    let within = place-seen inv p view c.requires.place in
+    let laws = g.met.E.Key.Eq.laws in
+    let j = p.bucket - n in
+    let x = c.swap_remove_at.result in
+    let olds = t.draining.array in
+    let ws = t.draining.waiting.items in
+    let takes = swap-takes laws inv p within j there.0 there.1 x c.swap_remove_at.ensures.entry fewer in
+    let after = λ (ns : List (Shelf g.row.E.Denot)). together (λ e. hk (key e)) cur ws ns in
+    subst (λ (z : Contents g.row.E.Denot g.row.H.Denot). SwapTakesAt g.E.Key.PartialEq.eq key z p x (after c.swap_remove_at.new.self)) view
+    (subst (λ ns. SwapTakesAt g.E.Key.PartialEq.eq key (together (λ e. hk (key e)) cur ws olds) p x (after ns)) (sym c.swap_remove_at.ensures.others) takes)
