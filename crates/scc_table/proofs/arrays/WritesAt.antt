@@ -10,7 +10,7 @@ use Rattle.scc_buckets.specs.Places as spots
 use Rattle.scc_buckets.specs.Writes as writes
 use Rattle.scc_buckets.specs.declared.place.Place.{Place}
 use Rattle.scc_table.specs.Places.{IsPlace, index_of, with_write_at}
-use Rattle.scc_table.specs.TwoArrays.{Draining, waits_at, together, IsTable}
+use Rattle.scc_table.specs.TwoArrays.{Draining, together, IsTable}
 use Rattle.scc_table.proofs.arrays.CurrentChanges.{settings-write}
 use Rattle.scc_table.proofs.arrays.Writes.{place-seen, own-got, own-is, own-kept, own-written, old-got, old-is, old-kept, old-written}
 
@@ -29,8 +29,8 @@ module _ {E K S : Type 0} {eq : K → K → Bool} (laws : IsEquivalence eq) {key
     near-got e got = subst (λ (z : Contents E S). slice_get (entries z) (index_of z p) ≡ Some e) view (own-got laws inv p within near e got)
 
     module _ {X : Type 0} (put : E → X → E) (w : X) (d : Contents E S) (new : d ≡ writes.with_write_at_spot put c p w) where
-      same : (λ k. hashes (settings_of d).hasher k) ≡ (λ k. hashes (settings_of c).hasher k)
-      same = ap (λ s. let h : K → ℕ = λ k. hashes s.hasher k in h) (ap settings_of new ∙ settings-write put c p w)
+      same : hashes (settings_of d).hasher ≡ hashes (settings_of c).hasher
+      same = ap (λ s. hashes s.hasher) (ap settings_of new ∙ settings-write put c p w)
 
       pub near-kept : (e : E) → slice_get (entries c) (spots.index_of_spot c p) ≡ Some e → eq (key (put e w)) (key e) ≡ true → IsTable eq key (λ k. hashes (settings_of d).hasher k) d drain skipped
       near-kept e got equal = subst (λ (h : K → ℕ). IsTable eq key h d drain skipped) (sym same)

@@ -1,138 +1,90 @@
-use Rattle.std.proofs.Common.{◌≡◌, ℕ, ◌-◌, ◌<◌, ◌≤◌, Some, set, refl, sym, ap, ◌∙◌, subst, arith}
-use Rattle.std.specs.List.{slice_get}
+use Rattle.std.proofs.Common.{ℕ, ◌-◌, ◌<◌, ◌≤◌, set, refl, ap, ◌∙◌, arith}
 use Rattle.scc_array.specs.Shelves.{shelf_of}
-use Rattle.scc_array.specs.Shelf.{shelf_entries}
 use Rattle.scc_array.specs.ShelfWrites.{shelf_write_at}
-use Rattle.scc_common.specs.Contents.{Contents, bucket_count, entries, key_hash}
+use Rattle.scc_common.specs.Contents.{bucket_count, key_hash}
 use Rattle.scc_common.specs.Hashing.{hash_of}
 use Rattle.scc_buckets.specs.Writes as writes
-use Rattle.scc_table.specs.Places.{index_of, with_write_at}
-use Rattle.scc_table.specs.TwoArrays.{draining_of, together, IsTable}
-use Rattle.scc_table.proofs.arrays.CurrentChanges.{settings-write}
 use Rattle.scc_table.proofs.places.Searches.{near-not_waiting}
-use Rattle.scc_table.proofs.arrays.Writes.{place-seen, own-got, own-is, own-kept, own-written, old-got, old-is, old-kept, old-written}
+use Rattle.scc_table.proofs.arrays.Writes.{place-seen}
+use Rattle.scc_table.proofs.arrays.WritesAt.{near-is, near-got, near-kept, near-written, far-bucket, far-slot, far-got, far-kept, far-written}
 use Rattle.scc_table.proofs.Table.parts_mut_at.Goals as goal
 use Rattle.scc_table.proofs.Table.parts_mut_at.Goals.{then-self-eq0-via-then-self-eq0, then-self-eq0-via-else-self-eq0+then-place-count}
 
 pub parts_mut_at-requires : goal.parts_mut_at-requires
 parts_mut_at-requires g c =
+    let hashes : g.row.H.Denot → g.row.E-Key.Denot → ℕ = λ s k. hash_of g.H.BuildHasher g.H.Hasher.Hasher s (g.E.Key.Hash.hash_input k) in
     let t = c.self.inside in
-    let cur = t.current in
-    let ws = t.draining.waiting.items in
-    let olds = t.draining.array in
-    let inv = c.self.invariant in
-    let hk = key_hash g.H.BuildHasher g.H.Hasher.Hasher g.E.Key.Hash.hash_input cur in
-    let key = g.E.Keyed.key_of in
-    let laws = g.met.E.Key.Eq.laws in
-    let p = c.args.place in
+    let hk = key_hash g.H.BuildHasher g.H.Hasher.Hasher g.E.Key.Hash.hash_input t.current in
     let within = place-seen c.self.invariant c.args.place c.self.view_is c.requires in
-    let count = c.bucket_count-count.ensures.count in
-    let near : p.bucket < bucket_count cur = elim c.then-self-eq0.branch [
-      | then-self-eq0-via-then-self-eq0 w ↦ near-not_waiting (λ e. hk (key e)) cur olds ws (inv.none w.if-self-eq0.true) p within
-      | then-self-eq0-via-else-self-eq0+then-place-count w ↦ omega (arith, count, w.if-place-count.true)
+    let near : c.args.place.bucket < bucket_count t.current = elim c.then-self-eq0.branch [
+      | then-self-eq0-via-then-self-eq0 w ↦ near-not_waiting (λ e. hk (g.E.Keyed.key_of e)) t.current t.draining.array t.draining.waiting.items (c.self.invariant.none w.if-self-eq0.true) c.args.place within
+      | then-self-eq0-via-else-self-eq0+then-place-count w ↦ omega (arith, c.bucket_count-count.ensures.count, w.if-place-count.true)
     ] in
-    (own-is laws inv c.args.place within near).0
+    near-is g.met.E.Key.Eq.laws hashes c.self.invariant c.self.view_is c.args.place c.requires near
 
 pub invariant_of-self-lent : goal.invariant_of-self-lent
 invariant_of-self-lent g c = λ w.
+    let hashes : g.row.H.Denot → g.row.E-Key.Denot → ℕ = λ s k. hash_of g.H.BuildHasher g.H.Hasher.Hasher s (g.E.Key.Hash.hash_input k) in
     let t = c.self.inside in
-    let cur = t.current in
-    let ws = t.draining.waiting.items in
-    let olds = t.draining.array in
-    let inv = c.self.invariant in
-    let hk = key_hash g.H.BuildHasher g.H.Hasher.Hasher g.E.Key.Hash.hash_input cur in
-    let key = g.E.Keyed.key_of in
-    let laws = g.met.E.Key.Eq.laws in
-    let p = c.args.place in
+    let hk = key_hash g.H.BuildHasher g.H.Hasher.Hasher g.E.Key.Hash.hash_input t.current in
     let within = place-seen c.self.invariant c.args.place c.self.view_is c.requires in
-    let count = c.bucket_count-count.ensures.count in
-    let near : p.bucket < bucket_count cur = elim c.then-self-eq0.branch [
-      | then-self-eq0-via-then-self-eq0 w ↦ near-not_waiting (λ e. hk (key e)) cur olds ws (inv.none w.if-self-eq0.true) p within
-      | then-self-eq0-via-else-self-eq0+then-place-count w ↦ omega (arith, count, w.if-place-count.true)
+    let near : c.args.place.bucket < bucket_count t.current = elim c.then-self-eq0.branch [
+      | then-self-eq0-via-then-self-eq0 w ↦ near-not_waiting (λ e. hk (g.E.Keyed.key_of e)) t.current t.draining.array t.draining.waiting.items (c.self.invariant.none w.if-self-eq0.true) c.args.place within
+      | then-self-eq0-via-else-self-eq0+then-place-count w ↦ omega (arith, c.bucket_count-count.ensures.count, w.if-place-count.true)
     ] in
     let x = c.parts_mut_at.ensures.parts in
-    let kept = g.met.E.Valued.value_keeps_key x.0 in
-    let same = λ (w : g.row.E-Value.Denot). ap (λ s. let h : g.row.E-Key.Denot → ℕ = λ k. hash_of g.H.BuildHasher g.H.Hasher.Hasher s.hasher (g.E.Key.Hash.hash_input k) in h) (settings-write g.E.Valued.with_value cur p w) in
-    subst (λ (h : g.row.E-Key.Denot → ℕ). IsTable g.E.Key.PartialEq.eq key h (writes.with_write_at_spot g.E.Valued.with_value cur p w) (draining_of t.draining) t.skipped) (sym (same w))
-    (own-kept laws inv c.args.place within near g.E.Valued.with_value w x.0 x.1 (ap (λ k. g.E.Key.PartialEq.eq k (key x.0)) (kept w) ∙ laws.refl (key x.0)))
+    let same = ap (λ k. g.E.Key.PartialEq.eq k (g.E.Keyed.key_of x.0)) (g.met.E.Valued.value_keeps_key x.0 w) ∙ g.met.E.Key.Eq.laws.refl (g.E.Keyed.key_of x.0) in
+    near-kept g.met.E.Key.Eq.laws hashes c.self.invariant c.self.view_is c.args.place c.requires near g.E.Valued.with_value w (writes.with_write_at_spot g.E.Valued.with_value t.current c.args.place w) refl x.0 x.1 same
 
 pub returns-then-self-eq0 : goal.returns-then-self-eq0
 returns-then-self-eq0 g c =
+    let hashes : g.row.H.Denot → g.row.E-Key.Denot → ℕ = λ s k. hash_of g.H.BuildHasher g.H.Hasher.Hasher s (g.E.Key.Hash.hash_input k) in
     let t = c.self.inside in
-    let cur = t.current in
-    let ws = t.draining.waiting.items in
-    let olds = t.draining.array in
-    let inv = c.self.invariant in
-    let hk = key_hash g.H.BuildHasher g.H.Hasher.Hasher g.E.Key.Hash.hash_input cur in
-    let key = g.E.Keyed.key_of in
-    let laws = g.met.E.Key.Eq.laws in
-    let p = c.args.place in
-    let view = c.self.view_is in
+    let hk = key_hash g.H.BuildHasher g.H.Hasher.Hasher g.E.Key.Hash.hash_input t.current in
     let within = place-seen c.self.invariant c.args.place c.self.view_is c.requires in
-    let count = c.bucket_count-count.ensures.count in
-    let near : p.bucket < bucket_count cur = elim c.then-self-eq0.branch [
-      | then-self-eq0-via-then-self-eq0 w ↦ near-not_waiting (λ e. hk (key e)) cur olds ws (inv.none w.if-self-eq0.true) p within
-      | then-self-eq0-via-else-self-eq0+then-place-count w ↦ omega (arith, count, w.if-place-count.true)
+    let near : c.args.place.bucket < bucket_count t.current = elim c.then-self-eq0.branch [
+      | then-self-eq0-via-then-self-eq0 w ↦ near-not_waiting (λ e. hk (g.E.Keyed.key_of e)) t.current t.draining.array t.draining.waiting.items (c.self.invariant.none w.if-self-eq0.true) c.args.place within
+      | then-self-eq0-via-else-self-eq0+then-place-count w ↦ omega (arith, c.bucket_count-count.ensures.count, w.if-place-count.true)
     ] in
     let x = c.parts_mut_at.ensures.parts in
-    let there = subst (λ (z : Contents g.row.E.Denot g.row.H.Denot). slice_get (entries z) (index_of z p) ≡ Some x.0) view (own-got laws inv c.args.place within near x.0 x.1) in
-    let same = λ (w : g.row.E-Value.Denot). ap (λ s. let h : g.row.E-Key.Denot → ℕ = λ k. hash_of g.H.BuildHasher g.H.Hasher.Hasher s.hasher (g.E.Key.Hash.hash_input k) in h) (settings-write g.E.Valued.with_value cur p w) in
-    ((refl, λ w. ap (λ (h : g.row.E-Key.Denot → ℕ). together (λ e. h (key e)) (writes.with_write_at_spot g.E.Valued.with_value cur p w) ws olds) (same w) ∙ own-written laws inv c.args.place within near g.E.Valued.with_value w ∙ ap (λ z. with_write_at g.E.Valued.with_value z p w) view), record { writes_back = tt; parts = (x.0, there, x.2, x.3) })
+    let there = near-got g.met.E.Key.Eq.laws hashes c.self.invariant c.self.view_is c.args.place c.requires near x.0 x.1 in
+    ((refl, λ w. near-written g.met.E.Key.Eq.laws hashes c.self.invariant c.self.view_is c.args.place c.requires near g.E.Valued.with_value w (writes.with_write_at_spot g.E.Valued.with_value t.current c.args.place w) refl),
+    record { writes_back = tt; parts = (x.0, there, x.2, x.3) })
 
 pub parts_mut_at-requires-2-clause-bucket : goal.parts_mut_at-requires-2-clause-bucket
 parts_mut_at-requires-2-clause-bucket g c =
-    let inv = c.self.invariant in
-    let laws = g.met.E.Key.Eq.laws in
-    let within = place-seen c.self.invariant c.args.place c.self.view_is c.requires in
-    let count = c.bucket_count-count.ensures.count in
-    let far : bucket_count c.self.inside.current ≤ c.args.place.bucket = omega (arith, count) in
-    rw count (old-is laws inv c.args.place within far).0
+    let hashes : g.row.H.Denot → g.row.E-Key.Denot → ℕ = λ s k. hash_of g.H.BuildHasher g.H.Hasher.Hasher s (g.E.Key.Hash.hash_input k) in
+    let far : bucket_count c.self.inside.current ≤ c.args.place.bucket = omega (arith, c.bucket_count-count.ensures.count) in
+    far-bucket g.met.E.Key.Eq.laws hashes c.self.invariant c.self.view_is c.args.place c.requires far c.bucket_count-count.result c.bucket_count-count.ensures.count
 
 pub parts_mut_at-requires-2-clause-slot : goal.parts_mut_at-requires-2-clause-slot
 parts_mut_at-requires-2-clause-slot g c =
-    let inv = c.self.invariant in
-    let laws = g.met.E.Key.Eq.laws in
-    let within = place-seen c.self.invariant c.args.place c.self.view_is c.requires in
-    let count = c.bucket_count-count.ensures.count in
-    let far : bucket_count c.self.inside.current ≤ c.args.place.bucket = omega (arith, count) in
-    rw count (old-is laws inv c.args.place within far).1
+    let hashes : g.row.H.Denot → g.row.E-Key.Denot → ℕ = λ s k. hash_of g.H.BuildHasher g.H.Hasher.Hasher s (g.E.Key.Hash.hash_input k) in
+    let far : bucket_count c.self.inside.current ≤ c.args.place.bucket = omega (arith, c.bucket_count-count.ensures.count) in
+    far-slot g.met.E.Key.Eq.laws hashes c.self.invariant c.self.view_is c.args.place c.requires far c.bucket_count-count.result c.bucket_count-count.ensures.count
 
 pub invariant_of-self-lent-2 : goal.invariant_of-self-lent-2
 invariant_of-self-lent-2 g c = λ w.
+    let hashes : g.row.H.Denot → g.row.E-Key.Denot → ℕ = λ s k. hash_of g.H.BuildHasher g.H.Hasher.Hasher s (g.E.Key.Hash.hash_input k) in
     let t = c.self.inside in
-    let cur = t.current in
-    let olds = t.draining.array in
-    let inv = c.self.invariant in
-    let hk = key_hash g.H.BuildHasher g.H.Hasher.Hasher g.E.Key.Hash.hash_input cur in
-    let key = g.E.Keyed.key_of in
-    let laws = g.met.E.Key.Eq.laws in
-    let p = c.args.place in
-    let within = place-seen c.self.invariant c.args.place c.self.view_is c.requires in
-    let count = c.bucket_count-count.ensures.count in
-    let far : bucket_count c.self.inside.current ≤ c.args.place.bucket = omega (arith, count) in
+    let n = c.bucket_count-count.result in
+    let far : bucket_count t.current ≤ c.args.place.bucket = omega (arith, c.bucket_count-count.ensures.count) in
     let x = c.parts_mut_at-2.ensures.parts in
-    let kept = g.met.E.Valued.value_keeps_key x.0 in
-    let got = subst (λ n. slice_get (shelf_entries (shelf_of olds (p.bucket - n))) p.slot ≡ Some x.0) count x.1 in
-    subst (λ n. IsTable g.E.Key.PartialEq.eq key hk cur (record (draining_of t.draining) { array = set olds (p.bucket - n) (shelf_write_at g.E.Valued.with_value (shelf_of olds (p.bucket - n)) p.slot w) }) t.skipped) (sym count)
-    (old-kept laws inv c.args.place within far x.0 got g.E.Valued.with_value w (ap hk (kept w)) (ap (λ k. g.E.Key.PartialEq.eq k (key x.0)) (kept w) ∙ laws.refl (key x.0)))
+    let kept = g.met.E.Valued.value_keeps_key x.0 w in
+    let same = ap (λ k. g.E.Key.PartialEq.eq k (g.E.Keyed.key_of x.0)) kept ∙ g.met.E.Key.Eq.laws.refl (g.E.Keyed.key_of x.0) in
+    let news = set t.draining.array (c.args.place.bucket - n) (shelf_write_at g.E.Valued.with_value (shelf_of t.draining.array (c.args.place.bucket - n)) c.args.place.slot w) in
+    far-kept g.met.E.Key.Eq.laws hashes c.self.invariant c.self.view_is c.args.place c.requires far n c.bucket_count-count.ensures.count x.0 x.1 g.E.Valued.with_value w
+    (ap (key_hash g.H.BuildHasher g.H.Hasher.Hasher g.E.Key.Hash.hash_input t.current) kept) news refl same
 
 pub returns : goal.returns
 returns g c =
+    let hashes : g.row.H.Denot → g.row.E-Key.Denot → ℕ = λ s k. hash_of g.H.BuildHasher g.H.Hasher.Hasher s (g.E.Key.Hash.hash_input k) in
     let t = c.self.inside in
-    let cur = t.current in
-    let ws = t.draining.waiting.items in
-    let olds = t.draining.array in
-    let inv = c.self.invariant in
-    let hk = key_hash g.H.BuildHasher g.H.Hasher.Hasher g.E.Key.Hash.hash_input cur in
-    let key = g.E.Keyed.key_of in
-    let laws = g.met.E.Key.Eq.laws in
-    let p = c.args.place in
-    let view = c.self.view_is in
-    let within = place-seen c.self.invariant c.args.place c.self.view_is c.requires in
-    let count = c.bucket_count-count.ensures.count in
-    let far : bucket_count c.self.inside.current ≤ c.args.place.bucket = omega (arith, count) in
+    let n = c.bucket_count-count.result in
+    let far : bucket_count t.current ≤ c.args.place.bucket = omega (arith, c.bucket_count-count.ensures.count) in
     let x = c.parts_mut_at-2.ensures.parts in
-    let kept = g.met.E.Valued.value_keeps_key x.0 in
-    let got = subst (λ n. slice_get (shelf_entries (shelf_of olds (p.bucket - n))) p.slot ≡ Some x.0) count x.1 in
-    let there = subst (λ (z : Contents g.row.E.Denot g.row.H.Denot). slice_get (entries z) (index_of z p) ≡ Some x.0) view (old-got laws inv c.args.place within far x.0 got) in
-    ((refl, λ w. ap (λ n. together (λ e. hk (key e)) cur ws (set olds (p.bucket - n) (shelf_write_at g.E.Valued.with_value (shelf_of olds (p.bucket - n)) p.slot w))) count ∙ old-written laws inv c.args.place within far x.0 got g.E.Valued.with_value w (ap hk (kept w)) ∙ ap (λ z. with_write_at g.E.Valued.with_value z p w) view), record { writes_back = tt; parts = (x.0, there, x.2, x.3) })
+    let there = far-got g.met.E.Key.Eq.laws hashes c.self.invariant c.self.view_is c.args.place c.requires far n c.bucket_count-count.ensures.count x.0 x.1 in
+    ((refl, λ w. far-written g.met.E.Key.Eq.laws hashes c.self.invariant c.self.view_is c.args.place c.requires far n c.bucket_count-count.ensures.count x.0 x.1 g.E.Valued.with_value w
+        (ap (key_hash g.H.BuildHasher g.H.Hasher.Hasher g.E.Key.Hash.hash_input t.current) (g.met.E.Valued.value_keeps_key x.0 w))
+        (set t.draining.array (c.args.place.bucket - n) (shelf_write_at g.E.Valued.with_value (shelf_of t.draining.array (c.args.place.bucket - n)) c.args.place.slot w)) refl),
+    record { writes_back = tt; parts = (x.0, there, x.2, x.3) })
