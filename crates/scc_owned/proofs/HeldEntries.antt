@@ -37,6 +37,12 @@ module _ {G N E S K T : Type 0} {d : guard.Ghosts G (Contents E S)} {y : keyed.G
   pub same-entry : (o : HeldOccupied G N E S K T d y b w g h) (p : IsPlace (d.inner o.guard) o.place) → record o { within = p } ≡ o
   same-entry o p = ap (λ r. record o { within = r }) (place-prop (d.inner o.guard) o.place p o.within)
 
+  -- an entry with the guard, the place and the rest of another is equal to it
+  pub same-made : (o r : HeldOccupied G N E S K T d y b w g h) → r.guard ≡ o.guard → r.place ≡ o.place → r.rest ≡ o.rest → r ≡ o
+  same-made o r guarded placed rests =
+      let Made : G → Place → N → Type 0 = λ x p n. (i : IsPlace (d.inner x) p) → record { guard = x; place = p; rest = n; of = o.of; within = i } ≡ o in
+      subst (λ n. Made r.guard r.place n) (sym rests) (subst (λ p. Made r.guard p o.rest) (sym placed) (subst (λ x. Made x o.place o.rest) (sym guarded) (λ i. same-entry o i))) r.within
+
 module _ {E K V S : Type 0} {l : Lookups E K V} {key : E → K} (lawful : AreLawful l key) where
   -- a search for a position tells what a look-up finds
   pub found-or-none : (t : K → Bool) (c : Contents E S) (o : Option Place) → MatchOption o (position (λ e. t (key e)) (entries c) ≡ None) (IsFoundAt (λ e. t (key e)) c) → MatchOption o (l.find t (entries c) ≡ None) (IsFoundAt (λ e. t (key e)) c)
