@@ -67,9 +67,13 @@ module _ {G N E V S K T : Type 0} {d : guard.Ghosts G (Contents E S)} {y : keyed
       }
 
   -- if a search for k in the container of x found the place p, an entry with the guard x and the place p is the entry of
-  -- k
-  pub occupied-at : {same : K → K → Bool} (laws : IsEquivalence same) (k : K) (o : HeldOccupied G N E S K T d y b w g h) (x : G) (p : Place) → o.guard ≡ x → o.place ≡ p → IsDistinct same (map y.key_of (entries (d.inner x))) → IsFoundAt (λ e. same k (y.key_of e)) (d.inner x) p → IsOccupiedAt l same (d.inner x) k o
-  occupied-at {same = same} laws k o x p guarded placed u found =
+  -- k in its own container
+  pub occupied-here : {same : K → K → Bool} (laws : IsEquivalence same) (k : K) (o : HeldOccupied G N E S K T d y b w g h) (x : G) (p : Place) → o.guard ≡ x → o.place ≡ p → IsDistinct same (map y.key_of (entries (d.inner x))) → IsFoundAt (λ e. same k (y.key_of e)) (d.inner x) p → IsOccupiedAt l same (d.inner o.guard) k o
+  occupied-here {same = same} laws k o x p guarded placed u found =
       let here : IsFoundAt (λ e. same k (y.key_of e)) (d.inner o.guard) o.place = rw (guarded, placed) found in
       let f = lawful.first (same k) (entries (d.inner o.guard)) (index_of (d.inner o.guard) o.place) here.found in
-      rw (← guarded) (occupied-by laws k o (rw guarded u) f.0 f.1)
+      occupied-by laws k o (rw guarded u) f.0 f.1
+
+  -- the same, and its container is that of x
+  pub occupied-at : {same : K → K → Bool} (laws : IsEquivalence same) (k : K) (o : HeldOccupied G N E S K T d y b w g h) (x : G) (p : Place) → o.guard ≡ x → o.place ≡ p → IsDistinct same (map y.key_of (entries (d.inner x))) → IsFoundAt (λ e. same k (y.key_of e)) (d.inner x) p → IsOccupiedAt l same (d.inner x) k o
+  occupied-at laws k o x p guarded placed u found = rw (← guarded) (occupied-here laws k o x p guarded placed u found)

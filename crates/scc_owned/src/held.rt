@@ -2,8 +2,8 @@
 //! `&mut` in the owned form, and is generic in the guard.
 ghost use Rattle.scc_common.specs.Contents.{entries, key_hash, IsUniqueBy};
 ghost use Rattle.scc_table.specs.Places.{IsPlace};
-ghost use Rattle.std.specs.List.{position};
-ghost use Rattle.std.specs.Prelude.{◌≡◌, None};
+ghost use Rattle.std.specs.List.{IsDistinct-prop, position};
+ghost use Rattle.std.specs.Prelude.{◌≡◌, None, map};
 
 mod methods;
 
@@ -39,7 +39,7 @@ where
     pub(crate) of: PhantomData<(E, H)>,
     ghost absent: { position (λ e. E.Key.eq key (E.key_of e)) (entries (G.inner guard)) ≡ None },
     ghost hashed: { hash ≡ key_hash H.BuildHasher H.Hasher.Hasher E.Key.hash_input (G.inner guard) key },
-    ghost unique: { IsUniqueBy E.Key.eq E.key_of (G.inner guard) },
+    ghost unique: { IsUniqueBy E.Key.eq E.key_of (G.inner guard) } by { IsDistinct-prop E.Key.eq (map E.key_of (entries (G.inner guard))) },
 }
 
 /// The entry of a key, occupied or vacant.

@@ -26,8 +26,8 @@ returns-in-Occupied g c = (
 pub returns-in-Ok-insert_into : goal.returns-in-Ok-insert_into
 returns-in-Ok-insert_into g c =
     let x = c.in-Vacant.entry in
-    let put = inserts-at-vacant g.E.Key.PartialEq.eq _ x x.guard.now c.insert_into.new.owned c.in-Ok.value c.at.result _ c.at.ensures.guard c.at.ensures.place c.at.ensures.rest refl c.in-Ok-insert_into.ensures.ok c.in-Ok-insert_into.ensures.growth c.insert_into.ensures.relocates c.in-Ok-insert_into.ensures.two c.insert_into.ensures.unique in
-    ((same-name c.at.ensures.guard, λ w. refl, tt), record { inserts = through-vacant g.E.Key.PartialEq.eq _ (λ k v. FnOnceReturnsAt g.F.FnOnce c.args.f k (Ok v)) c.args.self x c.in-Ok.value (Ok c.at.result) c.in-Vacant.is (_, c.in-Ok.ensures, refl) put; kept = tt })
+    let put = inserts-at-vacant g.E.Key.PartialEq.eq _ x x.guard.now c.insert_into.new.owned c.in-Ok.value c.at-in-Ok-insert_into.result _ c.at-in-Ok-insert_into.ensures.guard c.at-in-Ok-insert_into.ensures.place c.at-in-Ok-insert_into.ensures.rest refl c.in-Ok-insert_into.ensures.ok c.in-Ok-insert_into.ensures.growth c.insert_into.ensures.relocates c.in-Ok-insert_into.ensures.two c.insert_into.ensures.unique in
+    ((same-name c.at-in-Ok-insert_into.ensures.guard, λ w. refl, tt), record { inserts = through-vacant g.E.Key.PartialEq.eq _ (λ k v. FnOnceReturnsAt g.F.FnOnce c.args.f k (Ok v)) c.args.self x c.in-Ok.value (Ok c.at-in-Ok-insert_into.result) c.in-Vacant.is (_, c.in-Ok.ensures, refl) put; kept = tt })
 
 pub returns-in-Ok : goal.returns-in-Ok
 returns-in-Ok g c =
