@@ -37,6 +37,12 @@ module _ {G N E S K T : Type 0} {d : guard.Ghosts G (Contents E S)} {y : keyed.G
   pub same-entry : (o : HeldOccupied G N E S K T d y b w g h) (p : IsPlace (d.inner o.guard) o.place) → record o { within = p } ≡ o
   same-entry o p = ap (λ r. record o { within = r }) (place-prop (d.inner o.guard) o.place p o.within)
 
+  -- an entry with the guard, the place and the rest of another is equal to it
+  pub same-made : (o r : HeldOccupied G N E S K T d y b w g h) → r.guard ≡ o.guard → r.place ≡ o.place → r.rest ≡ o.rest → r ≡ o
+  same-made o r guarded placed rests =
+      let Made : G → Place → N → Type 0 = λ x p n. (i : IsPlace (d.inner x) p) → record { guard = x; place = p; rest = n; of = o.of; within = i } ≡ o in
+      subst (λ n. Made r.guard r.place n) (sym rests) (subst (λ p. Made r.guard p o.rest) (sym placed) (subst (λ x. Made x o.place o.rest) (sym guarded) (λ i. same-entry o i))) r.within
+
 module _ {E K V S : Type 0} {l : Lookups E K V} {key : E → K} (lawful : AreLawful l key) where
   -- a search for a position tells what a look-up finds
   pub found-or-none : (t : K → Bool) (c : Contents E S) (o : Option Place) → MatchOption o (position (λ e. t (key e)) (entries c) ≡ None) (IsFoundAt (λ e. t (key e)) c) → MatchOption o (l.find t (entries c) ≡ None) (IsFoundAt (λ e. t (key e)) c)
@@ -61,9 +67,13 @@ module _ {G N E V S K T : Type 0} {d : guard.Ghosts G (Contents E S)} {y : keyed
       }
 
   -- if a search for k in the container of x found the place p, an entry with the guard x and the place p is the entry of
-  -- k
-  pub occupied-at : {same : K → K → Bool} (laws : IsEquivalence same) (k : K) (o : HeldOccupied G N E S K T d y b w g h) (x : G) (p : Place) → o.guard ≡ x → o.place ≡ p → IsDistinct same (map y.key_of (entries (d.inner x))) → IsFoundAt (λ e. same k (y.key_of e)) (d.inner x) p → IsOccupiedAt l same (d.inner x) k o
-  occupied-at {same = same} laws k o x p guarded placed u found =
+  -- k in its own container
+  pub occupied-here : {same : K → K → Bool} (laws : IsEquivalence same) (k : K) (o : HeldOccupied G N E S K T d y b w g h) (x : G) (p : Place) → o.guard ≡ x → o.place ≡ p → IsDistinct same (map y.key_of (entries (d.inner x))) → IsFoundAt (λ e. same k (y.key_of e)) (d.inner x) p → IsOccupiedAt l same (d.inner o.guard) k o
+  occupied-here {same = same} laws k o x p guarded placed u found =
       let here : IsFoundAt (λ e. same k (y.key_of e)) (d.inner o.guard) o.place = rw (guarded, placed) found in
       let f = lawful.first (same k) (entries (d.inner o.guard)) (index_of (d.inner o.guard) o.place) here.found in
-      rw (← guarded) (occupied-by laws k o (rw guarded u) f.0 f.1)
+      occupied-by laws k o (rw guarded u) f.0 f.1
+
+  -- the same, and its container is that of x
+  pub occupied-at : {same : K → K → Bool} (laws : IsEquivalence same) (k : K) (o : HeldOccupied G N E S K T d y b w g h) (x : G) (p : Place) → o.guard ≡ x → o.place ≡ p → IsDistinct same (map y.key_of (entries (d.inner x))) → IsFoundAt (λ e. same k (y.key_of e)) (d.inner x) p → IsOccupiedAt l same (d.inner x) k o
+  occupied-at laws k o x p guarded placed u found = rw (← guarded) (occupied-here laws k o x p guarded placed u found)

@@ -1,9 +1,9 @@
 //! An entry of a container: what a caller holds of a key after one search. It holds its container by a guard, which is a
 //! `&mut` in the owned form, and is generic in the guard.
-ghost use Rattle.scc_common.specs.Contents.{entries, key_hash};
+ghost use Rattle.scc_common.specs.Contents.{entries, key_hash, IsUniqueBy};
 ghost use Rattle.scc_table.specs.Places.{IsPlace};
-ghost use Rattle.std.specs.List.{position};
-ghost use Rattle.std.specs.Prelude.{◌≡◌, None};
+ghost use Rattle.std.specs.List.{IsDistinct-prop, position};
+ghost use Rattle.std.specs.Prelude.{◌≡◌, None, map};
 
 mod methods;
 
@@ -39,6 +39,7 @@ where
     pub(crate) of: PhantomData<(E, H)>,
     ghost absent: { position (λ e. E.Key.eq key (E.key_of e)) (entries (G.inner guard)) ≡ None },
     ghost hashed: { hash ≡ key_hash H.BuildHasher H.Hasher.Hasher E.Key.hash_input (G.inner guard) key },
+    ghost unique: { IsUniqueBy E.Key.eq E.key_of (G.inner guard) } by { IsDistinct-prop E.Key.eq (map E.key_of (entries (G.inner guard))) },
 }
 
 /// The entry of a key, occupied or vacant.
@@ -73,7 +74,9 @@ where
         ensures guard { result.guard ≡ guard }
         ensures place { result.place ≡ place }
         ensures rest { result.rest ≡ rest }
+        ensures unique { IsUniqueBy E.Key.eq E.key_of (G.inner guard) }
     {
+        guard.look().key_facts();
         HeldOccupied {
             guard,
             place,
@@ -92,6 +95,7 @@ where
     pub(crate) fn of_key(guard: G, key: E::Key, hash: u64, rest: N) -> Self
         requires absent { position (λ e. E.Key.eq key (E.key_of e)) (entries (G.inner guard)) ≡ None }
         requires hashed { hash ≡ key_hash H.BuildHasher H.Hasher.Hasher E.Key.hash_input (G.inner guard) key }
+        requires unique { IsUniqueBy E.Key.eq E.key_of (G.inner guard) }
         ensures guard { result.guard ≡ guard }
         ensures key { result.key ≡ key }
         ensures rest { result.rest ≡ rest }

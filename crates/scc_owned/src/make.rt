@@ -1,8 +1,8 @@
 //! How an empty container is made.
-ghost use Rattle.scc_common.specs.Contents.{settings_of};
+ghost use Rattle.scc_common.specs.Contents.{settings_of, IsUniqueBy};
 ghost use Rattle.scc_table.specs.Making.{IsNew, MakesEmpty};
 ghost use Rattle.std.specs.Arc.{arc_value};
-ghost use Rattle.std.specs.Prelude.{◌≤◌};
+ghost use Rattle.std.specs.Prelude.{◌≡◌, ◌≤◌};
 
 use crate::Owned;
 use scc_common::{Keyed, MakeError, Shared};
@@ -56,13 +56,22 @@ impl<E: Keyed, H: BuildHasher> Owned<E, H>
 where
     E::Key: Eq + Hash,
 {
+    /// Makes a container of a table.
+    #[inline(always)]
+    pub(crate) fn over(table: Table<E, H>) -> Self
+        ensures table { result ≡ table }
+        ensures unique { IsUniqueBy E.Key.eq E.key_of result }
+    {
+        let owned = Owned { table };
+        owned.key_facts();
+        owned
+    }
+
     /// Returns an empty container without an array. Allocates nothing.
     pub fn with_hasher(alloc: Global, hasher: H) -> Self
         ensures { IsNew hasher result }
     {
-        Owned {
-            table: Table::new(alloc, 0, hasher),
-        }
+        Owned::over(Table::new(alloc, 0, hasher))
     }
 
     /// Returns an empty container with an array of the least power of two of slots that is at least `capacity` and at least
@@ -78,7 +87,7 @@ where
         ensures { MakesEmpty (λ _. hasher) 0 capacity result }
     {
         match Table::with_capacity(alloc, 0, capacity, hasher) {
-            Ok(table) => Ok(Owned { table }),
+            Ok(table) => Ok(Owned::over(table)),
             Err(e) => Err(e),
         }
     }
@@ -96,7 +105,7 @@ where
         ensures { MakesEmpty (λ _. hasher) skipped capacity result }
     {
         match Table::with_capacity(alloc, skipped, capacity, hasher) {
-            Ok(table) => Ok(Owned { table }),
+            Ok(table) => Ok(Owned::over(table)),
             Err(e) => Err(e),
         }
     }

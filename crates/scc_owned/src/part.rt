@@ -24,9 +24,7 @@ where
         requires { share ≤ 2 ^ 63 }
         ensures { FollowsMinimum (IsUniqueBy E.Key.eq E.key_of) self.old share self.new }
     {
-        if *self.capacity_range().start() == share {
-            self.key_facts();
-        } else {
+        if *self.capacity_range().start() != share {
             self.change_minimum(share);
         }
     }
@@ -42,8 +40,6 @@ where
             let _ = self.table.raise_minimum(share - minimum);
         } else if share < minimum {
             let _ = self.table.lower_minimum(minimum - share);
-        } else {
-            self.key_facts();
         }
     }
 }

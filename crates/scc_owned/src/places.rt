@@ -35,8 +35,10 @@ where
 
     /// Returns the place of the first pair of the list, or `None` if the container is empty.
     pub fn first_place(&self) -> Option<Place>
-        ensures { MatchOption result (entries self.now ≡ []) (StandsAt self.now 0) }
+        ensures place { MatchOption result (entries self.now ≡ []) (StandsAt self.now 0) }
+        ensures unique { IsUniqueBy E.Key.eq E.key_of self.now }
     {
+        self.key_facts();
         self.table.first_place()
     }
 
@@ -53,8 +55,10 @@ where
     #[inline(always)]
     pub(crate) fn entry_at(&self, place: Place) -> &E
         requires { IsPlace self.now place }
-        ensures { slice_get (entries self.now) (index_of self.now place) ≡ Some result.now }
+        ensures entry { slice_get (entries self.now) (index_of self.now place) ≡ Some result.now }
+        ensures unique { IsUniqueBy E.Key.eq E.key_of self.now }
     {
+        self.key_facts();
         self.table.entry_at(place)
     }
 

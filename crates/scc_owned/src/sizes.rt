@@ -39,6 +39,7 @@ where
     pub fn capacity_range(&self) -> RangeInclusive<usize>
         ensures low { result.start ≡ minimum_of self.now }
         ensures high { result.end ≡ 2 ^ 63 }
+        ensures unique { IsUniqueBy E.Key.eq E.key_of self.now }
     {
         self.table.minimum()..=GREATEST_CAPACITY
     }

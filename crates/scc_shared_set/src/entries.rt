@@ -61,7 +61,9 @@ impl<K: Eq + Hash, H: BuildHasher> HashSet<K, H> {
     }
 }
 
-impl<'a, K: Eq + Hash, H: BuildHasher> HeldKey<scc_owned::map::locked::OccupiedEntry<'a, K, (), H>> {
+impl<'a, K: Eq + Hash, H: BuildHasher> HeldKey<
+    scc_owned::map::locked::OccupiedEntry<'a, K, (), H>,
+> {
     /// Returns the stored key.
     pub fn get(&self) -> &K
         ensures { result.now ≡ occupied_key self.now }

@@ -49,7 +49,9 @@ const STRIPES: Size = Size {
 };
 
 fn in_owned_map<C: Case>(alloc: Global, case: &C, hasher: Masked) -> Result<bool, AllocError> {
-    let mut map: scc_owned::map::Owned<Token, Token, Masked> = scc_owned::map::Owned::with_hasher(alloc, hasher);
+    let mut map: scc_owned::map::Owned<Token, Token, Masked> = scc_owned::map::Owned::with_hasher(
+        alloc, hasher,
+    );
     case.check(alloc, &mut map)
 }
 
@@ -59,9 +61,8 @@ fn in_owned_set<C: Case>(alloc: Global, case: &C, hasher: Masked) -> Result<bool
 }
 
 fn in_owned_index<C: Case>(alloc: Global, case: &C, hasher: Masked) -> Result<bool, AllocError> {
-    let mut index: scc_owned::index::Owned<Token, Token, Masked> = scc_owned::index::Owned::with_hasher(
-        alloc, hasher,
-    );
+    let mut index: scc_owned::index::Owned<Token, Token, Masked> =
+        scc_owned::index::Owned::with_hasher(alloc, hasher);
     case.check(alloc, &mut index)
 }
 

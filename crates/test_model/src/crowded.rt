@@ -66,9 +66,8 @@ fn crowds<F: Form + Reserving>(form: &mut F, kind: Kind, pairs: u64) -> bool {
 fn of_maps(alloc: Global) -> bool {
     let mut holds = true;
     for pairs in CROWDS {
-        let mut map: scc_owned::map::Owned<Token, Token, Masked> = scc_owned::map::Owned::with_hasher(
-            alloc, ZERO,
-        );
+        let mut map: scc_owned::map::Owned<Token, Token, Masked> =
+            scc_owned::map::Owned::with_hasher(alloc, ZERO);
         holds &= crowds(&mut map, Kind::Map, pairs);
     }
     holds
@@ -86,9 +85,8 @@ fn of_sets(alloc: Global) -> bool {
 fn of_indexes(alloc: Global) -> bool {
     let mut holds = true;
     for pairs in CROWDS {
-        let mut index: scc_owned::index::Owned<Token, Token, Masked> = scc_owned::index::Owned::with_hasher(
-            alloc, ZERO,
-        );
+        let mut index: scc_owned::index::Owned<Token, Token, Masked> =
+            scc_owned::index::Owned::with_hasher(alloc, ZERO);
         holds &= crowds(&mut index, Kind::Index, pairs);
     }
     holds

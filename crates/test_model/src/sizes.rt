@@ -99,8 +99,12 @@ fn reserves<F: Form + Reserving>(form: &mut F, kind: Kind) -> bool {
 }
 
 fn of_maps(alloc: Global) -> Result<bool, AllocError> {
-    let mut large: scc_owned::map::Owned<Token, Token, Masked> = scc_owned::map::Owned::with_hasher(alloc, SAME);
-    let mut small: scc_owned::map::Owned<Token, Token, Masked> = scc_owned::map::Owned::with_hasher(alloc, SAME);
+    let mut large: scc_owned::map::Owned<Token, Token, Masked> = scc_owned::map::Owned::with_hasher(
+        alloc, SAME,
+    );
+    let mut small: scc_owned::map::Owned<Token, Token, Masked> = scc_owned::map::Owned::with_hasher(
+        alloc, SAME,
+    );
     Ok(grows(&mut large, Kind::Map) && reserves(&mut small, Kind::Map))
 }
 
@@ -111,12 +115,10 @@ fn of_sets(alloc: Global) -> Result<bool, AllocError> {
 }
 
 fn of_indexes(alloc: Global) -> Result<bool, AllocError> {
-    let mut large: scc_owned::index::Owned<Token, Token, Masked> = scc_owned::index::Owned::with_hasher(
-        alloc, SAME,
-    );
-    let mut small: scc_owned::index::Owned<Token, Token, Masked> = scc_owned::index::Owned::with_hasher(
-        alloc, SAME,
-    );
+    let mut large: scc_owned::index::Owned<Token, Token, Masked> =
+        scc_owned::index::Owned::with_hasher(alloc, SAME);
+    let mut small: scc_owned::index::Owned<Token, Token, Masked> =
+        scc_owned::index::Owned::with_hasher(alloc, SAME);
     Ok(grows(&mut large, Kind::Index) && reserves(&mut small, Kind::Index))
 }
 
@@ -179,9 +181,8 @@ fn has_each_once(
 
 // Shows that a snapshot of many versions outlives the pairs of its index.
 fn of_snapshots(alloc: Global) -> Result<bool, AllocError> {
-    let mut index: scc_owned::index::Owned<Token, Token, Masked> = scc_owned::index::Owned::with_hasher(
-        alloc, SAME,
-    );
+    let mut index: scc_owned::index::Owned<Token, Token, Masked> =
+        scc_owned::index::Owned::with_hasher(alloc, SAME);
     let filled = fills(&mut index, 0, VERSIONS as u64);
     let Ok(versions) = index.iter() else {
         return Err(AllocError);

@@ -31,8 +31,11 @@ fn judges<C: Reserving>(first: &mut C, second: &mut C) -> bool {
 }
 
 fn of_maps(alloc: Global) -> bool {
-    let mut first: scc_owned::map::Owned<Token, Token, Masked> = scc_owned::map::Owned::with_hasher(alloc, SAME);
-    let mut second: scc_owned::map::Owned<Token, Token, Masked> = scc_owned::map::Owned::with_hasher(alloc, SAME);
+    let mut first: scc_owned::map::Owned<Token, Token, Masked> = scc_owned::map::Owned::with_hasher(
+        alloc, SAME,
+    );
+    let mut second: scc_owned::map::Owned<Token, Token, Masked> =
+        scc_owned::map::Owned::with_hasher(alloc, SAME);
     judges(&mut first, &mut second)
 }
 
@@ -43,12 +46,10 @@ fn of_sets(alloc: Global) -> bool {
 }
 
 fn of_indexes(alloc: Global) -> bool {
-    let mut first: scc_owned::index::Owned<Token, Token, Masked> = scc_owned::index::Owned::with_hasher(
-        alloc, SAME,
-    );
-    let mut second: scc_owned::index::Owned<Token, Token, Masked> = scc_owned::index::Owned::with_hasher(
-        alloc, SAME,
-    );
+    let mut first: scc_owned::index::Owned<Token, Token, Masked> =
+        scc_owned::index::Owned::with_hasher(alloc, SAME);
+    let mut second: scc_owned::index::Owned<Token, Token, Masked> =
+        scc_owned::index::Owned::with_hasher(alloc, SAME);
     judges(&mut first, &mut second)
 }
 

@@ -127,7 +127,9 @@ fn of_indexes<R: Wait + AllocGlobal>(rt: &R) -> Result<bool, AllocError> {
     let alloc = rt.alloc();
     let (Ok(shared), Ok(mut owned)) = (
         HashIndex::<Token, Token, Masked>::with_capacity_and_hasher(alloc, SLOTS, SAME),
-        scc_owned::index::Owned::<Token, Token, Masked>::with_capacity_and_hasher(alloc, SLOTS, SAME),
+        scc_owned::index::Owned::<Token, Token, Masked>::with_capacity_and_hasher(
+            alloc, SLOTS, SAME,
+        ),
     ) else {
         return Err(AllocError);
     };

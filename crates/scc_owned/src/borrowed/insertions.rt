@@ -78,15 +78,9 @@ where
                     guard,
                     place,
                     rest,
-                    of,
+                    of: _,
                 } = entry;
-                guard.key_facts();
-                Ok(HeldOccupied {
-                    guard,
-                    place,
-                    rest,
-                    of,
-                })
+                Ok(HeldOccupied::at(guard, place, rest))
             }
             HeldEntry::Vacant(entry) => {
                 let value = f(entry.key());
@@ -137,15 +131,9 @@ where
                     guard,
                     place,
                     rest,
-                    of,
+                    of: _,
                 } = entry;
-                guard.key_facts();
-                Ok(HeldOccupied {
-                    guard,
-                    place,
-                    rest,
-                    of,
-                })
+                Ok(HeldOccupied::at(guard, place, rest))
             }
             HeldEntry::Vacant(entry) => {
                 let HeldVacant {

@@ -1,6 +1,5 @@
 //! The calls of an entry that keep its guard, alike for all guards.
-ghost use Rattle.scc_common.specs.Contents.{IsUniqueBy};
-ghost use Rattle.scc_owned.specs.Held.{occupied_contents, occupied_pair, entry_key, vacant_key, vacant_guard};
+ghost use Rattle.scc_owned.specs.Held.{occupied_pair, entry_key, vacant_key};
 ghost use Rattle.std.specs.Prelude.{◌≡◌};
 
 use crate::Owned;
@@ -19,14 +18,6 @@ where
     {
         self.guard.look().entry_at(self.place).key()
     }
-
-    /// States that no two keys are equal. It does nothing, and is there for its contract.
-    #[inline(always)]
-    pub(crate) fn key_facts(&self)
-        ensures { IsUniqueBy E.Key.eq E.key_of (occupied_contents self.now) }
-    {
-        self.guard.look().key_facts();
-    }
 }
 
 impl<G: Guard<Inner = Owned<E, H>>, N, E: Keyed, H: BuildHasher> HeldVacant<G, N, E, H>
@@ -43,14 +34,6 @@ where
         ensures { result.now ≡ vacant_key self.now }
     {
         &self.key
-    }
-
-    /// States that no two keys are equal. It does nothing, and is there for its contract.
-    #[inline(always)]
-    pub(crate) fn key_facts(&self)
-        ensures { IsUniqueBy E.Key.eq E.key_of (G.inner (vacant_guard self.now)) }
-    {
-        self.guard.look().key_facts();
     }
 }
 

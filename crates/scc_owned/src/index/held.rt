@@ -41,10 +41,7 @@ impl<G: Guard<Inner = Index<K, V, H>>, N, K: Eq + Hash, V, H: BuildHasher> HeldO
                 self.guard.lend().replace_at(place, version);
                 Ok(())
             }
-            Err(value) => {
-                self.key_facts();
-                Err(value)
-            }
+            Err(value) => Err(value),
         }
     }
 }
@@ -76,10 +73,7 @@ impl<G: Guard<Inner = Index<K, V, H>>, N, K: Eq + Hash, V, H: BuildHasher> HeldE
                     Err(value) => Err((HeldEntry::Occupied(entry), value)),
                 }
             }
-            HeldEntry::Vacant(entry) => {
-                entry.key_facts();
-                Ok(HeldEntry::Vacant(entry))
-            }
+            HeldEntry::Vacant(entry) => Ok(HeldEntry::Vacant(entry)),
         }
     }
 }

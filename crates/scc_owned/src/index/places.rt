@@ -59,8 +59,7 @@ impl<K: Eq + Hash, V, H: BuildHasher> Index<K, V, H> {
         ensures refused { IfErr result (λ v. v ≡ value) }
         ensures unique { IsUnique K.eq self.now }
     {
-        self.key_facts();
-        let stored = self.table.version_at(place).key();
+        let stored = self.entry_at(place).version().key();
         let Ok(key) = stored.clone() else {
             return Err(value);
         };

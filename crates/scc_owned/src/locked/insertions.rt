@@ -67,8 +67,13 @@ where
     {
         match self {
             HeldEntry::Occupied(entry) => {
-                entry.key_facts();
-                Ok(entry)
+                let HeldOccupied {
+                    guard,
+                    place,
+                    rest,
+                    of: _,
+                } = entry;
+                Ok(HeldOccupied::at(guard, place, rest))
             }
             HeldEntry::Vacant(entry) => {
                 let value = f(entry.key());
@@ -111,8 +116,13 @@ where
     {
         match self {
             HeldEntry::Occupied(entry) => {
-                entry.key_facts();
-                Ok(entry)
+                let HeldOccupied {
+                    guard,
+                    place,
+                    rest,
+                    of: _,
+                } = entry;
+                Ok(HeldOccupied::at(guard, place, rest))
             }
             HeldEntry::Vacant(entry) => {
                 let HeldVacant {

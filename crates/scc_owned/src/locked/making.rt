@@ -27,7 +27,6 @@ where
         ensures empty { IfErr result (λ n. (n ≡ rest) × (entries (G.inner guard) ≡ [])) }
         ensures unique { IsUniqueBy E.Key.eq E.key_of (G.inner guard) }
     {
-        guard.look().key_facts();
         match guard.look().first_place() {
             Some(place) => Ok(HeldOccupied::at(guard, place, rest)),
             None => Err(rest),

@@ -58,7 +58,6 @@ where
             rest,
             of: _,
         } = self;
-        guard.look().key_facts();
         match guard.next_place(place) {
             Some(place) => Some(HeldOccupied::at(guard, place, rest)),
             None => {

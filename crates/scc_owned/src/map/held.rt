@@ -30,6 +30,7 @@ impl<G: Guard<Inner = Map<K, V, H>>, N, K: Eq + Hash, V, H: BuildHasher> HeldOcc
         ensures value { result.now ≡ (occupied_pair self.old).1 }
         ensures written { (v : V) → IsWritten self.old v (with_value self.old v) }
         ensures waiting { (v : V) → waiting_of (occupied_contents (with_value self.old v)) ≡ waiting_of (occupied_contents self.old) }
+        ensures unique { (v : V) → IsUnique K.eq (occupied_contents (with_value self.old v)) }
     {
         let place = self.place;
         self.guard.lend().value_mut_at(place)
@@ -63,13 +64,9 @@ impl<G: Guard<Inner = Map<K, V, H>>, N, K: Eq + Hash, V, H: BuildHasher> HeldEnt
         match self {
             HeldEntry::Occupied(mut entry) => {
                 f(entry.get_mut());
-                entry.key_facts();
                 HeldEntry::Occupied(entry)
             }
-            HeldEntry::Vacant(entry) => {
-                entry.key_facts();
-                HeldEntry::Vacant(entry)
-            }
+            HeldEntry::Vacant(entry) => HeldEntry::Vacant(entry),
         }
     }
 }

@@ -29,7 +29,9 @@ impl<K: Eq + Hash, V, H: BuildHasher> Map<K, V, H> {
             self.entry place result) }
         ensures value { (p : K × V) × (slice_get (entries self.old) (index_of self.old place) ≡ Some p)
             × (result.now ≡ p.1) }
+        ensures unique { (v : V) → IsUnique K.eq (with_write_at with_pair_value self.old place v) }
     {
+        self.key_facts();
         self.table.value_mut_at(place)
     }
 
@@ -40,9 +42,7 @@ impl<K: Eq + Hash, V, H: BuildHasher> Map<K, V, H> {
         ensures new { self.new ≡ with_write_at with_pair_value self.old place value }
         ensures unique { IsUnique K.eq self.new }
     {
-        let old = std::mem::replace(self.value_mut_at(place), value);
-        self.key_facts();
-        old
+        std::mem::replace(self.value_mut_at(place), value)
     }
 
     /// Returns the key at `place`, and the value to write.

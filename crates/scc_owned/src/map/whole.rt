@@ -78,11 +78,7 @@ impl<K: Eq + Hash, V, H: BuildHasher> Map<K, V, H> {
         ensures unique { IfOk result (λ m. IsUnique K.eq m) }
     {
         match self.table.try_clone() {
-            Ok(table) => {
-                let copy = Owned { table };
-                copy.key_facts();
-                Ok(copy)
-            }
+            Ok(table) => Ok(Owned::over(table)),
             Err(e) => Err(e),
         }
     }

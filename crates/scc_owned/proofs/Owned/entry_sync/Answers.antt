@@ -8,7 +8,7 @@ returns-in-Some-clause-entry g c =
     occupied-at g.met.E.Stored.lawful g.met.E.Key.Eq.laws c.args.k c.at.result _ _ c.at.ensures.guard c.at.ensures.place (rw c.self.view_is at c.search.ensures.unique) (rw c.self.view_is at c.in-Some.ensures.place)
 
 pub of_key-requires : goal.of_key-requires
-of_key-requires g c = rw (← c.self.view_is) record { absent = c.in-None.ensures.place; hashed = c.hash-hash.ensures }
+of_key-requires g c = rw (← c.self.view_is) record { absent = c.in-None.ensures.place; hashed = c.hash-hash.ensures; unique = c.search.ensures.unique }
 
 pub at-requires : goal.at-requires
 at-requires g c = let found = rw c.self.view_is at c.in-Some.ensures.place in found.within

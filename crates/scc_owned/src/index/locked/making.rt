@@ -35,7 +35,6 @@ impl<G: Guard<Inner = Index<K, V, H>>, N, K: Eq + Hash, V, H: BuildHasher> HeldO
             × Declines (CalledOn P.FnMut) p.old (entries (G.inner guard)) p.new) }
         ensures unique { IsUnique K.eq (G.inner guard) }
     {
-        guard.look().key_facts();
         match guard.look().first_passing(p) {
             Some(place) => Ok(HeldOccupied::at(guard, place, rest)),
             None => Err(rest),

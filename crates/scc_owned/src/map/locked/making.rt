@@ -36,7 +36,6 @@ impl<G: Guard<Inner = Map<K, V, H>>, N, K: Eq + Hash, V, H: BuildHasher> HeldOcc
             × Declines (CalledOn P.FnMut) p.old (entries (G.inner guard)) p.new) }
         ensures unique { IsUnique K.eq (G.inner guard) }
     {
-        guard.look().key_facts();
         match guard.look().first_passing(p) {
             Some(place) => Ok(HeldOccupied::at(guard, place, rest)),
             None => Err(rest),

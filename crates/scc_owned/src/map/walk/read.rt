@@ -16,11 +16,12 @@ impl<K: Eq + Hash, V, H: BuildHasher> Map<K, V, H> {
     /// of the list until it returns true.
     pub fn first_passing<P: FnMut(&K, &V) -> bool>(&self, p: &mut P) -> Option<Place>
         requires { CallableWhile P.FnMut false p.old (entries self.now) }
-        ensures { MatchOption result (Declines (CalledOn P.FnMut) p.old (entries self.now) p.new)
+        ensures place { MatchOption result (Declines (CalledOn P.FnMut) p.old (entries self.now) p.new)
             (λ place. IsPlace self.now place
             × PassesFirst (CalledOn P.FnMut) p.old (entries self.now) (index_of self.now place)) }
+        ensures unique { IsUnique K.eq self.now }
     {
-        let mut at = self.table.first_place();
+        let mut at = self.first_place();
         while let Some(place) = at {
             let (key, value) = self.table.pair_at(place);
             if p(key, value) {

@@ -40,7 +40,6 @@ impl<K: Eq + Hash, V, H: BuildHasher> Map<K, V, H> {
             × IsPermutation (entries self.old) es × Retains (CalledToWrite F.FnMut) f.old es stay f.new
             × Holds self.old stay self.new) self.old self.new }
     {
-        self.key_facts();
         self.retain_all(f);
         self.table.shrink();
     }
@@ -55,8 +54,9 @@ impl<K: Eq + Hash, V, H: BuildHasher> Map<K, V, H> {
             × HoldsExactly self.old stay self.new }
         ensures noted { refused_of self.new ≡ refused_of self.old }
         ensures waiting { waiting_of self.new ≡ waiting_of self.old }
+        ensures was_unique { IsUnique K.eq self.old }
     {
-        let mut at = self.table.first_place();
+        let mut at = self.first_place();
         while let Some(place) = at {
             if self.visit(place, f) {
                 at = self.next_place(place);

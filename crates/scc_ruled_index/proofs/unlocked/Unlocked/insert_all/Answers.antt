@@ -4,7 +4,7 @@ use Rattle.scc_table.proofs.walks.Reach.{nearer, reached-at, reached-first}
 use Rattle.scc_ruled_index.proofs.unlocked.Unlocked.insert_all.Goals as goal
 
 pub loop-at-init : goal.loop-at-init
-loop-at-init g c = let start = reached-first c.args.from.now c.first_place-at.result (rw c.look-index.ensures.same at c.first_place-at.ensures) in record { within = start.1; hasher = refl }
+loop-at-init g c = let start = reached-first c.args.from.now c.first_place-at.result (rw c.look-index.ensures.same at c.first_place-at.ensures.place) in record { within = start.1; hasher = refl }
 
 pub loop-at-smaller : goal.loop-at-smaller
 loop-at-smaller g c =

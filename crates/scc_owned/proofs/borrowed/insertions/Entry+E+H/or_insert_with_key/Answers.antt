@@ -1,20 +1,21 @@
-use Rattle.std.proofs.Common.{refl, rules}
+use Rattle.std.proofs.Common.{refl, ap, rules}
+use Rattle.scc_common.specs.Contents.{waiting_of}
 use Rattle.scc_owned.proofs.Inserting.{both-ok, map-err, map-ok}
-use Rattle.scc_owned.proofs.HeldEntries.{same-entry}
+use Rattle.scc_owned.proofs.HeldEntries.{same-made, same-name}
 use Rattle.scc_owned.proofs.borrowed.insertions.Entry+E+H.or_insert_with_key.Goals as goal
 
 pub returns-in-Occupied : goal.returns-in-Occupied
 returns-in-Occupied g c = (
-  (refl, λ w. refl, tt),
+  (same-name c.at.ensures.guard, λ w. refl, tt),
   record {
     inserts = record {
-      entry = rw c.in-Occupied.is (same-entry c.in-Occupied.entry _);
+      entry = rw c.in-Occupied.is (same-made c.in-Occupied.entry c.at.result c.at.ensures.guard c.at.ensures.place c.at.ensures.rest);
       refused = tt;
       vacant = tt;
       full = tt;
       growth = rw c.in-Occupied.is tt;
-      relocates = rw c.in-Occupied.is refl;
-      unique = c.key_facts.ensures;
+      relocates = rw c.in-Occupied.is (ap (λ m. waiting_of m.now) c.at.ensures.guard);
+      unique = rw c.at.ensures.guard c.at.ensures.unique;
     };
     kept = tt;
   },

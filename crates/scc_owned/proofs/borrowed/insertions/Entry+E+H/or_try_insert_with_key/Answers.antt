@@ -1,22 +1,23 @@
-use Rattle.std.proofs.Common.{Ok, Err, refl}
+use Rattle.std.proofs.Common.{Ok, Err, refl, ap}
+use Rattle.scc_common.specs.Contents.{waiting_of}
 use Rattle.std.specs.Fn.{FnOnceReturnsAt}
 use Rattle.scc_owned.specs.Insertions.{Memory}
 use Rattle.scc_owned.proofs.Inserting.{fails-at, inserts-at-vacant, through-vacant, vacant-now}
-use Rattle.scc_owned.proofs.HeldEntries.{same-entry, same-name}
+use Rattle.scc_owned.proofs.HeldEntries.{same-made, same-name}
 use Rattle.scc_owned.proofs.borrowed.insertions.Entry+E+H.or_try_insert_with_key.Goals as goal
 
 pub returns-in-Occupied : goal.returns-in-Occupied
 returns-in-Occupied g c = (
-  (refl, λ w. refl, tt),
+  (same-name c.at.ensures.guard, λ w. refl, tt),
   record {
     inserts = record {
-      entry = rw c.in-Occupied.is (same-entry c.in-Occupied.entry _);
+      entry = rw c.in-Occupied.is (same-made c.in-Occupied.entry c.at.result c.at.ensures.guard c.at.ensures.place c.at.ensures.rest);
       refused = tt;
       vacant = tt;
       full = tt;
       growth = rw c.in-Occupied.is tt;
-      relocates = rw c.in-Occupied.is refl;
-      unique = c.key_facts.ensures;
+      relocates = rw c.in-Occupied.is (ap (λ m. waiting_of m.now) c.at.ensures.guard);
+      unique = rw c.at.ensures.guard c.at.ensures.unique;
     };
     kept = tt;
   },
@@ -25,8 +26,8 @@ returns-in-Occupied g c = (
 pub returns-in-Ok-insert_into : goal.returns-in-Ok-insert_into
 returns-in-Ok-insert_into g c =
     let x = c.in-Vacant.entry in
-    let put = inserts-at-vacant g.E.Key.PartialEq.eq _ x x.guard.now c.insert_into.new.owned c.in-Ok.value c.at.result _ c.at.ensures.guard c.at.ensures.place c.at.ensures.rest refl c.in-Ok-insert_into.ensures.ok c.in-Ok-insert_into.ensures.growth c.insert_into.ensures.relocates c.in-Ok-insert_into.ensures.two c.insert_into.ensures.unique in
-    ((same-name c.at.ensures.guard, λ w. refl, tt), record { inserts = through-vacant g.E.Key.PartialEq.eq _ (λ k v. FnOnceReturnsAt g.F.FnOnce c.args.f k (Ok v)) c.args.self x c.in-Ok.value (Ok c.at.result) c.in-Vacant.is (_, c.in-Ok.ensures, refl) put; kept = tt })
+    let put = inserts-at-vacant g.E.Key.PartialEq.eq _ x x.guard.now c.insert_into.new.owned c.in-Ok.value c.at-in-Ok-insert_into.result _ c.at-in-Ok-insert_into.ensures.guard c.at-in-Ok-insert_into.ensures.place c.at-in-Ok-insert_into.ensures.rest refl c.in-Ok-insert_into.ensures.ok c.in-Ok-insert_into.ensures.growth c.insert_into.ensures.relocates c.in-Ok-insert_into.ensures.two c.insert_into.ensures.unique in
+    ((same-name c.at-in-Ok-insert_into.ensures.guard, λ w. refl, tt), record { inserts = through-vacant g.E.Key.PartialEq.eq _ (λ k v. FnOnceReturnsAt g.F.FnOnce c.args.f k (Ok v)) c.args.self x c.in-Ok.value (Ok c.at-in-Ok-insert_into.result) c.in-Vacant.is (_, c.in-Ok.ensures, refl) put; kept = tt })
 
 pub returns-in-Ok : goal.returns-in-Ok
 returns-in-Ok g c =

@@ -1,6 +1,18 @@
-use Rattle.std.proofs.Common.{rules}
+use Rattle.std.proofs.Common.{refl, rules}
 use Rattle.scc_owned.proofs.Inserting.{both-ok, map-ok, map-err}
+use Rattle.scc_owned.proofs.HeldEntries.{same-made}
 use Rattle.scc_owned.proofs.locked.insertions.Entry+E+H.or_insert_with_key.Goals as goal
+
+pub returns-in-Occupied : goal.returns-in-Occupied
+returns-in-Occupied g c = record {
+  entry = rw c.in-Occupied.is (same-made c.in-Occupied.entry c.at.result c.at.ensures.guard c.at.ensures.place c.at.ensures.rest);
+  refused = tt;
+  vacant = tt;
+  full = tt;
+  growth = rw c.in-Occupied.is tt;
+  relocates = rw (c.in-Occupied.is, c.at.ensures.guard) refl;
+  unique = rw c.at.ensures.guard c.at.ensures.unique;
+}
 
 pub returns-in-Vacant : goal.returns-in-Vacant
 returns-in-Vacant g c =

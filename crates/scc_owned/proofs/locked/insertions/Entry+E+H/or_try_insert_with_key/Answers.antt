@@ -2,13 +2,25 @@ use Rattle.std.proofs.Common.{Ok, Err, refl}
 use Rattle.std.specs.Fn.{FnOnceReturnsAt}
 use Rattle.scc_owned.specs.Insertions.{Memory}
 use Rattle.scc_owned.proofs.Inserting.{fails-at, inserts-at-vacant, through-vacant}
+use Rattle.scc_owned.proofs.HeldEntries.{same-made}
 use Rattle.scc_owned.proofs.locked.insertions.Entry+E+H.or_try_insert_with_key.Goals as goal
+
+pub returns-in-Occupied : goal.returns-in-Occupied
+returns-in-Occupied g c = record {
+  entry = rw c.in-Occupied.is (same-made c.in-Occupied.entry c.at.result c.at.ensures.guard c.at.ensures.place c.at.ensures.rest);
+  refused = tt;
+  vacant = tt;
+  full = tt;
+  growth = rw c.in-Occupied.is tt;
+  relocates = rw (c.in-Occupied.is, c.at.ensures.guard) refl;
+  unique = rw c.at.ensures.guard c.at.ensures.unique;
+}
 
 pub returns-in-Ok-insert_into : goal.returns-in-Ok-insert_into
 returns-in-Ok-insert_into g c =
     let x = c.in-Vacant.entry in
-    let put = inserts-at-vacant g.E.Key.PartialEq.eq _ x c.deref_mut.result.now c.insert_into.new.owned c.in-Ok.value c.at.result _ c.at.ensures.guard c.at.ensures.place c.at.ensures.rest c.deref_mut.ensures.value c.in-Ok-insert_into.ensures.ok c.in-Ok-insert_into.ensures.growth c.insert_into.ensures.relocates c.in-Ok-insert_into.ensures.two c.insert_into.ensures.unique in
-    through-vacant g.E.Key.PartialEq.eq _ (λ k v. FnOnceReturnsAt g.F.FnOnce c.args.f k (Ok v)) c.args.self x c.in-Ok.value (Ok c.at.result) c.in-Vacant.is (_, c.in-Ok.ensures, refl) put
+    let put = inserts-at-vacant g.E.Key.PartialEq.eq _ x c.deref_mut.result.now c.insert_into.new.owned c.in-Ok.value c.at-in-Ok-insert_into.result _ c.at-in-Ok-insert_into.ensures.guard c.at-in-Ok-insert_into.ensures.place c.at-in-Ok-insert_into.ensures.rest c.deref_mut.ensures.value c.in-Ok-insert_into.ensures.ok c.in-Ok-insert_into.ensures.growth c.insert_into.ensures.relocates c.in-Ok-insert_into.ensures.two c.insert_into.ensures.unique in
+    through-vacant g.E.Key.PartialEq.eq _ (λ k v. FnOnceReturnsAt g.F.FnOnce c.args.f k (Ok v)) c.args.self x c.in-Ok.value (Ok c.at-in-Ok-insert_into.result) c.in-Vacant.is (_, c.in-Ok.ensures, refl) put
 
 pub returns-in-Ok : goal.returns-in-Ok
 returns-in-Ok g c =

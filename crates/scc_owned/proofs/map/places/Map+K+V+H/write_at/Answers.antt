@@ -4,4 +4,4 @@ use Rattle.scc_owned.proofs.map.places.Map+K+V+H.write_at.Goals as goal
 pub returns-clause-old : goal.returns-clause-old
 returns-clause-old g c =
     let v = c.value_mut_at.ensures.value in
-    (v.0, v.1, c.replace-old.ensures.value ∙ v.2)
+    (v.0, v.1, c.replace.ensures.value ∙ v.2)

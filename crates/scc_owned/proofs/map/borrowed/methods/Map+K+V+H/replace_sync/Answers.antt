@@ -22,7 +22,7 @@ at-requires g c =
     rw c.replace_key_at-old.ensures.new (IsPlace-with_write_at with_pair_key c.args.self.now c.in-Some.place c.args.k found.within)
 
 pub of_key-requires : goal.of_key-requires
-of_key-requires g c = rw (← c.self.view_is) record { absent = c.in-None.ensures.place; hashed = c.hash-hash.ensures }
+of_key-requires g c = rw (← c.self.view_is) record { absent = c.in-None.ensures.place; hashed = c.hash-hash.ensures; unique = c.search.ensures.unique }
 
 pub returns-in-Some-clause-step : goal.returns-in-Some-clause-step
 returns-in-Some-clause-step g c =

@@ -10,7 +10,7 @@ use Rattle.scc_owned.proofs.map.walk.read.Map+K+V+H.first_passing.Goals as goal
 
 pub loop-at-init : goal.loop-at-init
 loop-at-init g c =
-    let start = reached-first c.args.self.now c.first_place-at.result (rw c.self.view_is at c.first_place-at.ensures) in
+    let start = reached-first c.args.self.now c.first_place-at.result c.first_place-at.ensures.place in
     record { callable = rw start.0 c.requires; within = start.1; declines = rw start.0 ended }
 
 pub p-requires : goal.p-requires
@@ -20,8 +20,8 @@ p-requires g c =
     let here = rw c.self.view_is at c.pair_at.ensures in
     turn-first _ _ (rw (drop-here (entries m) (index_of m c.in-Some.place) _ here) at callable) _ _ refl
 
-pub returns-then-p : goal.returns-then-p
-returns-then-p g c =
+pub returns-then-p-clause-place : goal.returns-then-p-clause-place
+returns-then-p-clause-place g c =
     let within : IsPlace c.args.self.now c.in-Some.place = rw c.in-Some.is at c.loop-at.invariant.within in
     let declines = rw c.in-Some.is at c.loop-at.invariant.declines in
     let here = rw c.self.view_is at c.pair_at.ensures in
@@ -46,7 +46,7 @@ loop-at-preserved g c =
       declines = rw (next.0, take-more (entries m) (index_of m c.in-Some.place) _ here) (declines-more (take (index_of m c.in-Some.place) (entries m)) declines record { key = _; value = _; shows = refl; called = c.if-p.ensures });
     }
 
-pub returns : goal.returns
-returns g c =
+pub returns-clause-place : goal.returns-clause-place
+returns-clause-place g c =
     let declines = rw c.in_default.is at c.loop-at.invariant.declines in
     rw (take-all (entries c.args.self.now) (length (entries c.args.self.now)) refl) at declines

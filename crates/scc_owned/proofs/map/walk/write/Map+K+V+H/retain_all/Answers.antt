@@ -13,7 +13,7 @@ use Rattle.scc_owned.proofs.map.walk.write.Map+K+V+H.retain_all.Goals as goal
 
 pub loop-at-init : goal.loop-at-init
 loop-at-init g c =
-    let start = first-spot c.args.self.now c.first_place-at.result (rw c.self.view_is at c.first_place-at.ensures) in
+    let start = first-spot c.args.self.now c.first_place-at.result c.first_place-at.ensures.place in
     record { callable = rw start.0 c.requires; within = start.1; buckets = refl; settings = refl; noted = refl; waiting = refl; calls = λ stay last r. rw start.0 (rw start.0 at r) }
 
 pub visit-requires-clause-callable : goal.visit-requires-clause-callable
