@@ -29,6 +29,7 @@ pub mod Noting
 pub mod OldChanges
 pub mod OldSpots
 pub mod OldSwaps
+pub mod OldTakes
 mod Once
 pub mod OneBucket
 pub mod Placing

@@ -30,13 +30,9 @@ use Rattle.scc_table.proofs.OldChanges.{arrays-over, lists-over, old-fields}
 use Rattle.scc_table.proofs.OldSpots.{old-get, old-long, old-spot, old-waits, old-within, rank_of}
 use Rattle.scc_table.proofs.Preparing.{multiple-flags, waiting-list}
 use Rattle.scc_table.proofs.RelocatingLemmas.{not_equal}
-use Rattle.scc_table.proofs.Taken.{arrays-less, old-taken, owed-less, owed-removed, spilled-less}
+use Rattle.scc_table.proofs.Taken.{arrays-less, none-either, old-taken, owed-less, owed-removed, spilled-less}
 use Rattle.scc_table.proofs.TakenFrom.{list-same, swapped-count, swapped-moved, swapped-unique}
 use Rattle.scc_table.proofs.Written.{owed-same}
-
-none-either : {X : Type 0} (b : Bool) → ◌≡◌ {A = List X} [] (cond b [] [])
-none-either true = refl
-none-either false = refl
 
 all-or-none : {X : Type 0} (b : Bool) (x : X) (xs : List X) → cond b (x ∷ cond b xs []) (cond b xs []) ≡ cond b (x ∷ xs) []
 all-or-none true x xs = refl
