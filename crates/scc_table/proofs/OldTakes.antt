@@ -1,6 +1,6 @@
 -- The first entry that passes is taken out of an old array with more buckets than the current one. Its bucket of the
 -- current array waits.
-use Rattle.std.proofs.Common.{◌≡◌, ℕ, ◌-◌, ◌<◌, ◌≤◌, ◌+◌, Bool, true, Some, None, List, [], length, refl, sym, ap, subst, ◌∙◌}
+use Rattle.std.proofs.Common.{◌≡◌, ℕ, ◌-◌, ◌<◌, ◌+◌, Bool, true, Some, None, List, [], length, refl, sym, ap, subst, ◌∙◌}
 use Rattle.std.specs.Cmp.{IsEquivalence}
 use Rattle.std.specs.List.{position}
 use Rattle.scc_array.specs.Shelf.{Shelf, shelf_entries}
@@ -14,7 +14,7 @@ use Rattle.scc_buckets.proofs.FindingLemmas.{HashOf}
 use Rattle.scc_table.specs.Places.{IsFoundAt}
 use Rattle.scc_table.specs.Removals.{SwapTakesAt, SwapTakesFirst}
 use Rattle.scc_table.specs.TwoArrays.{together, waits_at, Draining, IsTable}
-use Rattle.scc_table.proofs.OldSwaps.{swap-some, swap-table, swap-takes}
+use Rattle.scc_table.proofs.OldSwaps.{swap-table, swap-takes}
 use Rattle.scc_table.proofs.SearchingLemmas.{found-old, missed-old, routed-current}
 
 -- if no entry in the slots passes and the overflow list is empty, no entry of the bucket passes
@@ -48,9 +48,6 @@ module _ {E K S : Type 0} {eq : K → K → Bool} (laws : IsEquivalence eq) {key
       found,
       subst (λ (z : List (Shelf E)). SwapTakesAt eq key (both drain.array) place x (both z)) (sym out.others) (swap-takes laws inv place found.within j refl lj x out.entry fewer),
     )
-
-    pub up-some : 1 ≤ drain.left
-    up-some = swap-some laws inv place found.within j refl lj x out.entry fewer
 
     -- the invariant `IsTable` holds afterwards
     pub up-left : IsTable eq key hash c (record drain { array = ds; left = drain.left - 1 }) skipped
