@@ -1,4 +1,5 @@
 pub mod CurrentArray
 pub mod Fields
+pub mod OldArray
 pub mod OneList
 pub mod Shrinks

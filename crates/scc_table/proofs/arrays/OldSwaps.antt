@@ -30,13 +30,9 @@ use Rattle.scc_table.proofs.arrays.OldChanges.{arrays-over, lists-over, old-fiel
 use Rattle.scc_table.proofs.places.OldSpots.{old-get, old-long, old-spot, old-waits, old-within, rank_of}
 use Rattle.scc_table.proofs.relocations.Preparation.{multiple-flags, waiting-list}
 use Rattle.scc_table.proofs.relocations.Contents.{not_equal}
-use Rattle.scc_table.proofs.removals.Fields.{arrays-less, old-taken, owed-less, owed-removed, spilled-less}
+use Rattle.scc_table.proofs.removals.Fields.{arrays-less, none-either, old-taken, owed-less, owed-removed, spilled-less}
 use Rattle.scc_table.proofs.removals.OneList.{list-same, swapped-count, swapped-moved, swapped-unique}
 use Rattle.scc_table.proofs.arrays.Writes.{owed-same}
-
-none-either : {X : Type 0} (b : Bool) → ◌≡◌ {A = List X} [] (cond b [] [])
-none-either true = refl
-none-either false = refl
 
 all-or-none : {X : Type 0} (b : Bool) (x : X) (xs : List X) → cond b (x ∷ cond b xs []) (cond b xs []) ≡ cond b (x ∷ xs) []
 all-or-none true x xs = refl

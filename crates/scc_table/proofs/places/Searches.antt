@@ -105,7 +105,7 @@ module _ {E S : Type 0} (hash : E → ℕ) (d : Contents E S) (routed : IsRouted
         ne (sym (routed.routed j k y got) ∙ ap (bucket_number (settings_of d).skipped (bucket_count d)) (a.same y w) ∙ sym at));
   }
 
-  position-routed : position p (entries d) ≡ option_map (λ k. length (flat_map (λ x. x) (take i (lists_of d))) + k) (position p (list_of d i))
+  pub position-routed : position p (entries d) ≡ option_map (λ k. length (flat_map (λ x. x) (take i (lists_of d))) + k) (position p (list_of d i))
   unfolding entries lists_of list_of bucket_count
   position-routed = position_flat p d.lists i [] l elsewhere
 
@@ -143,6 +143,23 @@ module _ {E S : Type 0} (hash : E → ℕ) (c : Contents E S) (ws : List Bool) (
               let q = All-get_or (λ y. (bucket_number t n (hash y) == i) ≡ true) xs k e (get-below xs k e here) (filter_passes (λ y. bucket_number t n (hash y) == i) es) in
               ap (λ y. bucket_number t n (hash y)) (get-is xs k e e here) ∙ eqb-true _ _ q)
               (λ down. routed.routed i k e (ap (λ z. slice_get z k) (sym (own-list hash c ws olds arrays i l down)) ∙ got))
+        ];
+  }
+
+  -- then each entry of the current array stands in the list of the bucket of its hash, too
+  pub routed-current : IsRouted hash (together hash c ws olds) → IsRouted hash c
+  routed-current routed = record {
+    routed = λ i k e got.
+        let d = together hash c ws olds in
+        let n = bucket_count c in
+        let t = (settings_of c).skipped in
+        let goal-is : bucket_number (settings_of d).skipped (bucket_count d) (hash e) ≡ bucket_number t n (hash e) =
+        ap (λ s. bucket_number s.skipped (bucket_count d) (hash e)) (settings-together hash c ws olds) ∙ ap (λ m. bucket_number t m (hash e)) (count-together hash c ws olds arrays.flags) in
+        let lost = λ (bare : list_of c i ≡ []). let z : None ≡ Some e = ap (λ l. slice_get l k) (sym bare) ∙ got in z in
+        sym goal-is
+        ∙ elim (dec_lt i n) [
+          | no far ↦ absurd (let z = lost (list-is c i ∙ get_or_past (lists_of c) i [] (omega (arith, count-is c))) in cc)
+          | yes l ↦ by_answer (waits_at ws i) (λ up. absurd (let z = lost (arrays.bare i up) in cc)) (λ down. routed.routed i k e (ap (λ z. slice_get z k) (own-list hash c ws olds arrays i l down) ∙ got))
         ];
   }
 

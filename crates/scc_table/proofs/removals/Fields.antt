@@ -47,7 +47,7 @@ owed-removed f (w ∷ ws) olds j s lj ls =
     let here : get_or (map g olds) j [] ≡ map f (shelf_entries (shelf_of olds j)) = get_or-map g olds j empty_shelf [] lj in
     map-set g olds j b ∙ ap (set (map g olds) j) (ap (map f) (entries_without (shelf_of olds j) s ls) ∙ map-remove f (shelf_entries (shelf_of olds j)) s ∙ ap (λ z. remove z s) (sym here))
 
-none-either : {X : Type 0} (b : Bool) → ◌≡◌ {A = List X} [] (cond b [] [])
+pub none-either : {X : Type 0} (b : Bool) → ◌≡◌ {A = List X} [] (cond b [] [])
 none-either true = refl
 none-either false = refl
 

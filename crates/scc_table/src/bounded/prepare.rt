@@ -45,10 +45,7 @@ where
         ensures { DropsMarkWithin E.Key.eq E.key_of (key_hash H.BuildHasher H.Hasher.Hasher E.Key.hash_input)
             self.old self.new }
     {
-        self.list_facts();
-        if self.is_marked() {
-            let refused = self.is_resize_refused();
-            self.mark(refused, false);
-        }
+        let refused = self.is_resize_refused();
+        self.mark(refused, false);
     }
 }

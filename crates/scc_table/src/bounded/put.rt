@@ -31,7 +31,7 @@ where
         ensures unique { IsUniqueBy E.Key.eq E.key_of self.new }
     {
         match self.relocate(bucket) {
-            Ok(()) => self.list_facts(),
+            Ok(()) => {}
             Err(_) => unreachable!(),
         }
     }
@@ -105,7 +105,6 @@ where
         ensures { PutsAtEnd E.Key.eq E.key_of (key_hash H.BuildHasher H.Hasher.Hasher E.Key.hash_input) self.old
             bucket entry result self.new }
     {
-        self.current.list_facts();
         self.current.put_last(bucket, hash, entry)
     }
 

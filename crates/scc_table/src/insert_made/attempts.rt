@@ -145,7 +145,6 @@ where
         ensures { InsertsAndRelocates E.Key.eq E.key_of self.old bucket (E.made_of parts) parts (Unit {0}) result
             self.new }
     {
-        self.list_facts();
         match self.relocate(bucket) {
             Ok(()) => self.insert_made_then_relocate(bucket, hash, parts, 1),
             Err(_) => Err(parts),

@@ -1,12 +1,15 @@
 //! Removals after which the array may shrink. The order of the other entries may change.
-ghost use Rattle.scc_common.specs.Contents.{key_hash, pending_of, waiting_of, IsUniqueBy};
+ghost use Rattle.scc_common.specs.Contents.{bucket_count, key_hash, owed_of, pending_of, settings_of, waiting_of, IsRouted, IsUniqueBy};
+ghost use Rattle.scc_common.specs.Routing.{bucket_number};
 ghost use Rattle.scc_table.specs.Places.{IsPlace};
 ghost use Rattle.scc_table.specs.Removals.{RemovesAt, RemovesFirst, SwapTakesFirst};
-ghost use Rattle.std.specs.Prelude.{◌≡◌, ◌<◌, []};
+ghost use Rattle.scc_table.specs.TwoArrays.{IsWaiting};
+ghost use Rattle.std.specs.Prelude.{◌≡◌, ◌<◌, length, []};
 
 use crate::Table;
 use crate::lookup::search::NOWHERE;
 use scc_buckets::Place;
+use scc_buckets::place::{bucket_index, tag};
 use scc_common::Keyed;
 use std::hash::{BuildHasher, Hash};
 
@@ -63,10 +66,77 @@ where
         requires hashed { hash ≡ key_hash H.BuildHasher H.Hasher.Hasher E.Key.hash_input self.old key.now }
         ensures { RemovesFirst E.Key.eq E.key_of (λ e. E.Key.eq key.now (E.key_of e)) self.old self.new result }
     {
+        match self.take_from_both(hash, key) {
+            Some(entry) => {
+                self.shrink();
+                Some(entry)
+            }
+            None => None,
+        }
+    }
+
+    /// Takes out the entry whose key equals `key`, without a resize, if some bucket waits. Only the array that holds the
+    /// entries of the key's bucket is searched.
+    #[inline(always)]
+    fn take_from_both(&mut self, hash: u64, key: &E::Key) -> Option<E>
+        requires pending { 0 < pending_of self.old }
+        requires hashed { hash ≡ key_hash H.BuildHasher H.Hasher.Hasher E.Key.hash_input self.old key.now }
+        ensures { SwapTakesFirst E.Key.eq E.key_of (λ e. E.Key.eq key.now (E.key_of e)) self.old self.new result }
+    {
+        let bucket = self.bucket_at(hash);
+        if !self.draining.waiting[bucket] {
+            return self.current.take_first(hash, key);
+        }
+        if self.draining.array.len() <= self.current.bucket_count() {
+            return self.take_at_place(hash, key);
+        }
+        self.take_from_old(hash, key)
+    }
+
+    /// As `take_from_both`: searches the place, and takes the entry there.
+    #[inline(always)]
+    fn take_at_place(&mut self, hash: u64, key: &E::Key) -> Option<E>
+        requires pending { 0 < pending_of self.old }
+        requires hashed { hash ≡ key_hash H.BuildHasher H.Hasher.Hasher E.Key.hash_input self.old key.now }
+        ensures { SwapTakesFirst E.Key.eq E.key_of (λ e. E.Key.eq key.now (E.key_of e)) self.old self.new result }
+    {
         let place = self.search_both(hash, key);
         if place.bucket >= NOWHERE {
             return None;
         }
-        Some(self.remove_at(place))
+        Some(self.swap_take_at(place))
+    }
+
+    /// As `take_from_both`, if the bucket of `hash` waits and the old array has more buckets than the current one: looks
+    /// into the old bucket of `hash` once, and takes the entry there.
+    #[inline(always)]
+    fn take_from_old(&mut self, hash: u64, key: &E::Key) -> Option<E>
+        requires waiting { IsWaiting self.old (bucket_number (settings_of self.old).skipped (bucket_count self.old)
+            hash) }
+        requires shrunk { bucket_count self.old < length (owed_of self.old) }
+        requires routed { IsRouted (λ e. key_hash H.BuildHasher H.Hasher.Hasher E.Key.hash_input self.old (E.key_of
+            e)) self.old }
+        requires hashed { hash ≡ key_hash H.BuildHasher H.Hasher.Hasher E.Key.hash_input self.old key.now }
+        ensures { SwapTakesFirst E.Key.eq E.key_of (λ e. E.Key.eq key.now (E.key_of e)) self.old self.new result }
+    {
+        let source = bucket_index(hash, self.skipped, self.draining.array.len());
+        match self.draining.array.take_in_slots(source, key, tag(hash)) {
+            Some(entry) => {
+                self.draining.left -= 1;
+                Some(entry)
+            }
+            None => {
+                if !self.draining.array.is_full_once_doubled(source) {
+                    return None;
+                }
+                match self.draining.array.take_in_overflow(source, key) {
+                    Some(entry) => {
+                        self.draining.left -= 1;
+                        Some(entry)
+                    }
+                    None => None,
+                }
+            }
+        }
     }
 }

@@ -73,7 +73,6 @@ where
     pub fn lower_minimum(&mut self, additional: usize) -> bool
         ensures { LowersMinimum E.Key.eq E.key_of additional self.old result self.new }
     {
-        self.list_facts();
         let reserved = self.current.reserved();
         if additional > reserved {
             return false;

@@ -3,8 +3,8 @@ use Rattle.scc_common.specs.Hashing.{hash_of}
 use Rattle.scc_table.proofs.relocations.ShortLists.{listed-later}
 use Rattle.scc_table.proofs.Table.drop_room_within.Goals as goal
 
-pub returns-then-is_marked : goal.returns-then-is_marked
-returns-then-is_marked g c =
+pub returns : goal.returns
+returns g c =
     record {
       lists = (search rules);
       settings = (search rules);

@@ -1,4 +1,4 @@
-use Rattle.std.proofs.Common.{◌≡◌, ◌≤◌, ◌∙◌, drop, refl, sym, subst, ap, arith, rules}
+use Rattle.std.proofs.Common.{◌≡◌, ◌∙◌, drop, refl, sym, subst, ap, arith, rules}
 use Rattle.scc_common.specs.Contents.{pending_of, waiting_of}
 use Rattle.scc_table.proofs.relocations.OneByOne.{finish-start, finish-step}
 use Rattle.scc_table.specs.TwoArrays.{pending_targets}

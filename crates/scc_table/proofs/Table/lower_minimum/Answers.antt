@@ -1,5 +1,5 @@
-use Rattle.std.proofs.Common.{◌≡◌, ◌+◌, ◌-◌, ◌∙◌, rules, ap, sym, arith}
-use Rattle.scc_common.specs.Contents.{Settings, bucket_count, key_hash, settings_of, minimum_of}
+use Rattle.std.proofs.Common.{◌≡◌, ◌+◌, ◌-◌, ◌∙◌, rules, ap, sym, subst, arith}
+use Rattle.scc_common.specs.Contents.{Contents, IsUniqueBy, Settings, bucket_count, key_hash, settings_of, minimum_of}
 use Rattle.scc_table.proofs.arrays.CurrentParts.{settings-seen}
 use Rattle.scc_buckets.proofs.Resizes.{smaller-by, shrinks-after}
 use Rattle.scc_table.proofs.resizes.Attempts.{shrink-due_after, spreads-after}
@@ -72,5 +72,5 @@ returns-then-additional-reserved g c =
       no = (search rules);
       noted = (search rules);
       waiting = (search rules);
-      unique = (search rules);
+      unique = (subst (λ (z : Contents g.row.E.Denot g.row.H.Denot). IsUniqueBy g.E.Key.PartialEq.eq g.E.Keyed.key_of z) c.self.view_is c.self.invariant.unique);
     }

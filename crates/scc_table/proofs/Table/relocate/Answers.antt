@@ -1,6 +1,6 @@
 use Rattle.std.proofs.Common.{◌≡◌, ◌∙◌, ℕ, ◌+◌, ◌-◌, ◌<◌, false, [], length, set, refl, sym, ap, subst, arith, rules}
 use Rattle.std.specs.List.{count_by}
-use Rattle.scc_common.specs.Contents.{key_hash, overflow_of}
+use Rattle.scc_common.specs.Contents.{Contents, IsUniqueBy, key_hash, overflow_of}
 use Rattle.scc_buckets.specs.Tables.{overflow_in}
 use Rattle.scc_common.specs.Hashing.{hash_of}
 use Rattle.scc_table.specs.TwoArrays.{draining_of, together, IsTable, IsRelocated}
@@ -8,6 +8,7 @@ use Rattle.scc_buckets.proofs.Bare.{all-bare}
 use Rattle.scc_table.proofs.arrays.OneArray.{bare-together, spilled-alone, spilled-together}
 use Rattle.scc_table.proofs.relocations.Fields.{others, last, bare-after, fields-after, fields-last, relocated-after, spilled-le}
 use Rattle.scc_table.proofs.relocations.Contents.{up-within, one-down}
+use Rattle.scc_table.proofs.arrays.SameParts.{unique-same}
 use Rattle.scc_table.proofs.arrays.Views.{spilled-seen}
 use Rattle.scc_table.proofs.arrays.OneBucket.{flag-up, flags-whole, list-coming, moved-within, old-multiples, old-sized, some-pending, target-within, unique-coming}
 use Rattle.scc_table.proofs.Table.relocate.Goals as goal
@@ -208,3 +209,18 @@ returns-in-Err-clause-bounded g c =
 
 pub move_target-requires-clause-flags : goal.move_target-requires-clause-flags
 move_target-requires-clause-flags g c = let long = flags-whole c.self.invariant _ (flag-up c.self.invariant _ c.self.view_is c.requires) in search rules
+
+pub returns-then-self-eq0-clause-unique : goal.returns-then-self-eq0-clause-unique
+returns-then-self-eq0-clause-unique g c =
+    let unique = subst (λ (z : Contents g.row.E.Denot g.row.H.Denot). IsUniqueBy g.E.Key.PartialEq.eq g.E.Keyed.key_of z) c.self.view_is c.self.invariant.unique in
+    unique-same c.args.self.now _ (returns-then-self-eq0-clause-ok g c).lists g.E.Key.PartialEq.eq g.E.Keyed.key_of unique
+
+pub returns-else-self-eq0-clause-unique : goal.returns-else-self-eq0-clause-unique
+returns-else-self-eq0-clause-unique g c =
+    let unique = subst (λ (z : Contents g.row.E.Denot g.row.H.Denot). IsUniqueBy g.E.Key.PartialEq.eq g.E.Keyed.key_of z) c.self.view_is c.self.invariant.unique in
+    unique-same c.args.self.now _ (returns-else-self-eq0-clause-ok g c).lists g.E.Key.PartialEq.eq g.E.Keyed.key_of unique
+
+pub returns-in-Err-clause-unique : goal.returns-in-Err-clause-unique
+returns-in-Err-clause-unique g c =
+    let unique = subst (λ (z : Contents g.row.E.Denot g.row.H.Denot). IsUniqueBy g.E.Key.PartialEq.eq g.E.Keyed.key_of z) c.self.view_is c.self.invariant.unique in
+    subst (λ (z : Contents g.row.E.Denot g.row.H.Denot). IsUniqueBy g.E.Key.PartialEq.eq g.E.Keyed.key_of z) (sym (returns-in-Err-clause-err g c)) unique

@@ -1,13 +1,11 @@
-use Rattle.std.proofs.Common.{arith}
-use Rattle.scc_table.specs.Places.{IsFoundAt}
+use Rattle.scc_table.proofs.removals.Shrinks.{removed-at}
 use Rattle.scc_table.proofs.Table.remove_from_both.Goals as goal
 
-pub returns : goal.returns
-returns g c =
-    let passes = λ (x : g.row.E.Denot). g.E.Key.PartialEq.eq c.args.key.now (g.E.Keyed.key_of x) in
-    let q = c.search_both-place.result in
-    let found : IsFoundAt passes c.args.self.now q = c.search_both-place.ensures.found (omega (arith, c.if-place-ge-NOWHERE.false)) in (
-      q,
-      found,
-      c.remove_at.ensures,
+pub returns-in-Some : goal.returns-in-Some
+returns-in-Some g c =
+    let shrunk = c.shrink.ensures in
+    let took = c.in-Some.ensures in (
+      took.0,
+      took.1,
+      removed-at c.args.self.now c.take_from_both.new.self c.shrink.new.self took.0 c.in-Some.entry took.2 shrunk.resizes shrunk.shrinks shrunk.due shrunk.spreads shrunk.unique,
     )
