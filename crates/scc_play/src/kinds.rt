@@ -7,9 +7,9 @@ ghost use Rattle.scc_script.specs.Grammar.{IsWorkerCount, IsStripeCount};
 ghost use Rattle.scc_play.specs.Ended.{IfPlayed};
 ghost use Rattle.scc_play.specs.Kinds.{MapPlayed, SetPlayed, IndexPlayed, CachePlayed, MapPlayedFor, SetPlayedFor, IndexPlayedFor, CachePlayedFor};
 
-use crate::worker::{passes_of, workers_of};
 use crate::ends::End;
 use crate::stripes::{calls_of_workers, finish_run};
+use crate::worker::{passes_of, workers_of};
 use scc_cache::Owned as OwnedCache;
 use scc_calls::{CacheCall, IndexCall, MapCall, SetCall};
 use scc_common::Shared;

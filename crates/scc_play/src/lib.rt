@@ -4,11 +4,11 @@
 //! the number of call records. [`play::play_explaining`] says besides why a line isn't in the grammar.
 #![tactic(auto)]
 
-mod worker;
 pub mod ends;
+pub mod finishing;
 mod kinds;
 pub mod play;
 pub mod reasons;
 mod receipts;
-pub mod finishing;
 mod whole;
+mod worker;

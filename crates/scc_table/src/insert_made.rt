@@ -1,4 +1,4 @@
 //! Insertions of an entry that the insertion makes of its parts.
 
-mod double;
 mod attempts;
+mod double;

@@ -53,7 +53,13 @@ where
     /// key must have the hash `hash`. Relocates the bucket of `hash` at once, and then the first waiting bucket; all
     /// others wait. If memory for the bucket of `hash` is refused, that is noted, the array stays, and the result is
     /// `place`.
-    fn double_and_relocate(&mut self, place: Place, fresh: Array<E>, flags: Vec<bool>, hash: u64) -> Place
+    fn double_and_relocate(
+        &mut self,
+        place: Place,
+        fresh: Array<E>,
+        flags: Vec<bool>,
+        hash: u64,
+    ) -> Place
         requires within { place.bucket < bucket_count self.old }
         requires slot { place.slot < length (list_of self.old place.bucket) }
         requires hashed { (e : E) → slice_get (list_of self.old place.bucket) place.slot ≡ Some e

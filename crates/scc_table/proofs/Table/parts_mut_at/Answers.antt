@@ -47,9 +47,10 @@ returns-then-self-eq0 g c =
       | then-self-eq0-via-else-self-eq0+then-place-count w ↦ omega (arith, c.bucket_count-count.ensures.count, w.if-place-count.true)
     ] in
     let x = c.parts_mut_at.ensures.parts in
-    let there = near-got g.met.E.Key.Eq.laws hashes c.self.invariant c.self.view_is c.args.place c.requires near x.0 x.1 in
-    ((refl, λ w. near-written g.met.E.Key.Eq.laws hashes c.self.invariant c.self.view_is c.args.place c.requires near g.E.Valued.with_value w (writes.with_write_at_spot g.E.Valued.with_value t.current c.args.place w) refl),
-    record { writes_back = tt; parts = (x.0, there, x.2, x.3) })
+    let there = near-got g.met.E.Key.Eq.laws hashes c.self.invariant c.self.view_is c.args.place c.requires near x.0 x.1 in (
+      (refl, λ w. near-written g.met.E.Key.Eq.laws hashes c.self.invariant c.self.view_is c.args.place c.requires near g.E.Valued.with_value w (writes.with_write_at_spot g.E.Valued.with_value t.current c.args.place w) refl),
+      record { writes_back = tt; parts = (x.0, there, x.2, x.3) },
+    )
 
 pub parts_mut_at-requires-2-clause-bucket : goal.parts_mut_at-requires-2-clause-bucket
 parts_mut_at-requires-2-clause-bucket g c =
@@ -83,8 +84,12 @@ returns g c =
     let n = c.bucket_count-count.result in
     let far : bucket_count t.current ≤ c.args.place.bucket = omega (arith, c.bucket_count-count.ensures.count) in
     let x = c.parts_mut_at-2.ensures.parts in
-    let there = far-got g.met.E.Key.Eq.laws hashes c.self.invariant c.self.view_is c.args.place c.requires far n c.bucket_count-count.ensures.count x.0 x.1 in
-    ((refl, λ w. far-written g.met.E.Key.Eq.laws hashes c.self.invariant c.self.view_is c.args.place c.requires far n c.bucket_count-count.ensures.count x.0 x.1 g.E.Valued.with_value w
-        (ap (key_hash g.H.BuildHasher g.H.Hasher.Hasher g.E.Key.Hash.hash_input t.current) (g.met.E.Valued.value_keeps_key x.0 w))
-        (set t.draining.array (c.args.place.bucket - n) (shelf_write_at g.E.Valued.with_value (shelf_of t.draining.array (c.args.place.bucket - n)) c.args.place.slot w)) refl),
-    record { writes_back = tt; parts = (x.0, there, x.2, x.3) })
+    let there = far-got g.met.E.Key.Eq.laws hashes c.self.invariant c.self.view_is c.args.place c.requires far n c.bucket_count-count.ensures.count x.0 x.1 in (
+      (
+        refl,
+        λ w. far-written g.met.E.Key.Eq.laws hashes c.self.invariant c.self.view_is c.args.place c.requires far n c.bucket_count-count.ensures.count x.0 x.1 g.E.Valued.with_value w
+            (ap (key_hash g.H.BuildHasher g.H.Hasher.Hasher g.E.Key.Hash.hash_input t.current) (g.met.E.Valued.value_keeps_key x.0 w))
+            (set t.draining.array (c.args.place.bucket - n) (shelf_write_at g.E.Valued.with_value (shelf_of t.draining.array (c.args.place.bucket - n)) c.args.place.slot w)) refl,
+      ),
+      record { writes_back = tt; parts = (x.0, there, x.2, x.3) },
+    )

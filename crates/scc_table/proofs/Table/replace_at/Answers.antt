@@ -22,7 +22,7 @@ invariant_of-self g c =
     let hashes : g.row.H.Denot → g.row.E-Key.Denot → ℕ = λ s k. hash_of g.H.BuildHasher g.H.Hasher.Hasher s (g.E.Key.Hash.hash_input k) in
     let near : c.args.place.bucket < bucket_count c.self.inside.current = omega (arith, c.bucket_count-count.ensures.count) in
     near-kept g.met.E.Key.Eq.laws hashes c.self.invariant c.self.view_is c.args.place c.requires.within near put_whole c.args.entry c.replace_at.new.self c.replace_at.ensures.new c.replace_at.result c.replace_at.ensures.old
-        (c.requires.same c.replace_at.result (near-got g.met.E.Key.Eq.laws hashes c.self.invariant c.self.view_is c.args.place c.requires.within near c.replace_at.result c.replace_at.ensures.old))
+    (c.requires.same c.replace_at.result (near-got g.met.E.Key.Eq.laws hashes c.self.invariant c.self.view_is c.args.place c.requires.within near c.replace_at.result c.replace_at.ensures.old))
 
 pub returns-then-place-count-clause-old : goal.returns-then-place-count-clause-old
 returns-then-place-count-clause-old g c =
@@ -54,7 +54,7 @@ invariant_of-self-2 g c =
     let far : bucket_count c.self.inside.current ≤ c.args.place.bucket = omega (arith, c.bucket_count-count.ensures.count) in
     let equal = c.requires.same c.replace_at-2.result (far-got g.met.E.Key.Eq.laws hashes c.self.invariant c.self.view_is c.args.place c.requires.within far c.bucket_count-count.result c.bucket_count-count.ensures.count c.replace_at-2.result c.replace_at-2.ensures.old) in
     far-kept g.met.E.Key.Eq.laws hashes c.self.invariant c.self.view_is c.args.place c.requires.within far c.bucket_count-count.result c.bucket_count-count.ensures.count c.replace_at-2.result c.replace_at-2.ensures.old put_whole c.args.entry (ap (hash_of g.H.BuildHasher g.H.Hasher.Hasher (settings_of c.self.inside.current).hasher) (g.met.E.Key.Hash.respects_eq (g.E.Keyed.key_of c.args.entry) (g.E.Keyed.key_of c.replace_at-2.result) equal)) c.replace_at-2.new.self c.replace_at-2.ensures.new
-        (equal)
+    (equal)
 
 pub returns-clause-old : goal.returns-clause-old
 returns-clause-old g c =

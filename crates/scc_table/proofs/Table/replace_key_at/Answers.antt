@@ -21,7 +21,7 @@ invariant_of-self g c =
     let hashes : g.row.H.Denot → g.row.E-Key.Denot → ℕ = λ s k. hash_of g.H.BuildHasher g.H.Hasher.Hasher s (g.E.Key.Hash.hash_input k) in
     let near : c.args.place.bucket < bucket_count c.self.inside.current = omega (arith, c.bucket_count-count.ensures.count) in
     near-kept g.met.E.Key.Eq.laws hashes c.self.invariant c.self.view_is c.args.place c.requires.within near g.E.Valued.with_key c.args.key c.replace_key_at.new.self c.replace_key_at.ensures.new c.replace_key_at.ensures.old.0 c.replace_key_at.ensures.old.1
-        (ap (λ k. g.E.Key.PartialEq.eq k (g.E.Keyed.key_of c.replace_key_at.ensures.old.0)) (g.met.E.Valued.key_is c.replace_key_at.ensures.old.0 c.args.key) ∙ c.requires.same c.replace_key_at.ensures.old.0 (near-got g.met.E.Key.Eq.laws hashes c.self.invariant c.self.view_is c.args.place c.requires.within near c.replace_key_at.ensures.old.0 c.replace_key_at.ensures.old.1))
+    (ap (λ k. g.E.Key.PartialEq.eq k (g.E.Keyed.key_of c.replace_key_at.ensures.old.0)) (g.met.E.Valued.key_is c.replace_key_at.ensures.old.0 c.args.key) ∙ c.requires.same c.replace_key_at.ensures.old.0 (near-got g.met.E.Key.Eq.laws hashes c.self.invariant c.self.view_is c.args.place c.requires.within near c.replace_key_at.ensures.old.0 c.replace_key_at.ensures.old.1))
 
 pub returns-then-place-count-clause-old : goal.returns-then-place-count-clause-old
 returns-then-place-count-clause-old g c =
@@ -53,7 +53,7 @@ invariant_of-self-2 g c =
     let far : bucket_count c.self.inside.current ≤ c.args.place.bucket = omega (arith, c.bucket_count-count.ensures.count) in
     let equal = c.requires.same c.replace_key_at-2.ensures.old.0 (far-got g.met.E.Key.Eq.laws hashes c.self.invariant c.self.view_is c.args.place c.requires.within far c.bucket_count-count.result c.bucket_count-count.ensures.count c.replace_key_at-2.ensures.old.0 c.replace_key_at-2.ensures.old.1) in
     far-kept g.met.E.Key.Eq.laws hashes c.self.invariant c.self.view_is c.args.place c.requires.within far c.bucket_count-count.result c.bucket_count-count.ensures.count c.replace_key_at-2.ensures.old.0 c.replace_key_at-2.ensures.old.1 g.E.Valued.with_key c.args.key (ap (hash_of g.H.BuildHasher g.H.Hasher.Hasher (settings_of c.self.inside.current).hasher) (ap g.E.Key.Hash.hash_input (g.met.E.Valued.key_is c.replace_key_at-2.ensures.old.0 c.args.key) ∙ g.met.E.Key.Hash.respects_eq c.args.key (g.E.Keyed.key_of c.replace_key_at-2.ensures.old.0) equal)) c.replace_key_at-2.new.self c.replace_key_at-2.ensures.new
-        (ap (λ k. g.E.Key.PartialEq.eq k (g.E.Keyed.key_of c.replace_key_at-2.ensures.old.0)) (g.met.E.Valued.key_is c.replace_key_at-2.ensures.old.0 c.args.key) ∙ equal)
+    (ap (λ k. g.E.Key.PartialEq.eq k (g.E.Keyed.key_of c.replace_key_at-2.ensures.old.0)) (g.met.E.Valued.key_is c.replace_key_at-2.ensures.old.0 c.args.key) ∙ equal)
 
 pub returns-clause-old : goal.returns-clause-old
 returns-clause-old g c =
