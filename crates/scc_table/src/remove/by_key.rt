@@ -126,7 +126,7 @@ where
                 Some(entry)
             }
             None => {
-                if !self.draining.array.is_full_once_doubled(source) {
+                if !self.draining.array.may_overflow(source) {
                     return None;
                 }
                 match self.draining.array.take_in_overflow(source, key) {

@@ -87,8 +87,8 @@ invariant_of-self g c =
     let out : IsTakenOut passes olds j ds took.0 x = took.2 in
     up-left g.met.E.Key.Eq.laws inv routed passes c.args.hash i same here l up j lj source ds fewer took.0 x out
 
-pub is_full_once_doubled-requires : goal.is_full_once_doubled-requires
-is_full_once_doubled-requires g c =
+pub may_overflow-requires : goal.may_overflow-requires
+may_overflow-requires g c =
     let t = c.self.inside in
     let cur = t.current in
     let ws = t.draining.waiting.items in
@@ -106,8 +106,8 @@ is_full_once_doubled-requires g c =
     let lj : j < length olds = source-within inv i up c.len.ensures.count c.bucket_index-source.ensures.within in
     subst (λ (z : List (Shelf g.row.E.Denot)). j < length z) (sym c.in-None.ensures.1) lj
 
-pub returns-then-not-is_full_once_doubled : goal.returns-then-not-is_full_once_doubled
-returns-then-not-is_full_once_doubled g c =
+pub returns-then-not-may_overflow : goal.returns-then-not-may_overflow
+returns-then-not-may_overflow g c =
     let t = c.self.inside in
     let cur = t.current in
     let ws = t.draining.waiting.items in
@@ -133,7 +133,7 @@ returns-then-not-is_full_once_doubled g c =
     let source = source-number inv c.args.hash c.len.ensures.count c.bucket_index-source.ensures.value in
     let ds = c.take_in_slots.new.self in
     let stays : ds ≡ olds = c.in-None.ensures.1 in
-    let empty : (shelf_of olds j).overflow ≡ [] = subst (λ (z : List (Shelf g.row.E.Denot)). (shelf_of z j).overflow ≡ []) stays (c.is_full_once_doubled.ensures c.if-not-is_full_once_doubled.true) in
+    let empty : (shelf_of olds j).overflow ≡ [] = subst (λ (z : List (Shelf g.row.E.Denot)). (shelf_of z j).overflow ≡ []) stays (c.may_overflow.ensures c.if-not-may_overflow.true) in
     subst (λ (z : Contents g.row.E.Denot g.row.H.Denot). SwapTakesFirst g.E.Key.PartialEq.eq key passes z (together hash cur ws ds) None) view
     (up-missed g.met.E.Key.Eq.laws inv routed passes c.args.hash i same here l up j lj source ds (missed-slots passes (shelf_of olds j) c.in-None.ensures.0 empty) stays)
 
