@@ -26,7 +26,6 @@ impl<K: Eq + Hash, V, R: Rule<K, V>, H: BuildHasher> RuledIndex<K, V, R, H> {
         for stripe in 0..self.stripes.stripes() {
             let guard = self.stripes.read(rt, stripe);
             let index = guard.look();
-            let _ = index.len();
             if !index.iter_lent(&mut f) {
                 return false;
             }
@@ -78,7 +77,6 @@ impl<K: Eq + Hash, V, R: Rule<K, V>, H: BuildHasher> RuledIndex<K, V, R, H> {
         for stripe in 0..self.stripes.stripes() {
             let guard = self.stripes.read(rt, stripe);
             let index = guard.look();
-            let _ = index.len();
             match index.iter_into(&mut versions) {
                 Ok(()) => {}
                 Err(e) => return Err(e),

@@ -28,7 +28,6 @@ impl<K: Eq + Hash, V, R: Rule<K, V>, H: BuildHasher> RuledMap<K, V, R, H> {
         for stripe in 0..self.stripes.stripes() {
             let guard = self.stripes.read(rt, stripe);
             let map = guard.look();
-            let _ = map.len();
             if !map.iter_lent(&mut f) {
                 return false;
             }

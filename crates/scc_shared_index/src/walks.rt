@@ -22,7 +22,6 @@ impl<K: Eq + Hash, V, H: BuildHasher> HashIndex<K, V, H> {
     {
         for stripe in 0..self.stripes.stripes() {
             let guard = self.stripes.read(rt, stripe);
-            let _ = guard.len();
             if !guard.iter_lent(&mut f) {
                 return false;
             }
@@ -43,7 +42,6 @@ impl<K: Eq + Hash, V, H: BuildHasher> HashIndex<K, V, H> {
     {
         for stripe in 0..self.stripes.stripes() {
             let mut guard = self.stripes.write(rt, stripe);
-            let _ = guard.len();
             guard.retain_lent(&mut f);
             self.stripes.follow(&mut *guard);
         }

@@ -1,5 +1,6 @@
 //! Snapshots of an index.
 ghost use Rattle.scc_common.specs.Contents.{entries};
+ghost use Rattle.scc_common.specs.Pairs.{IsUnique};
 ghost use Rattle.std.specs.Arc.{arc_value};
 ghost use Rattle.std.specs.Prelude.{◌≡◌, ◌++◌, ℕ, IfOk, OnOk, OnErr, map, take};
 
@@ -38,8 +39,9 @@ impl<K: Eq + Hash, V, H: BuildHasher> Index<K, V, H> {
             ≡ map arc_value versions.old.items ++ entries self.now) }
         ensures refused { OnErr result ((n : ℕ) × (map arc_value versions.new.items
             ≡ map arc_value versions.old.items ++ take n (entries self.now))) }
+        ensures unique { IsUnique K.eq self.now }
     {
-        let mut at = self.table.first_place();
+        let mut at = self.first_place();
         while let Some(place) = at {
             let Ok(version) = self.table.entry_at(place).clone_owner() else {
                 return Err(MakeError);

@@ -39,6 +39,7 @@ impl<K: Eq + Hash, V, H: BuildHasher> Index<K, V, H> {
         requires { (es : List (K × V)) → IsPermutation (entries self.old) es → CallableOnAll F.FnMut f.old es }
         ensures step { (es : List (K × V)) × (stay : List (K × V)) × IsPermutation (entries self.old) es
             × Retains (CalledOn F.FnMut) f.old es stay f.new × Holds self.old stay self.new }
+        ensures was_unique { IsUnique K.eq self.old }
         ensures unique { IsUnique K.eq self.new }
         ensures array { ShrinksByRule ⊤ self.old self.new }
     {
@@ -54,10 +55,11 @@ impl<K: Eq + Hash, V, H: BuildHasher> Index<K, V, H> {
         requires { CallableOnAll F.FnMut f.old (entries self.old) }
         ensures step { (stay : List (K × V)) × Retains (CalledOn F.FnMut) f.old (entries self.old) stay f.new
             × HoldsExactly self.old stay self.new }
+        ensures was_unique { IsUnique K.eq self.old }
         ensures noted { refused_of self.new ≡ refused_of self.old }
         ensures waiting { waiting_of self.new ≡ waiting_of self.old }
     {
-        let mut at = self.table.first_place();
+        let mut at = self.first_place();
         while let Some(place) = at {
             let (key, value) = self.pair_at(place);
             if f(key, value) {
@@ -92,9 +94,10 @@ impl<K: Eq + Hash, V, H: BuildHasher> Index<K, V, H> {
     /// The closure is lent, and can go on to other indexes.
     pub fn iter_lent<F: FnMut(&K, &V) -> bool>(&self, f: &mut F) -> bool
         requires { CallableWhile F.FnMut true f.old (entries self.now) }
-        ensures { Walks (CalledOn F.FnMut) f.old (entries self.now) result f.new }
+        ensures walks { Walks (CalledOn F.FnMut) f.old (entries self.now) result f.new }
+        ensures unique { IsUnique K.eq self.now }
     {
-        let mut at = self.table.first_place();
+        let mut at = self.first_place();
         while let Some(place) = at {
             let (key, value) = self.pair_at(place);
             if !f(key, value) {

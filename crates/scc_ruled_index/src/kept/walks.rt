@@ -22,7 +22,6 @@ impl<K: Eq + Hash, V, R: Rule<K, V>, H: BuildHasher> Kept<K, V, R, H> {
             × Retains (CalledOn F.FnMut) f.old es stay f.new × AllKeep R.holds es }
         ensures unique { IsUnique K.eq self.old }
     {
-        let _ = self.index.len();
         self.index.retain_lent(f);
     }
 

@@ -69,7 +69,6 @@ impl<'a, K: Eq + Hash, V, R: Rule<K, V>, H: BuildHasher> OccupiedEntry<'a, K, V,
         ensures unique { IfOk result (λ o. IsUnique K.eq (occupied_map o)) }
         ensures empty { IfErr result (λ s. s ≡ seat.entry) }
     {
-        let _ = guard.look().len();
         match guard.look().first_place() {
             Some(place) => Ok(OccupiedEntry { guard, place, seat }),
             None => Err(seat),
@@ -94,7 +93,6 @@ impl<'a, K: Eq + Hash, V, R: Rule<K, V>, H: BuildHasher> OccupiedEntry<'a, K, V,
         ensures none { IfErr result (λ s. AllKeep R.holds (entries (write_guard_value guard.entry))
             × Declines (CalledOn P.FnMut) p.old (entries (write_guard_value guard.entry)) p.new) }
     {
-        let _ = guard.look().len();
         match guard.look().first_passing(p) {
             Some(place) => Ok(OccupiedEntry { guard, place, seat }),
             None => Err(seat),

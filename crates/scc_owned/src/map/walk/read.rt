@@ -36,9 +36,10 @@ impl<K: Eq + Hash, V, H: BuildHasher> Map<K, V, H> {
     /// The closure is lent, and can go on to other maps.
     pub fn iter_lent<F: FnMut(&K, &V) -> bool>(&self, f: &mut F) -> bool
         requires { CallableWhile F.FnMut true f.old (entries self.now) }
-        ensures { Walks (CalledOn F.FnMut) f.old (entries self.now) result f.new }
+        ensures walks { Walks (CalledOn F.FnMut) f.old (entries self.now) result f.new }
+        ensures unique { IsUnique K.eq self.now }
     {
-        let mut at = self.table.first_place();
+        let mut at = self.first_place();
         while let Some(place) = at {
             let (key, value) = self.table.pair_at(place);
             if !f(key, value) {

@@ -13,4 +13,4 @@ retain_lent-requires g c = λ es same. callable-always g.F.FnMut c.loop-stripe.f
 pub loop-stripe-preserved : goal.loop-stripe-preserved
 loop-stripe-preserved g c =
     let x = c.retain_lent.ensures.step in
-    record { always = retains-always g.F.FnMut x.3 c.loop-stripe.invariant.always; seen = (_, _, retains-join c.loop-stripe.invariant.seen.2 x.3, walked-permuted g.met.K.Eq.laws _ _ _ x.0 c.loop-stripe.invariant.seen.3 x.2 (rw (c.deref.ensures, ← c.deref_mut.ensures.value) at c.len.ensures.unique)) }
+    record { always = retains-always g.F.FnMut x.3 c.loop-stripe.invariant.always; seen = (_, _, retains-join c.loop-stripe.invariant.seen.2 x.3, walked-permuted g.met.K.Eq.laws _ _ _ x.0 c.loop-stripe.invariant.seen.3 x.2 c.retain_lent.ensures.was_unique) }

@@ -8,7 +8,7 @@ use Rattle.scc_ruled_index.proofs.AtEntries.{passes-here}
 use Rattle.scc_ruled_index.proofs.entries.OccupiedEntry.passing.Goals as goal
 
 pub invariant_of-result : goal.invariant_of-result
-invariant_of-result g c = record { within = subst (λ n. IsPlace n c.in-Some.place) (c.look-2.ensures.same ∙ c.deref-2.ensures) c.in-Some.ensures.place.0 }
+invariant_of-result g c = record { within = subst (λ n. IsPlace n c.in-Some.place) (c.look.ensures.same ∙ c.deref.ensures) c.in-Some.ensures.place.0 }
 
 pub returns-in-Some-clause-here : goal.returns-in-Some-clause-here
 returns-in-Some-clause-here g c = splits-there (write_guard_value c.args.guard) c.in-Some.place _
@@ -18,5 +18,5 @@ returns-in-Some-clause-kept g c = kept-at g.R.Rule.holds (write_guard_value c.ar
 
 pub returns-in-Some-clause-first : goal.returns-in-Some-clause-first
 returns-in-Some-clause-first g c =
-    let at = rw (c.look-2.ensures.same ∙ c.deref-2.ensures) at c.in-Some.ensures.place in
+    let at = rw (c.look.ensures.same ∙ c.deref.ensures) at c.in-Some.ensures.place in
     (passes-here (write_guard_value c.args.guard) c.in-Some.place _ at.1, kept-front g.R.Rule.holds (write_guard_value c.args.guard) c.in-Some.place at.0 (subst (KeepsAll g.R.Rule.holds) c.deref.ensures c.look.ensures.kept))

@@ -10,7 +10,7 @@ use Rattle.scc_owned.proofs.index.snapshots.Index+K+V+H.iter_into.Goals as goal
 
 pub loop-at-init : goal.loop-at-init
 loop-at-init g c =
-    let start = reached-first c.args.self.now c.first_place-at.result (rw c.self.view_is at c.first_place-at.ensures) in
+    let start = reached-first c.args.self.now c.first_place-at.result c.first_place-at.ensures.place in
     record { within = start.1; listed = rw start.0 (sym (append-nil _)) }
 
 pub loop-at-smaller : goal.loop-at-smaller

@@ -11,7 +11,7 @@ use Rattle.scc_owned.proofs.index.walk.Index+K+V+H.retain_all.Goals as goal
 
 pub loop-at-init : goal.loop-at-init
 loop-at-init g c =
-    let start = reached-first c.args.self.now c.first_place-at.result (rw c.self.view_is at c.first_place-at.ensures) in
+    let start = reached-first c.args.self.now c.first_place-at.result c.first_place-at.ensures.place in
     record { callable = rw start.0 c.requires; within = start.1; buckets = refl; settings = refl; noted = refl; waiting = refl; calls = λ stay last r. rw start.0 (rw start.0 at r) }
 
 pub f-requires : goal.f-requires

@@ -9,7 +9,7 @@ use Rattle.scc_owned.proofs.map.walk.read.Map+K+V+H.iter_lent.Goals as goal
 
 pub loop-at-init : goal.loop-at-init
 loop-at-init g c =
-    let start = reached-first c.args.self.now c.first_place-at.result (rw c.self.view_is at c.first_place-at.ensures) in
+    let start = reached-first c.args.self.now c.first_place-at.result c.first_place-at.ensures.place in
     record { callable = rw start.0 c.requires; within = start.1; calls = λ b last r. rw start.0 at r }
 
 pub f-requires : goal.f-requires
@@ -19,8 +19,8 @@ f-requires g c =
     let here = rw c.self.view_is at c.pair_at.ensures in
     turn-first _ _ (rw (drop-here (entries m) (index_of m c.in-Some.place) _ here) at callable) _ _ refl
 
-pub returns-then-not-f : goal.returns-then-not-f
-returns-then-not-f g c =
+pub returns-then-not-f-clause-walks : goal.returns-then-not-f-clause-walks
+returns-then-not-f-clause-walks g c =
     let m = c.args.self.now in
     let calls = rw c.in-Some.is at c.loop-at.invariant.calls in
     let here = rw c.self.view_is at c.pair_at.ensures in
@@ -45,7 +45,7 @@ loop-at-preserved g c =
       calls = λ b last run. calls b last (rw (drop-here (entries m) (index_of m c.in-Some.place) _ here) (went_on record { key = _; value = _; shows = refl; called = c.if-not-f.ensures } (rw next.0 at run)));
     }
 
-pub returns : goal.returns
-returns g c =
+pub returns-clause-walks : goal.returns-clause-walks
+returns-clause-walks g c =
     let calls = rw c.in_default.is at c.loop-at.invariant.calls in
     calls true c.loop-at.f (rw (drop-all (entries c.args.self.now) (length (entries c.args.self.now)) refl) ended)
