@@ -28,7 +28,6 @@ impl<K: Eq + Hash, V, R: Rule<K, V>, H: BuildHasher> RuledCache<K, V, R, H> {
         for stripe in 0..self.stripes.stripes() {
             let guard = self.stripes.read(rt, stripe);
             let cache = guard.look();
-            let _ = cache.len();
             if !cache.iter_lent(&mut f) {
                 return false;
             }

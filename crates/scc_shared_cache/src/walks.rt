@@ -23,7 +23,6 @@ impl<K: Eq + Hash, V, H: BuildHasher> HashCache<K, V, H> {
     {
         for stripe in 0..self.stripes.stripes() {
             let guard = self.stripes.read(rt, stripe);
-            let _ = guard.len();
             if !guard.iter_lent(&mut f) {
                 return false;
             }

@@ -5,6 +5,7 @@ ghost use Rattle.scc_cache.specs.Caches.{IsCacheState};
 ghost use Rattle.scc_cache.specs.Relocations.{RelocatesNoneWithin};
 ghost use Rattle.scc_cache.specs.TakingWalks.{TakesOutWithNext};
 ghost use Rattle.scc_common.specs.Contents.{entries, refused_of, waiting_of, hash_in};
+ghost use Rattle.scc_common.specs.Pairs.{IsUnique};
 ghost use Rattle.scc_common.specs.Steps.{HoldsExactly};
 ghost use Rattle.scc_common.specs.Walks.{CalledOn, CallableWhile, Walks};
 ghost use Rattle.scc_table.specs.Places.{IsPlace, StandsAt, index_of};
@@ -85,7 +86,8 @@ impl<K: Eq + Hash, V, H: BuildHasher> Owned<K, V, H> {
     /// The closure is lent, and can go on to other caches.
     pub fn iter_lent<F: FnMut(&K, &V) -> bool>(&self, f: &mut F) -> bool
         requires { CallableWhile F.FnMut true f.old (entries self.now.contents) }
-        ensures { Walks (CalledOn F.FnMut) f.old (entries self.now.contents) result f.new }
+        ensures walks { Walks (CalledOn F.FnMut) f.old (entries self.now.contents) result f.new }
+        ensures unique { IsUnique K.eq self.now.contents }
     {
         let mut at = self.table.first_place();
         while let Some(place) = at {

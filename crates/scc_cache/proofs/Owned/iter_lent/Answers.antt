@@ -24,8 +24,8 @@ f-requires g c =
     let here = rw (ap (λ x. x.contents) c.self.view_is) at c.pair_at.ensures in
     turn-first _ _ (rw (drop-here (entries m) (index_of m c.in-Some.place) _ here) at callable) _ _ refl
 
-pub returns-then-not-f : goal.returns-then-not-f
-returns-then-not-f g c =
+pub returns-then-not-f-clause-walks : goal.returns-then-not-f-clause-walks
+returns-then-not-f-clause-walks g c =
     let m = c.args.self.now.contents in
     let calls = rw c.in-Some.is at c.loop-at.invariant.calls in
     let here = rw (ap (λ x. x.contents) c.self.view_is) at c.pair_at.ensures in
@@ -51,8 +51,14 @@ loop-at-preserved g c =
       calls = λ b last run. calls b last (rw (drop-here (entries m) (index_of m c.in-Some.place) _ here) (went_on record { key = _; value = _; shows = refl; called = c.if-not-f.ensures } (rw next.0 at run)));
     }
 
-pub returns : goal.returns
-returns g c =
+pub returns-clause-walks : goal.returns-clause-walks
+returns-clause-walks g c =
     let calls = rw c.in_default.is at c.loop-at.invariant.calls in
     let es = entries c.args.self.now.contents in
     calls true c.loop-at.f (rw (drop-all es (length es) refl) ended)
+
+pub returns-then-not-f-clause-unique : goal.returns-then-not-f-clause-unique
+returns-then-not-f-clause-unique g c = rw (ap (λ x. x.contents) c.self.view_is) c.self.invariant.unique
+
+pub returns-clause-unique : goal.returns-clause-unique
+returns-clause-unique g c = rw (ap (λ x. x.contents) c.self.view_is) c.self.invariant.unique

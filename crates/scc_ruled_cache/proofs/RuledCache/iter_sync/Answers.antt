@@ -17,10 +17,10 @@ pub returns-then-not-iter_lent : goal.returns-then-not-iter_lent
 returns-then-not-iter_lent g c =
     let s = c.loop-stripe.invariant.seen in
     let kept = subst (λ z. KeepsAll g.R.Rule.holds z.contents) (sym c.look-cache.ensures.same) c.look-cache.ensures.kept in
-    record { calls = (_, _, all-append (λ (p : g.row.K.Denot × g.row.V.Denot). g.R.Rule.holds p.0 p.1) s.0 _ s.1 kept, walk-append s.2 c.if-not-iter_lent.ensures, walked-short g.K.PartialEq.eq (λ p. p.0) _ _ _ (omega arith) (walked-next g.K.PartialEq.eq (λ p. p.0) _ _ _ s.3 c.len.ensures.state.unique)) }
+    record { calls = (_, _, all-append (λ (p : g.row.K.Denot × g.row.V.Denot). g.R.Rule.holds p.0 p.1) s.0 _ s.1 kept, walk-append s.2 c.if-not-iter_lent.ensures.walks, walked-short g.K.PartialEq.eq (λ p. p.0) _ _ _ (omega arith) (walked-next g.K.PartialEq.eq (λ p. p.0) _ _ _ s.3 c.if-not-iter_lent.ensures.unique)) }
 
 pub loop-stripe-preserved : goal.loop-stripe-preserved
 loop-stripe-preserved g c =
     let s = c.loop-stripe.invariant.seen in
     let kept = subst (λ z. KeepsAll g.R.Rule.holds z.contents) (sym c.look-cache.ensures.same) c.look-cache.ensures.kept in
-    record { takes = takes-after g.F.FnMut g.R.Rule.holds kept c.loop-stripe.invariant.takes c.if-not-iter_lent.ensures; seen = (_, all-append (λ (p : g.row.K.Denot × g.row.V.Denot). g.R.Rule.holds p.0 p.1) s.0 _ s.1 kept, walk-append s.2 c.if-not-iter_lent.ensures, walked-next g.K.PartialEq.eq (λ p. p.0) _ _ _ s.3 c.len.ensures.state.unique) }
+    record { takes = takes-after g.F.FnMut g.R.Rule.holds kept c.loop-stripe.invariant.takes c.if-not-iter_lent.ensures.walks; seen = (_, all-append (λ (p : g.row.K.Denot × g.row.V.Denot). g.R.Rule.holds p.0 p.1) s.0 _ s.1 kept, walk-append s.2 c.if-not-iter_lent.ensures.walks, walked-next g.K.PartialEq.eq (λ p. p.0) _ _ _ s.3 c.if-not-iter_lent.ensures.unique) }

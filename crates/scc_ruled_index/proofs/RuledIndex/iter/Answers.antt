@@ -10,5 +10,5 @@ loop-stripe-preserved g c =
     let kept = subst (KeepsAll g.R.Rule.holds) (sym c.look-index.ensures.same) c.look-index.ensures.kept in
     rw c.in-Ok.ensures.all record {
       kept = all-append (λ (p : g.row.K.Denot × g.row.V.Denot). g.R.Rule.holds p.0 p.1) _ _ s.kept kept;
-      stripes = walked-next g.K.PartialEq.eq (λ p. p.0) _ _ _ s.stripes c.iter_into.ensures.unique;
+      stripes = walked-next g.K.PartialEq.eq (λ p. p.0) _ _ _ s.stripes c.in-Ok.ensures.unique;
     }

@@ -14,13 +14,13 @@ iter_lent-requires g c = CallableWhile-always g.F.FnMut _ c.loop-stripe.f _ c.lo
 pub returns-then-not-iter_lent : goal.returns-then-not-iter_lent
 returns-then-not-iter_lent g c =
     let seen = c.loop-stripe.invariant.seen in
-    let unique = rw c.deref.ensures at c.len.ensures.state.unique in
-    let walk = rw c.deref-in-loop-stripe.ensures at c.if-not-iter_lent.ensures in
+    let unique = rw c.deref.ensures at c.if-not-iter_lent.ensures.unique in
+    let walk = rw c.deref.ensures at c.if-not-iter_lent.ensures.walks in
     record { calls = (_, _, walk-append seen.1 walk, walked-short g.K.PartialEq.eq (λ p. p.0) _ _ _ (omega arith) (walked-next g.K.PartialEq.eq (λ p. p.0) _ _ _ seen.2 unique)) }
 
 pub loop-stripe-preserved : goal.loop-stripe-preserved
 loop-stripe-preserved g c =
     let seen = c.loop-stripe.invariant.seen in
-    let unique = rw c.deref.ensures at c.len.ensures.state.unique in
-    let walk = rw c.deref-in-loop-stripe.ensures at c.if-not-iter_lent.ensures in
+    let unique = rw c.deref.ensures at c.if-not-iter_lent.ensures.unique in
+    let walk = rw c.deref.ensures at c.if-not-iter_lent.ensures.walks in
     record { always = walks-always g.F.FnMut walk c.loop-stripe.invariant.always; seen = (_, walk-append seen.1 walk, walked-next g.K.PartialEq.eq (λ p. p.0) _ _ _ seen.2 unique) }
