@@ -3,7 +3,7 @@ ghost use Rattle.std.specs.Prelude.{◌≡◌, ◌<◌, IfOk, vec_len};
 
 use std::alloc::{AllocError, Global};
 
-// Scatters a number over 64 bits. Different numbers give different results.
+/// Scatters a number over 64 bits. Different numbers give different results.
 fn mix(x: u64) -> u64 {
     let z = x.wrapping_add(0x9E37_79B9_7F4A_7C15);
     let z = (z ^ (z >> 30)).wrapping_mul(0xBF58_476D_1CE4_E5B9);
@@ -11,7 +11,7 @@ fn mix(x: u64) -> u64 {
     z ^ (z >> 31)
 }
 
-// Returns the key of the call with this number, one of `keys` keys.
+/// Returns the key of the call with this number, one of `keys` keys.
 fn key_at(number: u64, keys: u64) -> u64
     requires { 0 < keys }
 {

@@ -8,7 +8,7 @@ use std::rt::Clock;
 use std::sync::{Mutex, Wait};
 use std::time::Instant;
 
-// Upserts the pairs up to the first call that is refused, and returns the number of calls made.
+/// Upserts the pairs up to the first call that is refused, and returns the number of calls made.
 fn upsert_all<R: Wait>(rt: &R, map: &Mutex<Map>, pairs: &[(u64, u64)]) -> usize
     ensures { result ≤ length pairs.now }
 {
@@ -22,7 +22,7 @@ fn upsert_all<R: Wait>(rt: &R, map: &Mutex<Map>, pairs: &[(u64, u64)]) -> usize
     made
 }
 
-// Returns the nanoseconds that the calls take.
+/// Returns the nanoseconds that the calls take.
 fn time_calls<R: Wait + Clock>(rt: &R, map: &Mutex<Map>, pairs: &[(u64, u64)]) -> io::Result<u64> {
     let start = Instant::now(rt)?;
     if upsert_all(rt, map, pairs) < pairs.len() {

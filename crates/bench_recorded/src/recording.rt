@@ -20,7 +20,7 @@ pub struct Recording {
     pub finish: u64,
 }
 
-// Upserts the pairs, and returns whether all calls were made. Then the pass has a receipt for each pair.
+/// Upserts the pairs, and returns whether all calls were made. Then the pass has a receipt for each pair.
 fn record_all<L: Ledger, M: Site<Fold>, R: Wait>(
     rt: &R,
     recorded: &Recorded<Map, L, M>,
@@ -38,7 +38,7 @@ fn record_all<L: Ledger, M: Site<Fold>, R: Wait>(
     true
 }
 
-// Returns the nanoseconds that the calls take, and the time when they ended.
+/// Returns the nanoseconds that the calls take, and the time when they ended.
 fn time_calls<L: Ledger, M: Site<Fold>, R: Wait + Clock>(
     rt: &R,
     recorded: &Recorded<Map, L, M>,
@@ -56,7 +56,7 @@ fn time_calls<L: Ledger, M: Site<Fold>, R: Wait + Clock>(
     Ok((nanos(end.duration_since(start)), end))
 }
 
-// Finishes the run.
+/// Finishes the run.
 fn finish_run<L: Ledger, M: Site<Fold>>(
     recorded: Recorded<Map, L, M>,
     passes: Vec<Pass<Map, L>>,
@@ -69,7 +69,7 @@ fn finish_run<L: Ledger, M: Site<Fold>>(
     }
 }
 
-// Finishes the run, and returns the nanoseconds since the calls ended and the sum of all values.
+/// Finishes the run, and returns the nanoseconds since the calls ended and the sum of all values.
 fn time_finish<L: Ledger, M: Site<Fold>, C: Clock>(
     clock: &C,
     ended: Instant,
@@ -81,7 +81,7 @@ fn time_finish<L: Ledger, M: Site<Fold>, C: Clock>(
     Ok((spent, sum_of_all(finished.parts.as_slice())))
 }
 
-// Upserts all pairs with the first pass, and finishes.
+/// Upserts all pairs with the first pass, and finishes.
 fn record_and_finish<L: Ledger, M: Site<Fold>, R: Wait + Clock>(
     rt: &R,
     recorded: Recorded<Map, L, M>,
@@ -99,7 +99,7 @@ fn record_and_finish<L: Ledger, M: Site<Fold>, R: Wait + Clock>(
     })
 }
 
-// Upserts all pairs with one pass under two ledgers, and finishes.
+/// Upserts all pairs with one pass under two ledgers, and finishes.
 fn run_in<L: Ledger, M: Site<Fold>, R: Wait + Clock>(
     rt: &R,
     alloc: Global,

@@ -3,7 +3,7 @@ ghost use Rattle.std.specs.Prelude.{◌≡◌, ◌*◌, ◌/◌, max, min};
 
 use std::io;
 
-// Returns a quotient in hundredths, rounded down. The dividend times 100 stays at the greatest number that fits.
+/// Returns a quotient in hundredths, rounded down. The dividend times 100 stays at the greatest number that fits.
 fn hundredths(total: u64, count: u64) -> u64
     ensures { result ≡ min 18446744073709551615 (total * 100) / max count 1 }
 {

@@ -20,7 +20,7 @@ const USUAL_KEYS: u64 = 50_000;
 /// The number of runs if none is asked for.
 const USUAL_RUNS: u64 = 3;
 
-// Returns the number at `place`, or `usual` if there is no argument at this place.
+/// Returns the number at `place`, or `usual` if there is no argument at this place.
 fn parse_number(words: &[String], place: usize, usual: u64) -> io::Result<u64>
     ensures { length words.now ≤ place → result ≡ Ok usual }
 {

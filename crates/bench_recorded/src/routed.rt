@@ -12,7 +12,7 @@ use std::rt::Clock;
 use std::sync::{Mutex, Wait};
 use std::time::Instant;
 
-// Returns `PARTS` empty parts.
+/// Returns `PARTS` empty parts.
 fn locked_parts(alloc: Global, hasher: &Fold) -> io::Result<Vec<Mutex<Map>>>
     ensures { IfOk result (λ v. vec_len v ≡ 16) }
 {
@@ -24,8 +24,8 @@ fn locked_parts(alloc: Global, hasher: &Fold) -> io::Result<Vec<Mutex<Map>>>
     Ok(parts)
 }
 
-// Upserts each pair in the part of its key, up to the first call that is refused, and returns the number of calls
-// made.
+/// Upserts each pair in the part of its key, up to the first call that is refused, and returns the number of calls
+/// made.
 fn upsert_all<R: Wait>(rt: &R, hasher: &Fold, parts: &[Mutex<Map>], pairs: &[(u64, u64)]) -> usize
     requires { 0 < length parts.now }
     ensures { result ≤ length pairs.now }
@@ -41,7 +41,7 @@ fn upsert_all<R: Wait>(rt: &R, hasher: &Fold, parts: &[Mutex<Map>], pairs: &[(u6
     made
 }
 
-// Returns the nanoseconds that the calls take.
+/// Returns the nanoseconds that the calls take.
 fn time_calls<R: Wait + Clock>(
     rt: &R,
     hasher: &Fold,
@@ -57,7 +57,7 @@ fn time_calls<R: Wait + Clock>(
     Ok(nanos(start.elapsed(rt)?))
 }
 
-// Returns the sum of all values of the parts.
+/// Returns the sum of all values of the parts.
 fn sum_of_parts(parts: Vec<Mutex<Map>>) -> u64 {
     let mut sum = 0u64;
     for part in parts {

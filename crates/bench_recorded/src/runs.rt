@@ -32,7 +32,7 @@ fn run_once<R: Wait + Clock>(rt: &R, alloc: Global, pairs: &[(u64, u64)]) -> io:
     })
 }
 
-// Returns whether all maps hold the same at the end, by their sums.
+/// Returns whether all maps hold the same at the end, by their sums.
 fn agree(run: &Run) -> bool
     ensures { IsTrue result ↔ ((run.now.routed.sum ≡ run.now.plain.sum)
         × (run.now.recorded.calls.sum ≡ run.now.plain.sum) × (run.now.recorded_texts.calls.sum ≡ run.now.texts.sum)) }

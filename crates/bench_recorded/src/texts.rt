@@ -19,14 +19,14 @@ type Names = Owned<String, String, Fold>;
 
 type TextPair = (String, String);
 
-// Returns the texts of two numbers.
+/// Returns the texts of two numbers.
 fn text_pair(alloc: Global, key: u64, value: u64) -> Result<TextPair, AllocError> {
     let key = format!(in alloc; "{key}")?;
     let value = format!(in alloc; "{value}")?;
     Ok((key, value))
 }
 
-// Returns the texts of each pair.
+/// Returns the texts of each pair.
 fn text_pairs(alloc: Global, pairs: &[(u64, u64)]) -> Result<Vec<TextPair>, AllocError> {
     let mut texts = Vec::new(alloc);
     for (key, value) in pairs {
@@ -35,7 +35,7 @@ fn text_pairs(alloc: Global, pairs: &[(u64, u64)]) -> Result<Vec<TextPair>, Allo
     Ok(texts)
 }
 
-// Returns the sum of the lengths of all values.
+/// Returns the sum of the lengths of all values.
 fn sum_of(names: &Names) -> u64 {
     let mut sum = 0u64;
     names.iter_sync(|_, value| {
@@ -53,7 +53,7 @@ fn sum_of_all(parts: &[Names]) -> u64 {
     sum
 }
 
-// Upserts the pairs under the lock, and returns whether all calls were made.
+/// Upserts the pairs under the lock, and returns whether all calls were made.
 fn make_all<R: Wait>(rt: &R, names: &Mutex<Names>, pairs: Vec<TextPair>) -> bool {
     for (key, value) in pairs {
         if names.lock(rt).call(MapCall::Upsert(key, value)).is_err() {
@@ -63,7 +63,7 @@ fn make_all<R: Wait>(rt: &R, names: &Mutex<Names>, pairs: Vec<TextPair>) -> bool
     true
 }
 
-// Returns the nanoseconds that the calls take.
+/// Returns the nanoseconds that the calls take.
 fn time_plain<R: Wait + Clock>(
     rt: &R,
     names: &Mutex<Names>,
@@ -96,7 +96,7 @@ pub(crate) fn run_plain<R: Wait + Clock>(
     Ok(Outcome { spent, sum })
 }
 
-// Upserts the pairs with the pass, and returns whether all calls were made.
+/// Upserts the pairs with the pass, and returns whether all calls were made.
 fn record_all<L: Ledger, M: Site<Fold>, R: Wait>(
     rt: &R,
     recorded: &Recorded<Names, L, M>,
@@ -114,7 +114,7 @@ fn record_all<L: Ledger, M: Site<Fold>, R: Wait>(
     true
 }
 
-// Returns the nanoseconds that the calls take, and the time when they ended.
+/// Returns the nanoseconds that the calls take, and the time when they ended.
 fn time_calls<L: Ledger, M: Site<Fold>, R: Wait + Clock>(
     rt: &R,
     recorded: &Recorded<Names, L, M>,
@@ -139,7 +139,7 @@ fn finish_run<L: Ledger, M: Site<Fold>>(
     }
 }
 
-// Finishes the run, and returns the nanoseconds since the calls ended and the sum of the lengths of all values.
+/// Finishes the run, and returns the nanoseconds since the calls ended and the sum of the lengths of all values.
 fn time_finish<L: Ledger, M: Site<Fold>, C: Clock>(
     clock: &C,
     ended: Instant,
@@ -151,7 +151,7 @@ fn time_finish<L: Ledger, M: Site<Fold>, C: Clock>(
     Ok((spent, sum_of_all(finished.parts.as_slice())))
 }
 
-// Makes the calls with the first pass, and finishes.
+/// Makes the calls with the first pass, and finishes.
 fn record_and_finish<L: Ledger, M: Site<Fold>, R: Wait + Clock>(
     rt: &R,
     recorded: Recorded<Names, L, M>,
@@ -169,7 +169,7 @@ fn record_and_finish<L: Ledger, M: Site<Fold>, R: Wait + Clock>(
     })
 }
 
-// Makes the calls with one pass under two ledgers, and finishes.
+/// Makes the calls with one pass under two ledgers, and finishes.
 fn run_in<L: Ledger, M: Site<Fold>, R: Wait + Clock>(
     rt: &R,
     alloc: Global,

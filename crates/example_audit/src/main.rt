@@ -17,7 +17,7 @@ use std::process::ExitCode;
 use std::sync::Wait;
 use std::thread::Threads;
 
-// Does what standard input asks for, and returns the status.
+/// Does what standard input asks for, and returns the status.
 fn run<R: Threads + Sync + Wait + Print, I: Read + Drop>(
     rt: &R,
     alloc: Global,

@@ -44,7 +44,7 @@ where
     }
 }
 
-// Publishes a route by the pass: the first route to a destination is inserted, a later one is updated.
+/// Publishes a route by the pass: the first route to a destination is inserted, a later one is updated.
 fn publish_route<L: Ledger, M: Site<Fold>, R: Wait>(
     rt: &R,
     recorded: &Recorded<Routes, L, M>,
@@ -58,7 +58,7 @@ fn publish_route<L: Ledger, M: Site<Fold>, R: Wait>(
     Ok(())
 }
 
-// Publishes the routes of every other line, from line `number` on.
+/// Publishes the routes of every other line, from line `number` on.
 fn publish_part<L: Ledger, M: Site<Fold>, R: Wait>(
     rt: &R,
     recorded: &Recorded<Routes, L, M>,
@@ -75,7 +75,7 @@ fn publish_part<L: Ledger, M: Site<Fold>, R: Wait>(
     Ok(())
 }
 
-// Publishes the routes of all lines, each pass on a thread of its own, and returns the passes.
+/// Publishes the routes of all lines, each pass on a thread of its own, and returns the passes.
 fn publish_all<L: Ledger + Send + Sync, M: Site<Fold> + Send + Sync, R: Threads + Sync + Wait>(
     rt: &R,
     alloc: Global,
@@ -101,7 +101,7 @@ fn publish_all<L: Ledger + Send + Sync, M: Site<Fold> + Send + Sync, R: Threads 
     Ok(passes)
 }
 
-// Returns the number of call records. Fails if it is above `usize::MAX`.
+/// Returns the number of call records. Fails if it is above `usize::MAX`.
 fn calls_of(finished: &Finished<Routes>) -> io::Result<usize>
     ensures { IfOk result (λ n. n ≡ sum_by calls_in (map (λ h. h.items) finished.now.histories.items)) }
 {
@@ -111,7 +111,7 @@ fn calls_of(finished: &Finished<Routes>) -> io::Result<usize>
     }
 }
 
-// Makes the calls on four stripes by two passes on two threads, audits the run, and returns the number of call records.
+/// Makes the calls on four stripes by two passes on two threads, audits the run, and returns the number of call records.
 fn record_in<L: Ledger + Send + Sync, M: Site<Fold> + Send + Sync, R: Threads + Sync + Wait>(
     rt: &R,
     alloc: Global,

@@ -46,7 +46,7 @@ impl<B: Home> Symbol<B> {
         self.pushed.index()
     }
 
-    // Returns the symbol once more.
+    /// Returns the symbol once more.
     fn again(&self) -> Symbol<B>
         ensures { arc_str_bytes result.pushed.value ≡ arc_str_bytes self.now.pushed.value }
     {
@@ -105,7 +105,7 @@ impl<B: Home> Interner<B> {
         }
     }
 
-    // Gives a text a number of its own.
+    /// Gives a text a number of its own.
     fn store<R: Wait>(&self, rt: &R, text: Text) -> io::Result<Symbol<B>>
         ensures { IfOk result (λ symbol. symbol.pushed.value ≡ text) }
     {

@@ -38,7 +38,7 @@ pub fn lines_of(alloc: Global, text: &str) -> Result<Vec<Line>, AllocError> {
     Ok(lines)
 }
 
-// Interns the texts of `many` lines, from place `start` on.
+/// Interns the texts of `many` lines, from place `start` on.
 fn intern_part<'a, B: Home, R: Wait>(
     rt: &R,
     alloc: Global,

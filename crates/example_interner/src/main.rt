@@ -19,7 +19,7 @@ use std::process::ExitCode;
 use std::sync::Wait;
 use std::thread::Threads;
 
-// Prints each line that says again what an earlier line says, and returns how many there are.
+/// Prints each line that says again what an earlier line says, and returns how many there are.
 fn print_again<B: Home, R: Print>(
     rt: &R,
     interner: &Interner<B>,
@@ -39,7 +39,7 @@ fn print_again<B: Home, R: Print>(
     Ok(again)
 }
 
-// Interns the lines by an interner whose texts will lie in `texts`, and prints what is said again.
+/// Interns the lines by an interner whose texts will lie in `texts`, and prints what is said again.
 fn print_lines<B: Home + Send + Sync, R: Threads + Sync + Wait + Print>(
     rt: &R,
     alloc: Global,
@@ -56,7 +56,7 @@ fn print_lines<B: Home + Send + Sync, R: Threads + Sync + Wait + Print>(
     Ok(())
 }
 
-// Prints which lines of standard input say again what an earlier line says.
+/// Prints which lines of standard input say again what an earlier line says.
 fn run<R: Threads + Sync + Wait + Print, I: Read + Drop>(
     rt: &R,
     alloc: Global,

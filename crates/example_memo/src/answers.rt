@@ -22,7 +22,7 @@ const MOST_SLOTS: usize = 256;
 
 type Known = Memo<EndOfWalk, BuildHasherDefault<FoldHasher>>;
 
-// Evaluates every fourth walk of `line`, from number `worker` on.
+/// Evaluates every fourth walk of `line`, from number `worker` on.
 fn answer_line(memo: &mut Known, line: Line, worker: usize) -> Answer {
     let mut answer = Answer { sum: 0, known: 0 };
     for number in (worker as u64..line.count).step_by(WORKERS) {
@@ -34,7 +34,7 @@ fn answer_line(memo: &mut Known, line: Line, worker: usize) -> Answer {
     answer
 }
 
-// Evaluates every fourth walk of each line by a new memo, and returns an answer for each line.
+/// Evaluates every fourth walk of each line by a new memo, and returns an answer for each line.
 fn answer_part(alloc: Global, lines: &[Line], worker: usize) -> io::Result<Vec<Answer>> {
     let mut memo = Known::with_capacity_and_hasher(
         alloc,

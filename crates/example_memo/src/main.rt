@@ -17,7 +17,7 @@ use std::io::{self, Read};
 use std::process::ExitCode;
 use std::thread::Threads;
 
-// Prints the sum of the ends for each line, and how many ends were known.
+/// Prints the sum of the ends for each line, and how many ends were known.
 fn print_answers<R: Threads + Sync + Print>(
     rt: &R,
     alloc: Global,
@@ -36,7 +36,7 @@ fn print_answers<R: Threads + Sync + Print>(
     Ok(())
 }
 
-// Does what standard input asks for, and returns the status.
+/// Does what standard input asks for, and returns the status.
 fn evaluate<R: Threads + Sync + Print, I: Read + Drop>(
     rt: &R,
     alloc: Global,

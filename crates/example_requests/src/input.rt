@@ -26,7 +26,7 @@ pub enum Input {
     BadLine(usize),
 }
 
-// Returns the requests that `line` stands for, or `None` if it isn't three numbers.
+/// Returns the requests that `line` stands for, or `None` if it isn't three numbers.
 fn parse_line(line: &str) -> Option<Line> {
     let mut words = line.split_whitespace();
     let first = words.next()?.parse::<u64>().ok()?;

@@ -25,7 +25,7 @@ use workers::{Served, serve_all};
 /// The bounds of the cache, in slots: powers of two, at least 64.
 const BOUNDS: [usize; 4] = [64, 256, 1024, 4096];
 
-// Prints what the workers did with a cache of `bound` slots.
+/// Prints what the workers did with a cache of `bound` slots.
 fn print_served<R: Print + Eprint>(rt: &R, bound: usize, served: Served) -> io::Result<()> {
     let (hits, misses, evictions) = (
         served.tally.hits,
@@ -45,7 +45,7 @@ fn print_served<R: Print + Eprint>(rt: &R, bound: usize, served: Served) -> io::
     Ok(())
 }
 
-// Serves the requests of all lines once for each bound.
+/// Serves the requests of all lines once for each bound.
 fn serve_by_bounds<R: Threads + Sync + Wait + Print + Eprint>(
     rt: &R,
     alloc: Global,
@@ -58,7 +58,7 @@ fn serve_by_bounds<R: Threads + Sync + Wait + Print + Eprint>(
     Ok(())
 }
 
-// Does what standard input asks for, and returns the status.
+/// Does what standard input asks for, and returns the status.
 fn run<R: Threads + Sync + Wait + Print + Eprint, I: Read + Drop>(
     rt: &R,
     alloc: Global,

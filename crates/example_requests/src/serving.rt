@@ -30,8 +30,8 @@ pub struct Tally {
     pub evictions: u64,
 }
 
-// Returns the stored answer to `request`, which becomes the most recent of its bucket, or `None` if there is none. So the
-// cache keeps what is asked for most.
+/// Returns the stored answer to `request`, which becomes the most recent of its bucket, or `None` if there is none.
+/// So the cache keeps what is asked for most.
 fn known<R: Wait>(rt: &R, answers: &Answers, request: u64) -> Option<u64>
     ensures { IfSome result (λ answer. answer ≡ answer_to request) }
 {

@@ -33,7 +33,7 @@ const NOTHING: Served = Served {
     most: 0,
 };
 
-// Serves every fourth request of each line, from number `worker` on.
+/// Serves every fourth request of each line, from number `worker` on.
 fn serve_part<R: Wait>(rt: &R, answers: &Answers, lines: &[Line], worker: usize) -> Served {
     let mut served = NOTHING;
     for line in lines {

@@ -18,7 +18,7 @@ use std::sync::Wait;
 use std::thread::Threads;
 use workers::{listed, publish_all};
 
-// Prints the routes, by destination.
+/// Prints the routes, by destination.
 fn print_routes<R: Print>(rt: &R, routes: &[Line]) -> io::Result<()> {
     for line in routes {
         let (first, hop, count) = (line.first, line.hop, line.count);
@@ -27,7 +27,7 @@ fn print_routes<R: Print>(rt: &R, routes: &[Line]) -> io::Result<()> {
     Ok(())
 }
 
-// Publishes the lines, and prints the routes and how many replaced versions were kept.
+/// Publishes the lines, and prints the routes and how many replaced versions were kept.
 fn print_all<R: Threads + Sync + Wait + Print>(
     rt: &R,
     alloc: Global,
@@ -41,7 +41,7 @@ fn print_all<R: Threads + Sync + Wait + Print>(
     Ok(())
 }
 
-// Does what standard input asks for, and returns the status.
+/// Does what standard input asks for, and returns the status.
 fn run<R: Threads + Sync + Wait + Print, I: Read + Drop>(
     rt: &R,
     alloc: Global,

@@ -16,7 +16,7 @@ pub struct Published {
     pub kept: u64,
 }
 
-// Publishes the worker's routes of `line`, and adds each replaced version to `kept`, with the hop that it had then.
+/// Publishes the worker's routes of `line`, and adds each replaced version to `kept`, with the hop that it had then.
 fn publish_line<R: Wait>(
     rt: &R,
     routes: &Routes,
@@ -36,7 +36,7 @@ fn publish_line<R: Wait>(
     Ok(())
 }
 
-// Publishes the worker's routes in their order, and returns how many kept versions are what they were.
+/// Publishes the worker's routes in their order, and returns how many kept versions are what they were.
 fn publish_part<R: Wait>(
     rt: &R,
     alloc: Global,
@@ -77,8 +77,8 @@ pub fn publish_all<R: Threads + Sync + Wait>(
     Ok(Published { routes, kept })
 }
 
-// Adds a route behind `lines`: to the last line if that ends before `destination` and has the same hop, else as a line
-// of its own.
+/// Adds a route behind `lines`: to the last line if that ends before `destination` and has the same hop, else as a line
+/// of its own.
 fn add_route(lines: &mut Vec<Line>, destination: u64, hop: u64) -> Result<(), AllocError> {
     if let Some(last) = lines.last_mut() {
         if last.hop == hop && last.first.wrapping_add(last.count) == destination {

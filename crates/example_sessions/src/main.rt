@@ -18,7 +18,7 @@ use std::thread::Threads;
 use steps::{Step, parse_step};
 use workers::{draw_tokens, make_step};
 
-// Makes the step of a line, and prints what it counted.
+/// Makes the step of a line, and prints what it counted.
 fn print_step<R: Threads + Sync + Wait + Print>(
     rt: &R,
     alloc: Global,
@@ -48,7 +48,7 @@ fn print_step<R: Threads + Sync + Wait + Print>(
     Ok(())
 }
 
-// Makes the steps of all lines, and returns the status.
+/// Makes the steps of all lines, and returns the status.
 fn run<R: Threads + Sync + Wait + Print, I: Read + Drop>(
     rt: &R,
     alloc: Global,

@@ -17,7 +17,7 @@ pub enum Step {
     Count,
 }
 
-// The number that a word writes.
+/// The number that a word writes.
 fn number(word: Option<&str>) -> Option<u64> {
     word?.parse::<u64>().ok()
 }

@@ -23,8 +23,8 @@ pub fn draw_tokens(alloc: Global, seed: usize, number: usize) -> Result<Vec<u64>
     Ok(tokens)
 }
 
-// Makes the step on the session of a token, and returns what it counts for: the length of the session, or 1 if the step
-// met one.
+/// Makes the step on the session of a token, and returns what it counts for: the length of the session, or 1 if the step
+/// met one.
 fn make_one<R: Wait>(rt: &R, sessions: &Sessions, token: u64, step: Step) -> io::Result<u64> {
     let met = match step {
         Step::Open(_, span) => match sessions.insert_sync(rt, token, Session { token, span }) {
@@ -40,7 +40,7 @@ fn make_one<R: Wait>(rt: &R, sessions: &Sessions, token: u64, step: Step) -> io:
     Ok(met as u64)
 }
 
-// Makes the step on every fourth token, from the token number `worker` on, and adds up what they count for.
+/// Makes the step on every fourth token, from the token number `worker` on, and adds up what they count for.
 fn make_part<R: Wait>(
     rt: &R,
     sessions: &Sessions,

@@ -18,7 +18,7 @@ pub struct Count {
 pub type Counts = HashMap<Word, Count>;
 
 impl Count {
-    // Returns the count of a word that was met once, at `place`.
+    /// Returns the count of a word that was met once, at `place`.
     fn new(place: u64) -> Count
         ensures { result.first ≡ place }
     {
@@ -28,7 +28,7 @@ impl Count {
         }
     }
 
-    // Returns the count of a word that was met once more, at `place`.
+    /// Returns the count of a word that was met once more, at `place`.
     fn more(self, place: u64) -> Count
         ensures { (result.first ≤ place) × (result.first ≤ self.first) }
     {

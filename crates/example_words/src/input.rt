@@ -24,7 +24,7 @@ pub enum Input<'a> {
     BadLine(usize),
 }
 
-// Returns the words that `line` stands for, or `None` if it doesn't begin with a number.
+/// Returns the words that `line` stands for, or `None` if it doesn't begin with a number.
 fn parse_line(alloc: Global, line: &str) -> Result<Option<Line<'_>>, AllocError> {
     let mut rest = line.split_whitespace();
     let Some(Ok(times)) = rest.next().map(|word| word.parse::<u64>()) else {

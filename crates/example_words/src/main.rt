@@ -26,7 +26,7 @@ use workers::count_words;
 /// The number of words that are shown.
 const SHOWN: usize = 10;
 
-// Prints how many words the lines stand for, and the most frequent words.
+/// Prints how many words the lines stand for, and the most frequent words.
 fn print_ranks<R: Threads + Sync + Wait + Print>(
     rt: &R,
     alloc: Global,
@@ -47,7 +47,7 @@ fn print_ranks<R: Threads + Sync + Wait + Print>(
     Ok(())
 }
 
-// Does what standard input asks for, and returns the status.
+/// Does what standard input asks for, and returns the status.
 fn run<R: Threads + Sync + Wait + Print, I: Read + Drop>(
     rt: &R,
     alloc: Global,

@@ -12,7 +12,7 @@ pub type Word = ArcStr;
 /// The words that were met.
 pub type Words = HashSet<Word>;
 
-// Returns the stored word that equals `word`, or `None` if there is none.
+/// Returns the stored word that equals `word`, or `None` if there is none.
 fn stored<R: Wait>(rt: &R, words: &Words, word: &Word) -> io::Result<Option<Word>>
     ensures { IfOk result (λ found. IfSome found (λ first. arc_str_bytes first ≡ arc_str_bytes word.now)) }
 {

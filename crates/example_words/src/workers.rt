@@ -11,7 +11,7 @@ use std::thread::{Threads, map_indices};
 /// The number of workers.
 const WORKERS: u64 = 4;
 
-// Interns and counts the words of `line` whose places leave `worker` as rest. `start` is the place of its first word.
+/// Interns and counts the words of `line` whose places leave `worker` as rest. `start` is the place of its first word.
 fn count_line<R: Wait>(
     rt: &R,
     alloc: Global,
@@ -34,7 +34,7 @@ fn count_line<R: Wait>(
     Ok(())
 }
 
-// Interns and counts every fourth word, from number `worker` on.
+/// Interns and counts every fourth word, from number `worker` on.
 fn count_part<R: Wait>(
     rt: &R,
     alloc: Global,

@@ -214,8 +214,8 @@ impl<K: Eq + Hash + Clone, V: Clone + PartialEq, H: BuildHasher> Calls for Owned
         (K.hash_input k))) i b };
 }
 
-// Makes the first array or the growth that `call` would have to make, if `call` may add a key. Fails if memory is
-// refused.
+/// Makes the first array or the growth that `call` would have to make, if `call` may add a key. Fails if memory is
+/// refused.
 fn prepare<K: Eq + Hash, V, H: BuildHasher>(
     cache: &mut Owned<K, V, H>,
     call: &CacheCall<K, V>,
@@ -268,8 +268,8 @@ impl<K: Eq + Hash + Clone, V: Clone + PartialEq, H: BuildHasher> CopiesReply for
     }
 }
 
-// Returns a copy of the reply to a put of the missing key `k`, if the put makes no resize. Fails if a clone is
-// refused.
+/// Returns a copy of the reply to a put of the missing key `k`, if the put makes no resize. Fails if a clone is
+/// refused.
 fn copy_evicted<K: Eq + Hash + Clone, V: Clone + PartialEq, H: BuildHasher>(
     cache: &Owned<K, V, H>,
     k: &K,

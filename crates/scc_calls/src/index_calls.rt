@@ -186,8 +186,8 @@ impl<K: Eq + Hash + Clone, V: Clone + PartialEq, H: BuildHasher> Calls for Owned
     ghost empty_keeps = { λ _ _ _ _. tt };
 }
 
-// Makes the first array or the growth that `call` would have to make, if `call` may add a key. Doesn't make its
-// version. Fails if memory is refused.
+/// Makes the first array or the growth that `call` would have to make, if `call` may add a key. Doesn't make its
+/// version. Fails if memory is refused.
 fn prepare<K: Eq + Hash, V, H: BuildHasher>(
     index: &mut Owned<K, V, H>,
     call: &IndexCall<K, V>,
@@ -201,8 +201,8 @@ fn prepare<K: Eq + Hash, V, H: BuildHasher>(
     }
 }
 
-// Makes the first array or the growth that an insertion of `k` would have to make. Doesn't make its version. Fails if
-// memory is refused.
+/// Makes the first array or the growth that an insertion of `k` would have to make. Doesn't make its version. Fails if
+/// memory is refused.
 fn prepare_key<K: Eq + Hash, V, H: BuildHasher>(
     index: &mut Owned<K, V, H>,
     k: &K,

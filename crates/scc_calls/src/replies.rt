@@ -43,7 +43,7 @@ pub(crate) trait CopiesReply {
     // The call has a key.
     ghost has_key: { Self.Call → Type 0 };
 
-    // Returns a copy of the reply that `call` gives next. Fails if a clone is refused.
+    /// Returns a copy of the reply that `call` gives next. Fails if a clone is refused.
     fn copy(&self, call: &Self::Call) -> Result<Self::Reply, Refused>
         requires clones { ClonesEqual Self.Reply.is_clone Self.Reply.eq }
         ensures ok { IfOk result (λ r. Self.Reply.eq (next_reply self.now call.now) r ≡ true) }
@@ -51,7 +51,7 @@ pub(crate) trait CopiesReply {
             × MayNotClone Self.Reply.is_infallible (next_reply self.now call.now)) };
 }
 
-// Returns two copies of the reply that `call` gives next. Fails if a clone is refused.
+/// Returns two copies of the reply that `call` gives next. Fails if a clone is refused.
 pub(crate) fn copies<C: CopiesReply>(c: &C, call: &C::Call) -> Result<(C::Reply, C::Reply), Refused>
     requires clones { ClonesEqual C.Reply.is_clone C.Reply.eq }
     ensures ok { IfOk result (λ r. (C.Reply.eq (C.next_reply c.now call.now) r.0 ≡ true)
@@ -69,7 +69,7 @@ pub(crate) fn copies<C: CopiesReply>(c: &C, call: &C::Call) -> Result<(C::Reply,
     Ok((first, second))
 }
 
-// Returns clones of `k` and `v`. Fails if a clone is refused.
+/// Returns clones of `k` and `v`. Fails if a clone is refused.
 pub(crate) fn clone_pair<K: Clone, V: Clone>(k: &K, v: &V) -> Result<(K, V), Refused>
     ensures ok { IfOk result (λ p. K.is_clone k.now p.0 × V.is_clone v.now p.1) }
     ensures refused { OnErr result (MayNotClone ⟦<(K, V) as Clone>⟧.is_infallible (k.now, v.now)) }
@@ -83,7 +83,7 @@ pub(crate) fn clone_pair<K: Clone, V: Clone>(k: &K, v: &V) -> Result<(K, V), Ref
     Ok((key, value))
 }
 
-// States what `==` is. Does nothing.
+/// States what `==` is. Does nothing.
 pub(crate) fn equals<X: PartialEq>()
     ensures { IsPartialEquivalence X.eq }
 {}

@@ -186,8 +186,8 @@ impl<K: Eq + Hash + Clone, H: BuildHasher> Calls for Owned<K, H> {
     ghost empty_keeps = { λ _ _ _ _. tt };
 }
 
-// Makes the first array or the growth that `call` would have to make, if `call` may add a key. Fails if memory is
-// refused.
+/// Makes the first array or the growth that `call` would have to make, if `call` may add a key. Fails if memory is
+/// refused.
 fn prepare<K: Eq + Hash, H: BuildHasher>(
     set: &mut Owned<K, H>,
     call: &SetCall<K>,
@@ -202,7 +202,7 @@ fn prepare<K: Eq + Hash, H: BuildHasher>(
     }
 }
 
-// Makes the first array or the growth that an insertion of `k` would have to make. Fails if memory is refused.
+/// Makes the first array or the growth that an insertion of `k` would have to make. Fails if memory is refused.
 fn prepare_key<K: Eq + Hash, H: BuildHasher>(set: &mut Owned<K, H>, k: &K) -> Result<(), Refused>
     ensures { SetPreparesKey K.eq (λ h k. hash_of H.BuildHasher H.Hasher.Hasher h (K.hash_input k))
         set.old k.now result set.new }
@@ -247,7 +247,7 @@ impl<K: Eq + Hash + Clone, H: BuildHasher> CopiesReply for Owned<K, H> {
     }
 }
 
-// Returns a reply with a copy of the stored key that equals `k`. Fails if a clone is refused.
+/// Returns a reply with a copy of the stored key that equals `k`. Fails if a clone is refused.
 fn copy_key<K: Eq + Hash + Clone, H: BuildHasher>(
     set: &Owned<K, H>,
     k: &K,

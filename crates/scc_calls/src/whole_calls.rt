@@ -82,7 +82,7 @@ impl<K: Eq + Hash + Clone, V: Clone + PartialEq, H: BuildHasher> WholeCalls
     ghost never_refused = { λ g s. (λ m. m, λ m. m) };
 }
 
-// Returns the number in `reply`, or `None` if the reply has none.
+/// Returns the number in `reply`, or `None` if the reply has none.
 pub(super) fn count_of<K, V>(reply: &Reply<K, V>) -> Option<usize>
     ensures { result ≡ counted_by reply.now }
 {

@@ -54,7 +54,7 @@ pub fn records_by_pass<'a, H: Histories>(
     Ok(records)
 }
 
-// Returns `count` empty lists. Fails if memory is refused.
+/// Returns `count` empty lists. Fails if memory is refused.
 fn empty_lists<'a, A, R>(
     alloc: Global,
     count: usize,
@@ -70,7 +70,7 @@ fn empty_lists<'a, A, R>(
     Ok(lists)
 }
 
-// Adds `step` of stripe `stripe` to the list of the pass that made it, if it is a call. Fails if memory is refused.
+/// Adds `step` of stripe `stripe` to the list of the pass that made it, if it is a call. Fails if memory is refused.
 fn tell<'a, A, R>(
     records: &mut Vec<Vec<Receipt<&'a A, &'a R>>>,
     stripe: usize,

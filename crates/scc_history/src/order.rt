@@ -30,8 +30,8 @@ pub trait Histories {
         ensures short { length (history self.now) < 18446744073709551616 };
 }
 
-// Returns the least stamp of `history` from step `from` on. No step after a call has a lesser stamp than the call, so
-// nothing after the next call is read.
+/// Returns the least stamp of `history` from step `from` on. No step after a call has a lesser stamp than the call, so
+/// nothing after the next call is read.
 fn number_at<A, R>(history: &[Step<A, R>], from: usize) -> u64
     requires within { from < length history.now }
     requires rising { (last : ℕ) × Rises 0 history.now last × (last ≤ 18446744073709551615) }
@@ -47,7 +47,7 @@ fn number_at<A, R>(history: &[Step<A, R>], from: usize) -> u64
     low
 }
 
-// Adds the step at `place` of `history` to the queue `next`, if there is such a step. Fails if memory is refused.
+/// Adds the step at `place` of `history` to the queue `next`, if there is such a step. Fails if memory is refused.
 fn queue_step<A, R>(
     next: &mut BinaryHeap<Reverse<(u64, usize)>>,
     history: &[Step<A, R>],
@@ -67,8 +67,8 @@ fn queue_step<A, R>(
     Ok(())
 }
 
-// Returns the first step of each history that has one, with its order number and its stripe. Fails if memory is
-// refused.
+/// Returns the first step of each history that has one, with its order number and its stripe. Fails if memory is
+/// refused.
 fn first_steps<H: Histories>(
     alloc: Global,
     stripes: &[H],

@@ -5,16 +5,16 @@ ghost use Rattle.std.specs.Prelude.{◌≡◌, ◌+◌, ◌<◌, ◌≤◌, ◌�
 use crate::log::Receipt;
 use scc_calls::Step;
 
-// Returns the stamp of the next call: one more than the greater of the caller's clock and the last stamp of the
-// stripe. Returns `None` if that is the greatest stamp.
+/// Returns the stamp of the next call: one more than the greater of the caller's clock and the last stamp of the
+/// stripe. Returns `None` if that is the greatest stamp.
 pub(crate) fn next_stamp(clock: u64, last: u64) -> Option<u64>
     ensures { MatchOption result (max clock last ≡ 18446744073709551615) (λ stamp. stamp ≡ max clock last + 1) }
 {
     clock.max(last).checked_add(1)
 }
 
-// Reserves room for two steps in the history and for one receipt, and returns two clones of the call. Returns `None`
-// if memory for the room or for a clone is refused.
+/// Reserves room for two steps in the history and for one receipt, and returns two clones of the call. Returns `None`
+/// if memory for the room or for a clone is refused.
 pub(crate) fn reserve_places<A: Clone + Drop, R: Drop>(
     history: &mut Vec<Step<A, R>>,
     receipts: &mut Vec<Receipt<A, R>>,
@@ -39,7 +39,7 @@ pub(crate) fn reserve_places<A: Clone + Drop, R: Drop>(
     Some((noted, kept))
 }
 
-// Adds a call to the history, with a growth before it or a shrink after it if the number of buckets changed.
+/// Adds a call to the history, with a growth before it or a shrink after it if the number of buckets changed.
 pub(crate) fn record_call<A: Drop, R: Drop>(
     history: &mut Vec<Step<A, R>>,
     before: usize,
@@ -73,7 +73,7 @@ pub(crate) fn record_call<A: Drop, R: Drop>(
     }
 }
 
-// Adds the resize of a refused call to the history, if it made one.
+/// Adds the resize of a refused call to the history, if it made one.
 pub(crate) fn record_refused<A: Drop, R: Drop>(
     history: &mut Vec<Step<A, R>>,
     before: usize,

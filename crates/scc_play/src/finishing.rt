@@ -21,8 +21,8 @@ use scc_script::line::WorkerCall;
 use std::alloc::{AllocError, Global};
 use std::sync::ledger::Ledger;
 
-// Returns the replies that each worker got. Returns `None` if the passes are not in order, or if their receipts are
-// not those of the script's calls. Fails if memory is refused.
+/// Returns the replies that each worker got. Returns `None` if the passes are not in order, or if their receipts are
+/// not those of the script's calls. Fails if memory is refused.
 fn replies_of_workers<P: Printed, L: Ledger>(
     alloc: Global,
     stripes: usize,
@@ -66,7 +66,7 @@ pub(crate) fn calls_of_workers<P: Printed>(
     Ok(lists)
 }
 
-// Returns why the run isn't finished. Fails if the cause is that memory was refused.
+/// Returns why the run isn't finished. Fails if the cause is that memory was refused.
 fn cause_of(error: FinishError) -> Result<Cause, AllocError>
     ensures missing { result ≡ Ok Cause.Missing → error ≡ FinishError.Missing }
     ensures misrouted { result ≡ Ok Cause.Misrouted → (i : ℕ) × (j : ℕ) × (error ≡ FinishError.Misrouted i j) }

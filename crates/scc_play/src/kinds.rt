@@ -27,18 +27,18 @@ use std::sync::ledger::{Blank, Ledger};
 use std::sync::{Arc, Wait};
 use std::thread::Threads;
 
-// States that calls that compare as equal are the same, and that replies that compare as equal are the same.
+/// States that calls that compare as equal are the same, and that replies that compare as equal are the same.
 fn are_exact<P: Printed>()
     ensures calls { AreSame P.Call.eq }
     ensures replies { AreSame P.Reply.eq }
 {}
 
-// Returns one owner of a script's hasher. Fails if memory is refused.
+/// Returns one owner of a script's hasher. Fails if memory is refused.
 fn shared(alloc: Global) -> Result<Shared<Same>, AllocError> {
     Ok(Shared::new(Arc::new(alloc, Same)?))
 }
 
-// Returns what a script's container is made with.
+/// Returns what a script's container is made with.
 fn setup_of(hasher: Shared<Same>) -> Setup<Shared<Same>>
     ensures { (result.capacity ≡ 0) × (result.maximum ≡ 256) × (result.hasher ≡ hasher) }
 {
@@ -49,7 +49,7 @@ fn setup_of(hasher: Shared<Same>) -> Setup<Shared<Same>>
     }
 }
 
-// Plays calls of a map under two ledgers. Fails if memory or a thread is refused.
+/// Plays calls of a map under two ledgers. Fails if memory or a thread is refused.
 fn play_map_in<L, M, R>(
     rt: &R,
     alloc: Global,
@@ -113,7 +113,7 @@ pub(crate) fn play_map<R: Threads + Wait + Sync>(
     )
 }
 
-// Plays calls of a set under two ledgers. Fails if memory or a thread is refused.
+/// Plays calls of a set under two ledgers. Fails if memory or a thread is refused.
 fn play_set_in<L, M, R>(
     rt: &R,
     alloc: Global,
@@ -177,7 +177,7 @@ pub(crate) fn play_set<R: Threads + Wait + Sync>(
     )
 }
 
-// Plays calls of an index under two ledgers. Fails if memory or a thread is refused.
+/// Plays calls of an index under two ledgers. Fails if memory or a thread is refused.
 fn play_index_in<L, M, R>(
     rt: &R,
     alloc: Global,
@@ -241,7 +241,7 @@ pub(crate) fn play_index<R: Threads + Wait + Sync>(
     )
 }
 
-// Plays calls of a cache under two ledgers. Fails if memory or a thread is refused.
+/// Plays calls of a cache under two ledgers. Fails if memory or a thread is refused.
 fn play_cache_in<L, M, R>(
     rt: &R,
     alloc: Global,

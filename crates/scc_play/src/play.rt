@@ -63,7 +63,7 @@ enum Unread {
     Stream,
 }
 
-// Reads the whole script.
+/// Reads the whole script.
 fn read_script<R: Read>(alloc: Global, reader: &mut R) -> Result<Vec<u8>, Unread>
     ensures { IfOk result (λ script. IfSome (R.remaining reader.old) (λ bytes. script.items ≡ bytes)) }
 {
@@ -91,14 +91,14 @@ struct Answer {
     status: u8,
 }
 
-// Returns the text for a script whose line `number`, counted from 1, isn't in the grammar. Fails if memory is refused.
+/// Returns the text for a script whose line `number`, counted from 1, isn't in the grammar. Fails if memory is refused.
 fn bad_call_text(alloc: Global, number: usize) -> Result<String, AllocError>
     ensures { IfOk result (λ text. string_bytes text ≡ bad_line_text number) }
 {
     format!(in alloc; "line {number}: bad call\n")
 }
 
-// Returns the text for a run that was not finished. Fails if memory is refused.
+/// Returns the text for a run that was not finished. Fails if memory is refused.
 fn unfinished_text(alloc: Global, cause: Cause) -> Result<String, AllocError>
     ensures { IfOk result (λ text. string_bytes text ≡ finish_text cause) }
 {
@@ -109,7 +109,7 @@ fn unfinished_text(alloc: Global, cause: Cause) -> Result<String, AllocError>
     }
 }
 
-// Returns the answer to a script whose run is over. Fails if memory is refused.
+/// Returns the answer to a script whose run is over. Fails if memory is refused.
 fn answer_end(alloc: Global, end: End) -> Result<Answer, AllocError>
     ensures { IfOk result (λ a. MatchEnd end (λ text. (a.status ≡ 0) × (string_bytes a.text ≡ text))
         (λ cause. (a.status ≡ 5) × (string_bytes a.text ≡ finish_text cause))
@@ -131,7 +131,7 @@ fn answer_end(alloc: Global, end: End) -> Result<Answer, AllocError>
     }
 }
 
-// Plays a script of a map, and returns its answer.
+/// Plays a script of a map, and returns its answer.
 fn answer_map<R: Threads + Wait + Sync>(
     rt: &R,
     alloc: Global,
@@ -147,7 +147,7 @@ fn answer_map<R: Threads + Wait + Sync>(
     answer_end(alloc, play_map(rt, alloc, workers, stripes, calls)?)
 }
 
-// Plays a script of a set, and returns its answer.
+/// Plays a script of a set, and returns its answer.
 fn answer_set<R: Threads + Wait + Sync>(
     rt: &R,
     alloc: Global,
@@ -163,7 +163,7 @@ fn answer_set<R: Threads + Wait + Sync>(
     answer_end(alloc, play_set(rt, alloc, workers, stripes, calls)?)
 }
 
-// Plays a script of an index, and returns its answer.
+/// Plays a script of an index, and returns its answer.
 fn answer_index<R: Threads + Wait + Sync>(
     rt: &R,
     alloc: Global,
@@ -179,7 +179,7 @@ fn answer_index<R: Threads + Wait + Sync>(
     answer_end(alloc, play_index(rt, alloc, workers, stripes, calls)?)
 }
 
-// Plays a script of a cache, and returns its answer.
+/// Plays a script of a cache, and returns its answer.
 fn answer_cache<R: Threads + Wait + Sync>(
     rt: &R,
     alloc: Global,
@@ -195,7 +195,7 @@ fn answer_cache<R: Threads + Wait + Sync>(
     answer_end(alloc, play_cache(rt, alloc, workers, stripes, calls)?)
 }
 
-// Makes the calls of a script and returns the answer, or the answer that names its first bad line.
+/// Makes the calls of a script and returns the answer, or the answer that names its first bad line.
 fn answer_by_kind<R: Threads + Wait + Sync>(
     rt: &R,
     alloc: Global,
@@ -225,7 +225,7 @@ fn answer_by_kind<R: Threads + Wait + Sync>(
     }
 }
 
-// Checks the whole script, then makes its calls, and returns the answer.
+/// Checks the whole script, then makes its calls, and returns the answer.
 fn answer_script<R: Threads + Wait + Sync>(
     rt: &R,
     alloc: Global,
@@ -237,7 +237,7 @@ fn answer_script<R: Threads + Wait + Sync>(
     answer_by_kind(rt, alloc, script)
 }
 
-// Writes `text`, and returns `status`, or `STREAM_FAILED` if the write fails.
+/// Writes `text`, and returns `status`, or `STREAM_FAILED` if the write fails.
 fn finish<W: Write>(writer: &mut W, text: &str, status: u8) -> u8
     ensures status { (result ≡ status) ⊎ (result ≡ 4) }
     ensures bytes { result ≢ 4 → Appends (W.contents writer.old) (W.contents writer.new) text.now }
@@ -248,7 +248,7 @@ fn finish<W: Write>(writer: &mut W, text: &str, status: u8) -> u8
     status
 }
 
-// Writes to `errors` the first bad line with its reason, if `status` is `BAD_CALL`. A write that fails is passed over.
+/// Writes to `errors` the first bad line with its reason, if `status` is `BAD_CALL`. A write that fails is passed over.
 fn explain<E: Write>(script: &[u8], status: u8, errors: &mut E) {
     if status == BAD_CALL {
         if let Some(bad) = bad_line_of(script) {

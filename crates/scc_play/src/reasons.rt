@@ -51,14 +51,14 @@ pub struct BadLine<'a> {
 /// The greatest number of bytes of a field that a text shows.
 const SHOWN: usize = 40;
 
-// Writes the first bytes of a field between quotes. A byte that isn't a visible ASCII character is escaped.
+/// Writes the first bytes of a field between quotes. A byte that isn't a visible ASCII character is escaped.
 fn write_field<W: Write>(f: &mut Formatter<W>, field: &[u8]) -> fmt::Result {
     let shown = field.get(..SHOWN).unwrap_or(field);
     let dots = if field.len() > SHOWN { ".." } else { "" };
     write!(f, "'{}{dots}'", shown.escape_ascii())
 }
 
-// Returns the kind with its article.
+/// Returns the kind with its article.
 fn a_kind(kind: Kind) -> &'static str {
     match kind {
         Kind::Map => "a map",
@@ -68,7 +68,7 @@ fn a_kind(kind: Kind) -> &'static str {
     }
 }
 
-// Returns the numbers of stripes that a container of the kind may have.
+/// Returns the numbers of stripes that a container of the kind may have.
 fn stripes_of(kind: Kind) -> &'static str {
     match kind {
         Kind::Cache => "1, 2 or 4",
@@ -143,12 +143,12 @@ fn is_line_feed(byte: &u8) -> bool {
     *byte == b'\n'
 }
 
-// Returns whether some field of `line` is empty.
+/// Returns whether some field of `line` is empty.
 fn has_empty_field(line: &[u8]) -> bool {
     line.split(is_space).any(|field| field.is_empty())
 }
 
-// Returns the number of arguments of the call named `name`, or `None` if there is no such call.
+/// Returns the number of arguments of the call named `name`, or `None` if there is no such call.
 fn arguments_of<C: Named>(name: &[u8]) -> Option<usize> {
     if C::bare(name).is_some() {
         Some(0)
@@ -161,7 +161,7 @@ fn arguments_of<C: Named>(name: &[u8]) -> Option<usize> {
     }
 }
 
-// Returns why `name` names no call of the kind.
+/// Returns why `name` names no call of the kind.
 fn reason_of_name(kind: Kind, name: &[u8]) -> Reason<'_> {
     let is_known = arguments_of::<MapCall<u64, u64>>(name).is_some()
         || arguments_of::<SetCall<u64>>(name).is_some()
@@ -174,8 +174,8 @@ fn reason_of_name(kind: Kind, name: &[u8]) -> Reason<'_> {
     }
 }
 
-// Returns why the arguments behind the first two fields of `line` aren't those of the call named `name`, which takes
-// `number` of them.
+/// Returns why the arguments behind the first two fields of `line` aren't those of the call named `name`, which takes
+/// `number` of them.
 fn reason_of_arguments<'a>(line: &'a [u8], name: &'a [u8], number: usize) -> Reason<'a> {
     if line.split(is_space).skip(2).count() != number {
         return Reason::Arguments(name, number);
@@ -188,7 +188,7 @@ fn reason_of_arguments<'a>(line: &'a [u8], name: &'a [u8], number: usize) -> Rea
     Reason::Other
 }
 
-// Returns why `line` is no call by one of the workers.
+/// Returns why `line` is no call by one of the workers.
 fn reason_of_call<C: Named>(kind: Kind, workers: usize, line: &[u8]) -> Reason<'_> {
     if has_empty_field(line) {
         return Reason::EmptyField;
@@ -210,7 +210,7 @@ fn reason_of_call<C: Named>(kind: Kind, workers: usize, line: &[u8]) -> Reason<'
     }
 }
 
-// Returns the first line behind the header that isn't in the grammar, or `None` if all are.
+/// Returns the first line behind the header that isn't in the grammar, or `None` if all are.
 fn bad_call<C: Named>(header: Header, script: &[u8]) -> Option<BadLine<'_>> {
     for (place, line) in script.split(is_line_feed).enumerate().skip(1) {
         let line = without_return(line);
@@ -224,7 +224,7 @@ fn bad_call<C: Named>(header: Header, script: &[u8]) -> Option<BadLine<'_>> {
     None
 }
 
-// Returns the kind that `field` names, or `None` if there is none.
+/// Returns the kind that `field` names, or `None` if there is none.
 fn kind_of(field: &[u8]) -> Option<Kind> {
     if field == b"map".as_slice() {
         Some(Kind::Map)
@@ -239,7 +239,7 @@ fn kind_of(field: &[u8]) -> Option<Kind> {
     }
 }
 
-// Returns why `line` is no header.
+/// Returns why `line` is no header.
 fn reason_of_header(line: &[u8]) -> Reason<'_> {
     if line.is_empty() {
         return Reason::EmptyHeader;

@@ -9,7 +9,7 @@ use scc_print::printed::Printed;
 use scc_script::line::WorkerCall;
 use std::alloc::{AllocError, Global};
 
-// Returns the calls of worker `worker`, in their order. Fails if memory is refused.
+/// Returns the calls of worker `worker`, in their order. Fails if memory is refused.
 pub(crate) fn calls_of<P: Printed>(
     alloc: Global,
     worker: usize,
@@ -26,7 +26,7 @@ pub(crate) fn calls_of<P: Printed>(
     Ok(own)
 }
 
-// Returns whether all receipts are of the call `call`.
+/// Returns whether all receipts are of the call `call`.
 fn are_all_of<P: Printed>(call: &P::Call, receipts: &[Receipt<P::Call, P::Reply>]) -> bool
     ensures { result ≡ true → AllByRecursion (λ r. r.call ≡ call.now) receipts.now }
 {
@@ -38,7 +38,7 @@ fn are_all_of<P: Printed>(call: &P::Call, receipts: &[Receipt<P::Call, P::Reply>
     true
 }
 
-// Returns whether the receipts are of one stripe after another, stripe 0 first.
+/// Returns whether the receipts are of one stripe after another, stripe 0 first.
 fn are_in_order<A, R>(receipts: &[Receipt<A, R>]) -> bool
     ensures { result ≡ true → AreInOrder receipts.now }
 {
@@ -50,7 +50,7 @@ fn are_in_order<A, R>(receipts: &[Receipt<A, R>]) -> bool
     true
 }
 
-// Returns the sum of the numbers in the replies of `receipts`, at most `usize::MAX`.
+/// Returns the sum of the numbers in the replies of `receipts`, at most `usize::MAX`.
 fn sum_of<P: Printed>(receipts: &[Receipt<P::Call, P::Reply>]) -> usize
     ensures { result ≡ min 18446744073709551615 (sum_by (λ r. number_or_zero (P.counted r.reply)) receipts.now) }
 {
@@ -61,7 +61,7 @@ fn sum_of<P: Printed>(receipts: &[Receipt<P::Call, P::Reply>]) -> usize
     sum
 }
 
-// Returns the reply to a call of all stripes, from the receipts of the stripes.
+/// Returns the reply to a call of all stripes, from the receipts of the stripes.
 fn joint_reply<P: Printed>(receipts: &[Receipt<P::Call, P::Reply>]) -> P::Reply
     requires { 0 < length receipts.now }
     ensures { IsJoint P.key_of P.counted P.count_reply (map (λ r. r.reply) receipts.now) result }
@@ -75,7 +75,7 @@ fn joint_reply<P: Printed>(receipts: &[Receipt<P::Call, P::Reply>]) -> P::Reply
     }
 }
 
-// Returns the reply to `call`, or `None` if `receipts` are not the receipts that `call` must have.
+/// Returns the reply to `call`, or `None` if `receipts` are not the receipts that `call` must have.
 fn reply_of<P: Printed>(
     stripes: usize,
     call: &P::Call,
@@ -105,7 +105,7 @@ fn reply_of<P: Printed>(
     }
 }
 
-// Returns the number of records that `call` makes.
+/// Returns the number of records that `call` makes.
 fn record_count<P: Printed>(stripes: usize, call: &P::Call) -> usize {
     match P::key(call) {
         Some(_) => 1,
@@ -113,8 +113,8 @@ fn record_count<P: Printed>(stripes: usize, call: &P::Call) -> usize {
     }
 }
 
-// Returns the replies to the calls of a worker, or `None` if `receipts` are not the receipts that these calls must
-// have. Fails if memory is refused.
+/// Returns the replies to the calls of a worker, or `None` if `receipts` are not the receipts that these calls must
+/// have. Fails if memory is refused.
 pub(crate) fn replies_of<P: Printed>(
     alloc: Global,
     stripes: usize,

@@ -14,7 +14,7 @@ use scc_print::texts::output_text;
 use scc_recorded::Finished;
 use std::alloc::{AllocError, Global};
 
-// Returns whether each call of `history` was made by a worker below `workers`.
+/// Returns whether each call of `history` was made by a worker below `workers`.
 fn is_known<A, R>(workers: usize, history: &[Step<A, R>]) -> bool
     ensures { result ≡ true → AllByRecursion (IsMadeBy workers) history.now }
 {
@@ -28,7 +28,7 @@ fn is_known<A, R>(workers: usize, history: &[Step<A, R>]) -> bool
     true
 }
 
-// Returns whether each call of all `histories` was made by a worker below `workers`.
+/// Returns whether each call of all `histories` was made by a worker below `workers`.
 fn are_known<A, R>(workers: usize, histories: &[Vec<Step<A, R>>]) -> bool
     ensures { result ≡ true → AllByRecursion (AllByRecursion (IsMadeBy workers)) (map (λ h. h.items) histories.now) }
 {
@@ -40,7 +40,7 @@ fn are_known<A, R>(workers: usize, histories: &[Vec<Step<A, R>>]) -> bool
     true
 }
 
-// Returns whether all numbers are 0.
+/// Returns whether all numbers are 0.
 fn are_none(numbers: &[usize]) -> bool
     ensures { result ≡ true → AllByRecursion (λ n. n ≡ 0) numbers.now }
 {
@@ -52,7 +52,7 @@ fn are_none(numbers: &[usize]) -> bool
     true
 }
 
-// Returns the contents of all parts, in rising order. Fails if memory is refused.
+/// Returns the contents of all parts, in rising order. Fails if memory is refused.
 fn sorted_items<P: Printed + Drop>(alloc: Global, parts: Vec<P>) -> Result<Vec<P::Item>, AllocError>
     ensures same { IfOk result (λ items. IsPermutation (flat_map P.shown parts.items) items.items) }
     ensures rising { IfOk result (λ items. IsSorted P.Item.cmp items.items) }

@@ -19,7 +19,7 @@ pub(crate) struct Worker<'a, P: Printed, L: Ledger, M: Site<P::Hasher>, R: Wait>
     pass: Pass<P, L>,
 }
 
-// Makes a call on one stripe or on all stripes. Returns false if the call is refused.
+/// Makes a call on one stripe or on all stripes. Returns false if the call is refused.
 fn make_call<P: Printed, L: Ledger, M: Site<P::Hasher>, R: Wait>(
     rt: &R,
     recorded: &Recorded<P, L, M>,

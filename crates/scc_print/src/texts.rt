@@ -9,7 +9,7 @@ use scc_calls::Reply;
 use std::alloc::{AllocError, Global};
 use std::fmt::Write;
 
-// Adds `word value` to `output`, or `none` if there is no value. Fails if memory is refused.
+/// Adds `word value` to `output`, or `none` if there is no value. Fails if memory is refused.
 fn add_value(output: &mut String, word: &str, value: Option<u64>) -> Result<(), AllocError>
     ensures { OnOk result (string_bytes output.new ≡ string_bytes output.old ++ value_line word.now value) }
 {
@@ -19,7 +19,7 @@ fn add_value(output: &mut String, word: &str, value: Option<u64>) -> Result<(), 
     }
 }
 
-// Adds `word` and the pair to `output`, or `missing` if there is no pair. Fails if memory is refused.
+/// Adds `word` and the pair to `output`, or `missing` if there is no pair. Fails if memory is refused.
 fn add_pair(
     output: &mut String,
     word: &str,
@@ -34,7 +34,7 @@ fn add_pair(
     }
 }
 
-// Adds the line of a reply to `output`. Fails if memory is refused.
+/// Adds the line of a reply to `output`. Fails if memory is refused.
 pub(crate) fn add_reply_line(output: &mut String, reply: Reply<u64, u64>) -> Result<(), AllocError>
     ensures { OnOk result (string_bytes output.new ≡ string_bytes output.old ++ reply_line reply) }
 {
@@ -51,7 +51,7 @@ pub(crate) fn add_reply_line(output: &mut String, reply: Reply<u64, u64>) -> Res
     }
 }
 
-// Adds the line of a set's reply to `output`. Fails if memory is refused.
+/// Adds the line of a set's reply to `output`. Fails if memory is refused.
 pub(crate) fn add_key_reply_line(
     output: &mut String,
     reply: Reply<u64, ()>,
@@ -68,7 +68,7 @@ pub(crate) fn add_key_reply_line(
     }
 }
 
-// Adds the line of a worker to `output`, and a line for each of its replies. Fails if memory is refused.
+/// Adds the line of a worker to `output`, and a line for each of its replies. Fails if memory is refused.
 fn add_worker<P: Printed>(
     output: &mut String,
     worker: usize,
@@ -84,7 +84,7 @@ fn add_worker<P: Printed>(
     Ok(())
 }
 
-// Adds the lines of all workers to `output`, from worker 0 on. Fails if memory is refused.
+/// Adds the lines of all workers to `output`, from worker 0 on. Fails if memory is refused.
 fn add_workers<P: Printed>(output: &mut String, replies: &[Vec<P::Reply>]) -> Result<(), AllocError>
     ensures { OnOk result (string_bytes output.new
         ≡ string_bytes output.old ++ workers_text P.reply_line 0 (map (λ v. v.items) replies.now)) }
@@ -95,7 +95,7 @@ fn add_workers<P: Printed>(output: &mut String, replies: &[Vec<P::Reply>]) -> Re
     Ok(())
 }
 
-// Adds the number of items to `output`, and a line for each item. Fails if memory is refused.
+/// Adds the number of items to `output`, and a line for each item. Fails if memory is refused.
 fn add_contents<P: Printed>(output: &mut String, items: &[P::Item]) -> Result<(), AllocError>
     ensures { OnOk result (string_bytes output.new ≡ string_bytes output.old ++ contents_text P.item_line items.now) }
 {

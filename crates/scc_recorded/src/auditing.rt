@@ -36,7 +36,7 @@ impl<C: Calls, L: Ledger, M: Site<C::Hasher>> Closed<C, L, M> {
 }
 
 impl<C: Calls, L: Ledger> Pass<C, L> {
-    // Proves that the total of `book` is the number of all receipts.
+    /// Proves that the total of `book` is the number of all receipts.
     fn audit_all(passes: &mut [Pass<C, L>], book: &mut Book<L>)
         requires { (length passes.old ≡ L.parts) × (0 < L.parts) }
         ensures total { book.old.total ≡ sum_by (λ p. length p.log.receipts.items) passes.old }
@@ -48,7 +48,7 @@ impl<C: Calls, L: Ledger> Pass<C, L> {
         Pass::audit_from(passes, book, &mut seen);
     }
 
-    // Adds the share of each pass to `seen`, audits the book once all shares are there, and gives the shares back.
+    /// Adds the share of each pass to `seen`, audits the book once all shares are there, and gives the shares back.
     fn audit_from(passes: &mut [Pass<C, L>], book: &mut Book<L>, seen: &mut Share<L>)
         requires parts { seen.old.parts + length passes.old ≡ L.parts }
         requires backed { (seen.old.parts ≡ 0) → (seen.old.amount ≡ 0) }
@@ -72,7 +72,7 @@ impl<C: Calls, L: Ledger> Pass<C, L> {
 }
 
 impl<C: Calls, M: Site<C::Hasher>> CountedStripe<C, M> {
-    // Proves that the total of `book` is the number of all call records.
+    /// Proves that the total of `book` is the number of all call records.
     fn audit_all(stripes: &mut [CountedStripe<C, M>], book: &mut Book<M>)
         requires { (length stripes.old ≡ M.parts) × (0 < M.parts) }
         ensures total { book.old.total ≡ sum_by (λ s. calls_in s.stripe.history.items) stripes.old }
@@ -84,7 +84,7 @@ impl<C: Calls, M: Site<C::Hasher>> CountedStripe<C, M> {
         CountedStripe::audit_from(stripes, book, &mut seen);
     }
 
-    // Adds the share of each stripe to `seen`, audits the book once all shares are there, and gives the shares back.
+    /// Adds the share of each stripe to `seen`, audits the book once all shares are there, and gives the shares back.
     fn audit_from(stripes: &mut [CountedStripe<C, M>], book: &mut Book<M>, seen: &mut Share<M>)
         requires parts { seen.old.parts + length stripes.old ≡ M.parts }
         requires backed { (seen.old.parts ≡ 0) → (seen.old.amount ≡ 0) }

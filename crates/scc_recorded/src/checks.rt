@@ -14,7 +14,7 @@ use scc_history::{Histories, Receipt, first_difference};
 use std::alloc::{AllocError, Global};
 use std::sync::ledger::Ledger;
 
-// Returns whether the numbers of the passes are the numbers below `count`, each once. Fails if memory is refused.
+/// Returns whether the numbers of the passes are the numbers below `count`, each once. Fails if memory is refused.
 pub(crate) fn are_all<C: Calls, L: Ledger>(
     alloc: Global,
     passes: &[Pass<C, L>],
@@ -36,7 +36,7 @@ pub(crate) fn are_all<C: Calls, L: Ledger>(
     Ok(true)
 }
 
-// Returns stripe and index of the first call that doesn't stand in its own stripe, or `None` if there is none.
+/// Returns stripe and index of the first call that doesn't stand in its own stripe, or `None` if there is none.
 pub(crate) fn misrouted<C: Calls, M: Site<C::Hasher>>(
     hasher: &C::Hasher,
     stripes: &[CountedStripe<C, M>],
@@ -58,7 +58,7 @@ pub(crate) fn misrouted<C: Calls, M: Site<C::Hasher>>(
     None
 }
 
-// Returns the index of the first call in `history` that doesn't route to stripe `part`, or `None` if there is none.
+/// Returns the index of the first call in `history` that doesn't route to stripe `part`, or `None` if there is none.
 fn misplaced<C: Calls>(
     hasher: &C::Hasher,
     count: usize,
@@ -104,8 +104,8 @@ fn is_placed<C: Calls>(
     }
 }
 
-// Returns the least number of a pass whose receipts differ from its records, with the first place at which they
-// differ. Returns `None` if there is no such pass.
+/// Returns the least number of a pass whose receipts differ from its records, with the first place at which they
+/// differ. Returns `None` if there is no such pass.
 pub(crate) fn first_disagreement<'b, 'a: 'b, C: Calls, L: Ledger>(
     passes: &'b [Pass<C, L>],
     records: &'b [Vec<Receipt<&'a C::Call, &'a C::Reply>>],
@@ -126,8 +126,8 @@ pub(crate) fn first_disagreement<'b, 'a: 'b, C: Calls, L: Ledger>(
     first
 }
 
-// Returns the disagreement of the pass with the lesser number. `first` is the least one so far; `found` is the place
-// in pass `number`, if it has one.
+/// Returns the disagreement of the pass with the lesser number. `first` is the least one so far; `found` is the place
+/// in pass `number`, if it has one.
 fn lesser(
     first: Option<(usize, usize)>,
     number: usize,

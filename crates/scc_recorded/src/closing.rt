@@ -99,7 +99,7 @@ impl<C: Calls, M: Site<C::Hasher>> Histories for CountedStripe<C, M> {
 }
 
 impl<C: Calls, M: Site<C::Hasher>> CountedStripe<C, M> {
-    // Returns the container, the history and the number of buckets at opening.
+    /// Returns the container, the history and the number of buckets at opening.
     pub(crate) fn into_parts(self) -> (C, Vec<Step<C::Call, C::Reply>>, usize)
         ensures { (result.0 ≡ self.stripe.container) × (result.1 ≡ self.stripe.history)
             × (result.2 ≡ self.stripe.opened) }
@@ -124,7 +124,7 @@ pub struct StripeRoom<C: Calls, M: Site<C::Hasher>> {
     pub ghost reserved: { M.all ≤ vec_capacity list },
 }
 
-// Returns an empty list with room for `count` items. Fails if memory is refused.
+/// Returns an empty list with room for `count` items. Fails if memory is refused.
 pub(crate) fn list_for<T>(alloc: Global, count: usize) -> Result<Vec<T>, AllocError>
     ensures { IfOk result (λ v. (v.items ≡ []) × (count ≤ vec_capacity v)) }
 {

@@ -30,7 +30,7 @@ pub struct CountedStripe<C: Calls, M: Site<C::Hasher>> {
 }
 
 impl<C: Calls, M: Site<C::Hasher>> CountedStripe<C, M> {
-    // Returns an empty stripe, which takes one part of the ledger from `all`. Fails if memory is refused.
+    /// Returns an empty stripe, which takes one part of the ledger from `all`. Fails if memory is refused.
     pub(crate) fn open(
         alloc: Global,
         number: usize,
@@ -57,7 +57,7 @@ impl<C: Calls, M: Site<C::Hasher>> CountedStripe<C, M> {
         Ok(CountedStripe { stripe, ledger })
     }
 
-    // Makes one recorded call on the stripe, whose number is `number`, and counts it in both books.
+    /// Makes one recorded call on the stripe, whose number is `number`, and counts it in both books.
     pub(crate) fn call_counted<L: Ledger, R: Wait>(
         &mut self,
         rt: &R,
@@ -107,7 +107,7 @@ pub struct PartCount<L: Ledger> {
 }
 
 impl<L: Ledger> PartCount<L> {
-    // Returns `count`, the number of the ledger's parts.
+    /// Returns `count`, the number of the ledger's parts.
     pub(crate) fn new(count: usize) -> PartCount<L>
         requires all { count ≡ L.parts }
         requires some { 0 < count }
@@ -129,14 +129,14 @@ pub struct Count<L: Ledger, M: Ledger> {
 }
 
 impl<L: Ledger, M: Ledger> Count<L, M> {
-    // Returns two books whose totals are 0.
+    /// Returns two books whose totals are 0.
     pub(crate) fn new(receipts: Book<L>, records: Book<M>) -> Count<L, M>
         requires { (receipts.total ≡ 0) × (records.total ≡ 0) }
     {
         Count { receipts, records }
     }
 
-    // Counts one receipt and one record.
+    /// Counts one receipt and one record.
     pub(crate) fn add(&mut self, pass: &mut Share<L>, stripe: &mut Share<M>)
         requires { (0 < pass.old.parts) × (0 < stripe.old.parts) }
         ensures pass { (pass.new.parts ≡ pass.old.parts) × (pass.new.amount ≡ pass.old.amount + 1) }

@@ -72,7 +72,7 @@ where
         closed.finish_counted(passes)
     }
 
-    // Proves that there are as many call records as receipts, if there are as many passes as were handed out.
+    /// Proves that there are as many call records as receipts, if there are as many passes as were handed out.
     fn count(&mut self, passes: &mut Vec<Pass<C, L>>)
         ensures same { (self.new ≡ self.old) × (passes.new ≡ passes.old) }
         ensures equal { AreAll self.old.passes (map (λ p. p.log.number) passes.old.items)
@@ -84,8 +84,8 @@ where
         }
     }
 
-    // Returns what the run was, as `finish` does. There must be as many call records as receipts if the passes are
-    // all.
+    /// Returns what the run was, as `finish` does. There must be as many call records as receipts if the passes are
+    /// all.
     fn finish_counted(self, passes: Vec<Pass<C, L>>) -> Result<Finished<C>, Unfinished<C, L, M>>
         requires { AreAll self.passes (map (λ p. p.log.number) passes.items)
             → sum_by (λ s. calls_in s.stripe.history.items) self.stripes.items
@@ -139,7 +139,7 @@ where
         })
     }
 
-    // Returns the stamp order if nothing speaks against the run, else the first cause against it.
+    /// Returns the stamp order if nothing speaks against the run, else the first cause against it.
     fn order_of(&self, passes: &[Pass<C, L>]) -> Result<Vec<(usize, usize)>, FinishError>
         ensures complete { IfOk result (λ v. AreAll self.now.passes (map (λ p. p.log.number) passes.now)) }
         ensures routed { IfOk result (λ v. CallsRouted C.key_of
@@ -201,7 +201,7 @@ where
     }
 }
 
-// Moves the containers, the histories and the numbers of buckets at opening of all stripes to the three lists.
+/// Moves the containers, the histories and the numbers of buckets at opening of all stripes to the three lists.
 fn move_out<C: Calls + Drop, M: Site<C::Hasher>>(
     stripes: Vec<CountedStripe<C, M>>,
     parts: &mut Vec<C>,

@@ -67,7 +67,7 @@ pub(crate) struct LockedStripe<C: Calls, M: Site<C::Hasher>> {
 }
 
 impl<C: Calls, M: Site<C::Hasher>> LockedStripe<C, M> {
-    // Makes one recorded call on the stripe. The receipt has the number of the stripe.
+    /// Makes one recorded call on the stripe. The receipt has the number of the stripe.
     pub(crate) fn call_locked<L: Ledger, R: Wait>(
         &self,
         rt: &R,
@@ -96,7 +96,7 @@ impl<C: Calls, M: Site<C::Hasher>> LockedStripe<C, M> {
 }
 
 impl<C: Calls, L: Ledger, M: Site<C::Hasher>> Recorded<C, L, M> {
-    // Returns stripe `i`.
+    /// Returns stripe `i`.
     pub(crate) fn locked_stripe(&self, i: usize) -> &LockedStripe<C, M>
         requires { i < self.now.stripes }
         ensures { result.now.number ≡ i }

@@ -75,7 +75,7 @@ where
     }
 }
 
-// Returns `passes` passes without receipts, numbered from 0. Fails if memory is refused.
+/// Returns `passes` passes without receipts, numbered from 0. Fails if memory is refused.
 fn pass_all<C: Calls, L: Ledger>(
     alloc: Global,
     passes: usize,
@@ -96,8 +96,8 @@ fn pass_all<C: Calls, L: Ledger>(
     Ok(handed)
 }
 
-// Returns `stripes` empty stripes, each behind a lock. Fails if memory is refused, or if the hasher can't be shared
-// with one more owner.
+/// Returns `stripes` empty stripes, each behind a lock. Fails if memory is refused, or if the hasher can't be shared
+/// with one more owner.
 fn lock_all<C: Calls + Drop, M: Site<C::Hasher>>(
     alloc: Global,
     skipped: u32,

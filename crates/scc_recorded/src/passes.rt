@@ -46,7 +46,7 @@ impl<C: Calls, L: Ledger> Pass<C, L> {
         self.log.told(&other.log);
     }
 
-    // Returns a pass without receipts, which takes one part of the ledger from `all`.
+    /// Returns a pass without receipts, which takes one part of the ledger from `all`.
     pub(crate) fn open(alloc: Global, number: usize, all: &mut Share<L>) -> Pass<C, L>
         requires part { (0 < all.old.parts) × (all.old.amount ≡ 0) }
         ensures log { (result.log.number ≡ number) × (result.log.clock ≡ 0) × (result.log.receipts.items ≡ []) }

@@ -17,7 +17,7 @@ pub struct Setup<H> {
     pub hasher: H,
 }
 
-// Returns how many first bits of a hash name one of `stripes` stripes.
+/// Returns how many first bits of a hash name one of `stripes` stripes.
 pub(crate) fn bits_among(stripes: usize) -> u32
     requires { IsStripes stripes }
     ensures bits { result ≡ skipped_for stripes }
@@ -32,7 +32,7 @@ pub(crate) fn bits_among(stripes: usize) -> u32
     }
 }
 
-// Returns the share of one stripe in `slots`, rounded up.
+/// Returns the share of one stripe in `slots`, rounded up.
 pub(crate) fn share_among(slots: usize, stripes: usize) -> usize
     requires { 0 < stripes }
     ensures { result ≡ share_among slots stripes }

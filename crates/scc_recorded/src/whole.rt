@@ -67,7 +67,7 @@ impl<C: WholeCalls, L: Ledger, M: Site<C::Hasher>> Recorded<C, L, M> {
     }
 }
 
-// Returns the sum of the numbers in the replies of `receipts`, at most `usize::MAX`.
+/// Returns the sum of the numbers in the replies of `receipts`, at most `usize::MAX`.
 fn sum_of<C: WholeCalls>(receipts: &[Receipt<C::Call, C::Reply>]) -> usize
     ensures { result ≡ min 18446744073709551615 (sum_by (λ r. number_or_zero (C.counted r.reply)) receipts.now) }
 {

@@ -30,7 +30,7 @@ pub struct WorkerCall<C> {
     pub call: C,
 }
 
-// Returns the call named `name` whose arguments are the fields of `arguments`, or `None` if there is no such call.
+/// Returns the call named `name` whose arguments are the fields of `arguments`, or `None` if there is no such call.
 fn call_with<C: Named>(name: &[u8], arguments: &[u8]) -> Option<C>
     ensures { result ≡ call_of_arguments C.names name.now (parts 32 arguments.now) }
 {
@@ -43,7 +43,7 @@ fn call_with<C: Named>(name: &[u8], arguments: &[u8]) -> Option<C>
     }
 }
 
-// Returns the call whose name and arguments are the fields of `text`, or `None` if there is no such call.
+/// Returns the call whose name and arguments are the fields of `text`, or `None` if there is no such call.
 fn named_call<C: Named>(text: &[u8]) -> Option<C>
     ensures { result ≡ call_of_name C.names (parts 32 text.now) }
 {
@@ -73,7 +73,7 @@ pub fn parse_line<C: Named>(line: &[u8], workers: usize) -> Option<WorkerCall<C>
     }
 }
 
-// Returns the kind named `name`, or `None` if there is no such kind.
+/// Returns the kind named `name`, or `None` if there is no such kind.
 fn kind_named(name: &[u8]) -> Option<Kind>
     ensures { result ≡ kind_of_name name.now }
 {
@@ -90,7 +90,7 @@ fn kind_named(name: &[u8]) -> Option<Kind>
     }
 }
 
-// Returns whether a container of the kind may have `stripes` stripes.
+/// Returns whether a container of the kind may have `stripes` stripes.
 fn may_divide(kind: Kind, stripes: usize) -> bool
     ensures value { result ≡ is_stripe_count kind stripes }
     ensures some { IsTrue result → IsStripeCount stripes }
@@ -101,7 +101,7 @@ fn may_divide(kind: Kind, stripes: usize) -> bool
     }
 }
 
-// Returns the header of this kind and these numbers, or `None` if the numbers are not allowed.
+/// Returns the header of this kind and these numbers, or `None` if the numbers are not allowed.
 fn header_with(kind: Kind, workers: usize, stripes: usize) -> Option<Header>
     ensures value { result ≡ header_of_numbers kind workers stripes }
     ensures counts { IfSome result (λ h. IsWorkerCount h.workers × IsStripeCount h.stripes) }

@@ -22,8 +22,8 @@ pub trait Named: Copy {
         ensures { result ≡ names.paired name.now key value };
 }
 
-// Returns the one of `len` and `clear` that `name` names, or `None`. All kinds have these two calls without an
-// argument.
+/// Returns the one of `len` and `clear` that `name` names, or `None`. All kinds have these two calls without an
+/// argument.
 fn either_call<C: Copy>(name: &[u8], len: C, clear: C) -> Option<C>
     ensures { result ≡ either len clear name.now }
 {
@@ -36,7 +36,7 @@ fn either_call<C: Copy>(name: &[u8], len: C, clear: C) -> Option<C>
     }
 }
 
-// Returns the map call named `name` that takes a key, or `None` if there is none.
+/// Returns the map call named `name` that takes a key, or `None` if there is none.
 fn map_call_at(name: &[u8], key: u64) -> Option<MapCall<u64, u64>>
     ensures { result ≡ map_keyed name.now key }
 {
@@ -53,7 +53,7 @@ fn map_call_at(name: &[u8], key: u64) -> Option<MapCall<u64, u64>>
     }
 }
 
-// Returns the map call named `name` that takes a key and a value, or `None` if there is none.
+/// Returns the map call named `name` that takes a key and a value, or `None` if there is none.
 fn map_call_of(name: &[u8], key: u64, value: u64) -> Option<MapCall<u64, u64>>
     ensures { result ≡ map_paired name.now key value }
 {
@@ -66,7 +66,7 @@ fn map_call_of(name: &[u8], key: u64, value: u64) -> Option<MapCall<u64, u64>>
     }
 }
 
-// Returns the set call named `name` that takes a key, or `None` if there is none.
+/// Returns the set call named `name` that takes a key, or `None` if there is none.
 fn set_call_at(name: &[u8], key: u64) -> Option<SetCall<u64>>
     ensures { result ≡ set_keyed name.now key }
 {
@@ -85,7 +85,7 @@ fn set_call_at(name: &[u8], key: u64) -> Option<SetCall<u64>>
     }
 }
 
-// Returns the index call named `name` that takes a key, or `None` if there is none.
+/// Returns the index call named `name` that takes a key, or `None` if there is none.
 fn index_call_at(name: &[u8], key: u64) -> Option<IndexCall<u64, u64>>
     ensures { result ≡ index_keyed name.now key }
 {
@@ -100,7 +100,7 @@ fn index_call_at(name: &[u8], key: u64) -> Option<IndexCall<u64, u64>>
     }
 }
 
-// Returns the index call named `name` that takes a key and a value, or `None` if there is none.
+/// Returns the index call named `name` that takes a key and a value, or `None` if there is none.
 fn index_call_of(name: &[u8], key: u64, value: u64) -> Option<IndexCall<u64, u64>>
     ensures { result ≡ index_paired name.now key value }
 {
@@ -113,7 +113,7 @@ fn index_call_of(name: &[u8], key: u64, value: u64) -> Option<IndexCall<u64, u64
     }
 }
 
-// Returns the cache call named `name` that takes a key, or `None` if there is none.
+/// Returns the cache call named `name` that takes a key, or `None` if there is none.
 fn cache_call_at(name: &[u8], key: u64) -> Option<CacheCall<u64, u64>>
     ensures { result ≡ cache_keyed name.now key }
 {
@@ -132,7 +132,7 @@ fn cache_call_at(name: &[u8], key: u64) -> Option<CacheCall<u64, u64>>
     }
 }
 
-// Returns the cache call named `name` that takes a key and a value, or `None` if there is none.
+/// Returns the cache call named `name` that takes a key and a value, or `None` if there is none.
 fn cache_call_of(name: &[u8], key: u64, value: u64) -> Option<CacheCall<u64, u64>>
     ensures { result ≡ cache_paired name.now key value }
 {

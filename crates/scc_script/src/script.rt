@@ -31,8 +31,8 @@ enum Lines<C> {
     BadLine(usize),
 }
 
-// Returns the calls of the lines of `text`, whose first line has the number 2, by `workers` workers. Fails if memory
-// is refused.
+/// Returns the calls of the lines of `text`, whose first line has the number 2, by `workers` workers. Fails if memory
+/// is refused.
 fn parse_calls<C: Named>(alloc: Global, workers: usize, text: &[u8]) -> Result<Lines<C>, AllocError>
     ensures { IfOk result (λ lines. calls_or_line lines ≡ calls_of_lines C.names workers 2 (lines_of text.now)) }
 {
@@ -53,7 +53,7 @@ fn parse_calls<C: Named>(alloc: Global, workers: usize, text: &[u8]) -> Result<L
     Ok(Lines::Calls(calls))
 }
 
-// Returns what the lines behind the header are. Fails if memory is refused.
+/// Returns what the lines behind the header are. Fails if memory is refused.
 fn parse_rest(alloc: Global, header: Header, rest: &[u8]) -> Result<Script, AllocError>
     requires { IsWorkerCount header.workers × IsStripeCount header.stripes }
     ensures value { IfOk result (λ script. meaning_of script

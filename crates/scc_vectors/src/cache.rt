@@ -40,7 +40,7 @@ enum Call {
     Waiting(usize),
 }
 
-// Puts `key` with itself as value. Returns the key that the put evicts, if any, or `None` if the put fails.
+/// Puts `key` with itself as value. Returns the key that the put evicts, if any, or `None` if the put fails.
 fn put(cache: &mut Numbers, key: u64) -> Option<Option<u64>> {
     match cache.put_sync(key, key) {
         Ok(Some(pair)) => Some(Some(pair.0)),
@@ -92,7 +92,7 @@ fn read(cache: &Numbers, key: u64) -> Option<u64> {
     cache.read_sync(&key, |_, value| *value)
 }
 
-// Returns whether `call` returns what it must.
+/// Returns whether `call` returns what it must.
 fn holds(cache: &mut Numbers, call: Call) -> bool {
     match call {
         Call::Fill(first, end) => fill(cache, first, end),
@@ -109,7 +109,7 @@ fn holds(cache: &mut Numbers, call: Call) -> bool {
     }
 }
 
-// Returns the number of the first call that doesn't return what it must.
+/// Returns the number of the first call that doesn't return what it must.
 fn first_other(cache: &mut Numbers, calls: &[Call]) -> Option<usize> {
     for (number, call) in calls.iter().enumerate() {
         if !holds(cache, *call) {
@@ -119,7 +119,7 @@ fn first_other(cache: &mut Numbers, calls: &[Call]) -> Option<usize> {
     None
 }
 
-// Makes `calls` in turn on a cache without an array, of at most `maximum` slots, and checks each result.
+/// Makes `calls` in turn on a cache without an array, of at most `maximum` slots, and checks each result.
 fn expect_calls<R: AllocGlobal + Abort>(rt: &R, hasher: Masked, maximum: usize, calls: &[Call]) {
     match Owned::with_capacity_and_hasher(rt.alloc(), 0, maximum, hasher) {
         Ok(mut cache) => expect_eq(rt, first_other(&mut cache, calls), None),
@@ -157,8 +157,8 @@ fn cache_put_entry_refreshes(rt: HostRuntime) {
     );
 }
 
-// Replacing key 0 and asking for its entry refresh it, so key 32 evicts key 1. `read_sync` and `contains_sync` don't,
-// so key 32 evicts key 0.
+/// Replacing key 0 and asking for its entry refresh it, so key 32 evicts key 1. `read_sync` and `contains_sync` don't,
+/// so key 32 evicts key 0.
 #[test]
 fn cache_which_calls_refresh(rt: HostRuntime) {
     for (call, evicted) in [
@@ -233,14 +233,14 @@ fn cache_get_relocates_its_target(rt: HostRuntime) {
     );
 }
 
-// Returns the capacity and both ends of its range.
+/// Returns the capacity and both ends of its range.
 fn range_of(cache: &Owned<u64, u64>) -> (usize, usize, usize) {
     let range = cache.capacity_range();
     (cache.capacity(), *range.start(), *range.end())
 }
 
-// Returns the capacity and both ends of its range for a cache made with `minimum` and `maximum` slots, or `None` if
-// memory is refused.
+/// Returns the capacity and both ends of its range for a cache made with `minimum` and `maximum` slots, or `None` if
+/// memory is refused.
 fn range_between(alloc: Global, minimum: usize, maximum: usize) -> Option<(usize, usize, usize)> {
     match Owned::with_capacity(alloc, minimum, maximum) {
         Ok(cache) => Some(range_of(&cache)),
@@ -277,7 +277,7 @@ fn cache_try_from_iter_first_wins(rt: HostRuntime) {
     }
 }
 
-// Puts 1, 2 and 3, each with the value 0.
+/// Puts 1, 2 and 3, each with the value 0.
 fn put_three(cache: &mut Owned<u64, u64>) -> bool {
     for key in 1..4 {
         if cache.put_sync(key, 0).is_err() {
@@ -287,7 +287,7 @@ fn put_three(cache: &mut Owned<u64, u64>) -> bool {
     true
 }
 
-// Walks with a closure that writes 9 and returns `verdict` at once. Returns whether the walk stopped.
+/// Walks with a closure that writes 9 and returns `verdict` at once. Returns whether the walk stopped.
 fn write_and_stop(
     cache: &mut Owned<u64, u64>,
     taken: &mut Vec<(u64, u64)>,
@@ -303,7 +303,7 @@ fn write_and_stop(
     ended == Ok(false)
 }
 
-// Returns the number of pairs with the value 9, and the number of pairs with the value 0.
+/// Returns the number of pairs with the value 9, and the number of pairs with the value 0.
 fn nines_and_zeros(cache: &Owned<u64, u64>) -> (usize, usize) {
     let (mut nines, mut zeros) = (0usize, 0usize);
     cache.iter_sync(|_, value| {
@@ -317,7 +317,7 @@ fn nines_and_zeros(cache: &Owned<u64, u64>) -> (usize, usize) {
     (nines, zeros)
 }
 
-// Returns the number of pairs with the value 9.
+/// Returns the number of pairs with the value 9.
 fn nines_of(pairs: &[(u64, u64)]) -> usize {
     let mut nines = 0usize;
     for pair in pairs {
@@ -328,8 +328,8 @@ fn nines_of(pairs: &[(u64, u64)]) -> usize {
     nines
 }
 
-// Puts 1, 2 and 3, and walks with `verdict`. The walk must stop. `wanted` is the number of taken pairs, the number of
-// taken pairs with the value 9, and the numbers of pairs left with the value 9 and with 0.
+/// Puts 1, 2 and 3, and walks with `verdict`. The walk must stop. `wanted` is the number of taken pairs, the number of
+/// taken pairs with the value 9, and the numbers of pairs left with the value 9 and with 0.
 fn expect_stop<R: AllocGlobal + Abort>(rt: &R, verdict: Verdict, wanted: [usize; 4]) {
     let mut cache: Owned<u64, u64> = Owned::new(rt.alloc());
     let mut taken = Vec::new(rt.alloc());
@@ -356,7 +356,7 @@ fn cache_iter_mut_keep_stop_at_first(rt: HostRuntime) {
 
 type Marked = Owned<MaybeEqual, u64, Masked>;
 
-// Puts the keys (i, 100 + i) below `end`, each with the value i. Returns whether each went in without an eviction.
+/// Puts the keys (i, 100 + i) below `end`, each with the value i. Returns whether each went in without an eviction.
 fn put_marked(cache: &mut Marked, end: u64) -> bool {
     for i in 0..end {
         match cache.put_sync(MaybeEqual(i, i.saturating_add(100)), i) {
@@ -367,8 +367,8 @@ fn put_marked(cache: &mut Marked, end: u64) -> bool {
     true
 }
 
-// Replaces a key. Returns the mark of the old key, the mark of the new key and the value, or `None` if the key was
-// missing.
+/// Replaces a key. Returns the mark of the old key, the mark of the new key and the value, or `None` if the key was
+/// missing.
 fn replace(cache: &mut Marked, number: u64, mark: u64) -> Option<(u64, u64, u64)> {
     match cache.replace_sync(MaybeEqual(number, mark)) {
         ReplaceResult::Replaced(entry, old) => Some((old.1, entry.key().1, *entry.get())),
@@ -376,7 +376,7 @@ fn replace(cache: &mut Marked, number: u64, mark: u64) -> Option<(u64, u64, u64)
     }
 }
 
-// Replaces each key below `end` by (i, 200 + i), and returns whether each replacement succeeded.
+/// Replaces each key below `end` by (i, 200 + i), and returns whether each replacement succeeded.
 fn replace_marked(cache: &mut Marked, end: u64) -> bool {
     for i in 0..end {
         let (old, new) = (i.saturating_add(100), i.saturating_add(200));
@@ -387,7 +387,7 @@ fn replace_marked(cache: &mut Marked, end: u64) -> bool {
     true
 }
 
-// Returns whether each key below `end` is stored as (i, 200 + i) with its value.
+/// Returns whether each key below `end` is stored as (i, 200 + i) with its value.
 fn are_replaced(cache: &Marked, end: u64) -> bool {
     for i in 0..end {
         let stored = cache.read_sync(&MaybeEqual(i, 0), |key, value| (key.1, *value));
@@ -413,8 +413,8 @@ fn cache_replace_under_one_hash_keeps_values(rt: HostRuntime) {
     }
 }
 
-// Puts the keys 1 and 2 into both caches in different order, and then 3 into `first`. Returns whether the puts evicted
-// nothing, and whether each cache equals the other, before and after the last put.
+/// Puts the keys 1 and 2 into both caches in different order, and then 3 into `first`. Returns whether the puts evicted
+/// nothing, and whether each cache equals the other, before and after the last put.
 fn compare(first: &mut Numbers, second: &mut Numbers) -> [bool; 6] {
     let filled = fill(first, 1, 3) && fill(second, 2, 3) && fill(second, 1, 2);
     let before = [first == second, second == first];

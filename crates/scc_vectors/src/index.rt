@@ -7,7 +7,7 @@ use std::process::Abort;
 
 const GREATEST: usize = 1 << 63;
 
-// Returns the value of `key`.
+/// Returns the value of `key`.
 fn value_of(index: &Owned<u64, u64>, key: u64) -> Option<u64> {
     index.peek_with(&key, |_, value| *value)
 }
@@ -24,7 +24,7 @@ fn index_try_from_iter_first_wins(rt: HostRuntime) {
     }
 }
 
-// Returns the value of the next version, or `None` after the last.
+/// Returns the value of the next version, or `None` after the last.
 fn next_value(versions: &mut Iter<u64, u64>) -> Option<u64> {
     match versions.next() {
         Some(version) => Some(*version.value()),
@@ -32,7 +32,7 @@ fn next_value(versions: &mut Iter<u64, u64>) -> Option<u64> {
     }
 }
 
-// Sets the value of `key`, and returns whether the key was present and now has `value`.
+/// Sets the value of `key`, and returns whether the key was present and now has `value`.
 fn update(index: &mut Owned<u64, u64>, key: u64, value: u64) -> bool {
     match index.get_sync(&key) {
         Some(mut entry) => entry.update(value).is_ok(),
@@ -40,8 +40,8 @@ fn update(index: &mut Owned<u64, u64>, key: u64, value: u64) -> bool {
     }
 }
 
-// Returns the first three values of a snapshot that is taken before the key's value is updated, and whether the update
-// succeeds.
+/// Returns the first three values of a snapshot that is taken before the key's value is updated, and whether the update
+/// succeeds.
 fn update_beside_snapshot(
     index: &mut Owned<u64, u64>,
     key: u64,
@@ -73,7 +73,7 @@ fn index_snapshot_keeps_old_version(rt: HostRuntime) {
     );
 }
 
-// Removes the first entry and the entry that follows it. Returns both keys, and whether no entry followed the second.
+/// Removes the first entry and the entry that follows it. Returns both keys, and whether no entry followed the second.
 fn take_both(index: &mut Owned<u64, u64>) -> Option<(u64, u64, bool)> {
     let Some(first) = index.begin_sync() else {
         return None;

@@ -118,7 +118,7 @@ fn reserves(map: &mut Numbers, slots: usize, then: (usize, usize)) -> bool {
     }
 }
 
-// Returns whether `call` returns what it must.
+/// Returns whether `call` returns what it must.
 fn holds(map: &mut Numbers, call: Call) -> bool {
     match call {
         Call::Fill(first, end) => fill(map, first, end),
@@ -134,7 +134,7 @@ fn holds(map: &mut Numbers, call: Call) -> bool {
     }
 }
 
-// Returns whether `call`, a call on all pairs, returns what it must.
+/// Returns whether `call`, a call on all pairs, returns what it must.
 fn holds_of_all(map: &mut Numbers, call: Call) -> bool {
     match call {
         Call::WriteTwos => {
@@ -153,7 +153,7 @@ fn holds_of_all(map: &mut Numbers, call: Call) -> bool {
     }
 }
 
-// Returns the number of the first call that doesn't return what it must.
+/// Returns the number of the first call that doesn't return what it must.
 fn first_other(map: &mut Numbers, calls: &[Call]) -> Option<usize> {
     for (number, call) in calls.iter().enumerate() {
         if !holds(map, *call) {
@@ -163,13 +163,13 @@ fn first_other(map: &mut Numbers, calls: &[Call]) -> Option<usize> {
     None
 }
 
-// Makes `calls` in turn on a map with `hasher`, and checks each result.
+/// Makes `calls` in turn on a map with `hasher`, and checks each result.
 fn expect_under<R: AllocGlobal + Abort>(rt: &R, hasher: Masked, calls: &[Call]) {
     let mut map = Owned::with_hasher(rt.alloc(), hasher);
     expect_eq(rt, first_other(&mut map, calls), None);
 }
 
-// Makes `calls` in turn on a map, and checks each result.
+/// Makes `calls` in turn on a map, and checks each result.
 fn expect_calls<R: AllocGlobal + Abort>(rt: &R, calls: &[Call]) {
     expect_under(rt, SAME, calls);
 }
@@ -208,7 +208,7 @@ fn map_has_room_until_its_bucket_is_full(rt: HostRuntime) {
     );
 }
 
-// Removes the first pair and each pair that follows. Returns the number of pairs and the sum of their values.
+/// Removes the first pair and each pair that follows. Returns the number of pairs and the sum of their values.
 fn take_each(map: &mut Numbers) -> (u64, u64) {
     let (mut pairs, mut sum) = (0u64, 0u64);
     let mut here = map.begin_sync();
@@ -350,7 +350,7 @@ fn map_reserve_and_release_leave_all_pending(rt: HostRuntime) {
     );
 }
 
-// Adds one to the count of each letter of `text`.
+/// Adds one to the count of each letter of `text`.
 fn count_all(map: &mut Owned<char, u64>, text: &str) -> bool {
     for letter in text.chars() {
         let is_counted = map
@@ -365,7 +365,7 @@ fn count_all(map: &mut Owned<char, u64>, text: &str) -> bool {
     true
 }
 
-// Returns the count of `letter`.
+/// Returns the count of `letter`.
 fn count_of(map: &Owned<char, u64>, letter: char) -> Option<u64> {
     map.read_sync(&letter, |_, count| *count)
 }
@@ -386,8 +386,8 @@ fn map_counts_characters_through_entries(rt: HostRuntime) {
     );
 }
 
-// Inserts (1, 0), and asks twice for its removal: one condition writes 1 and declines, and the other wants the value
-// that was written.
+/// Inserts (1, 0), and asks twice for its removal: one condition writes 1 and declines, and the other wants the value
+/// that was written.
 fn decline_and_remove(map: &mut Owned<u64, u64>) -> [Option<(u64, u64)>; 2] {
     if map.insert_sync(1, 0).is_err() {
         return [None, None];
@@ -407,13 +407,13 @@ fn map_false_remove_if_keeps_what_it_wrote(rt: HostRuntime) {
 
 type Marked = Owned<MaybeEqual, u64, Masked>;
 
-// Returns the number and the mark of the stored key, and its value.
+/// Returns the number and the mark of the stored key, and its value.
 fn marked(map: &Marked, number: u64) -> Option<(u64, u64, u64)> {
     map.read_sync(&MaybeEqual(number, 0), |key, value| (key.0, key.1, *value))
 }
 
-// Replaces a key. Returns the mark of the old key, the mark of the new key and the value, or `None` if the key was
-// missing.
+/// Replaces a key. Returns the mark of the old key, the mark of the new key and the value, or `None` if the key was
+/// missing.
 fn replace(map: &mut Marked, number: u64, mark: u64) -> Option<(u64, u64, u64)> {
     match map.replace_sync(MaybeEqual(number, mark)) {
         ReplaceResult::Replaced(entry, old) => Some((old.1, entry.key().1, *entry.get())),
@@ -421,8 +421,8 @@ fn replace(map: &mut Marked, number: u64, mark: u64) -> Option<(u64, u64, u64)> 
     }
 }
 
-// Sets a value twice, each time by a key with another mark. Returns the former value each time, and the stored key
-// with its value.
+/// Sets a value twice, each time by a key with another mark. Returns the former value each time, and the stored key
+/// with its value.
 fn upsert_twice(map: &mut Marked) -> ([Option<Option<u64>>; 2], Option<(u64, u64, u64)>) {
     let old = [
         map.upsert_sync(MaybeEqual(11, 7), 17).ok(),
@@ -446,7 +446,7 @@ fn map_upsert_keeps_key_replace_swaps_it(rt: HostRuntime) {
     );
 }
 
-// Sets the value of a key through its entry. Returns the number and the mark of the stored key, and its value.
+/// Sets the value of a key through its entry. Returns the number and the mark of the stored key, and its value.
 fn set_through_entry(map: &mut Marked, key: MaybeEqual, value: u64) -> Option<(u64, u64, u64)> {
     match map.entry_sync(key).insert_entry(value) {
         Ok(entry) => Some((entry.key().0, entry.key().1, *entry.get())),
@@ -466,7 +466,7 @@ fn map_insert_entry_keeps_the_stored_key(rt: HostRuntime) {
     );
 }
 
-// Inserts the keys (i, 100 + i) below `end`, each with the value i, and returns whether each went in.
+/// Inserts the keys (i, 100 + i) below `end`, each with the value i, and returns whether each went in.
 fn insert_marked(map: &mut Marked, end: u64) -> bool {
     for i in 0..end {
         let key = MaybeEqual(i, i.saturating_add(100));
@@ -477,7 +477,7 @@ fn insert_marked(map: &mut Marked, end: u64) -> bool {
     true
 }
 
-// Replaces each key below `end` by (i, 200 + i), and returns whether each replacement succeeded.
+/// Replaces each key below `end` by (i, 200 + i), and returns whether each replacement succeeded.
 fn replace_marked(map: &mut Marked, end: u64) -> bool {
     for i in 0..end {
         let (old, new) = (i.saturating_add(100), i.saturating_add(200));
@@ -488,7 +488,7 @@ fn replace_marked(map: &mut Marked, end: u64) -> bool {
     true
 }
 
-// Returns whether each key below `end` is stored as (i, 200 + i) with its value.
+/// Returns whether each key below `end` is stored as (i, 200 + i) with its value.
 fn are_replaced(map: &Marked, end: u64) -> bool {
     for i in 0..end {
         if marked(map, i) != Some((i, i.saturating_add(200), i)) {
@@ -521,14 +521,14 @@ fn map_try_from_iter_last_wins(rt: HostRuntime) {
     }
 }
 
-// Inserts the keys 1, 2 and 3 with `values`.
+/// Inserts the keys 1, 2 and 3 with `values`.
 fn insert_three(map: &mut Owned<u64, u64>, values: [u64; 3]) -> bool {
     map.insert_sync(1, values[0]).is_ok()
         && map.insert_sync(2, values[1]).is_ok()
         && map.insert_sync(3, values[2]).is_ok()
 }
 
-// Walks with a closure that takes key 1 and stops. Returns whether the walk stopped.
+/// Walks with a closure that takes key 1 and stops. Returns whether the walk stopped.
 fn take_one(map: &mut Owned<u64, u64>, taken: &mut Vec<(u64, u64)>) -> bool {
     let ended = map.iter_mut_sync(
         |key, _| {
@@ -556,7 +556,7 @@ fn map_take_stop_takes_and_stops(rt: HostRuntime) {
     expect_eq(&rt, (held, map.len()), ([true; 4], 2));
 }
 
-// Walks with a closure that writes 9 and returns `verdict` at once. Returns whether the walk stopped.
+/// Walks with a closure that writes 9 and returns `verdict` at once. Returns whether the walk stopped.
 fn write_and_stop(
     map: &mut Owned<u64, u64>,
     taken: &mut Vec<(u64, u64)>,
@@ -572,7 +572,7 @@ fn write_and_stop(
     ended == Ok(false)
 }
 
-// Returns the number of pairs with the value 9, and the number of pairs with the value 0.
+/// Returns the number of pairs with the value 9, and the number of pairs with the value 0.
 fn nines_and_zeros(map: &Owned<u64, u64>) -> (usize, usize) {
     let (mut nines, mut zeros) = (0usize, 0usize);
     map.iter_sync(|_, value| {
@@ -586,7 +586,7 @@ fn nines_and_zeros(map: &Owned<u64, u64>) -> (usize, usize) {
     (nines, zeros)
 }
 
-// Returns the number of pairs with the value 9.
+/// Returns the number of pairs with the value 9.
 fn nines_of(pairs: &[(u64, u64)]) -> usize {
     let mut nines = 0usize;
     for pair in pairs {
@@ -597,8 +597,8 @@ fn nines_of(pairs: &[(u64, u64)]) -> usize {
     nines
 }
 
-// Inserts (1, 0), (2, 0) and (3, 0), and walks with `verdict`. The walk must stop. `wanted` is the number of taken
-// pairs, the number of taken pairs with the value 9, and the numbers of pairs left with the value 9 and with 0.
+/// Inserts (1, 0), (2, 0) and (3, 0), and walks with `verdict`. The walk must stop. `wanted` is the number of taken
+/// pairs, the number of taken pairs with the value 9, and the numbers of pairs left with the value 9 and with 0.
 fn expect_stop<R: AllocGlobal + Abort>(rt: &R, verdict: Verdict, wanted: [usize; 4]) {
     let mut map: Owned<u64, u64> = Owned::new(rt.alloc());
     let mut taken = Vec::new(rt.alloc());
@@ -653,14 +653,14 @@ fn release_of_foreign_and_own_tokens(rt: HostRuntime) {
     expect(&rt, foreign_and_own_tokens(&mut first, &mut second));
 }
 
-// Returns the capacity and both ends of its range.
+/// Returns the capacity and both ends of its range.
 fn range_of(map: &Owned<u64, u64>) -> (usize, usize, usize) {
     let range = map.capacity_range();
     (map.capacity(), *range.start(), *range.end())
 }
 
-// Reserves the greatest capacity. Returns the minimum and the maximum then, whether one more slot is refused, and
-// whether the map takes the token back.
+/// Reserves the greatest capacity. Returns the minimum and the maximum then, whether one more slot is refused, and
+/// whether the map takes the token back.
 fn reserve_all(map: &mut Owned<u64, u64>) -> (usize, usize, bool, bool) {
     match map.reserve(GREATEST) {
         Some(token) => {
@@ -683,8 +683,8 @@ fn map_reserve_to_the_greatest_capacity(rt: HostRuntime) {
     );
 }
 
-// Reserves 100 slots of `first`, and hands the token to `second`. Returns the slots of the token that comes back, the
-// minimum of each map then, and whether `first` takes the token.
+/// Reserves 100 slots of `first`, and hands the token to `second`. Returns the slots of the token that comes back, the
+/// minimum of each map then, and whether `first` takes the token.
 fn release_elsewhere(
     first: &mut Owned<u64, u64>,
     second: &mut Owned<u64, u64>,
@@ -715,8 +715,8 @@ fn map_refuses_a_foreign_token(rt: HostRuntime) {
     );
 }
 
-// Clones `map`, and returns whether the clone equals it, the clone's length, its capacity and both ends of its range;
-// and whether the first 24 keys can be removed from the clone, and its length and capacity then.
+/// Clones `map`, and returns whether the clone equals it, the clone's length, its capacity and both ends of its range;
+/// and whether the first 24 keys can be removed from the clone, and its length and capacity then.
 fn shrink_clone(map: &Numbers) -> Option<(bool, [usize; 4], bool, [usize; 2])> {
     match map.try_clone() {
         Ok(mut copy) => {
@@ -743,13 +743,13 @@ fn map_clone_has_its_capacity_as_minimum(rt: HostRuntime) {
     );
 }
 
-// Returns the bucket of a key in a map without an array.
+/// Returns the bucket of a key in a map without an array.
 fn place_without_array(alloc: Global) -> usize {
     let map: Owned<u64, u64> = Owned::new(alloc);
     map.bucket_index(&0)
 }
 
-// Returns the capacity of a map with room for 1024 pairs, and the buckets of two keys in it.
+/// Returns the capacity of a map with room for 1024 pairs, and the buckets of two keys in it.
 fn places(alloc: Global) -> Option<(usize, usize, usize)> {
     match Numbers::with_capacity_and_hasher(alloc, 1024, SAME) {
         Ok(map) => Some((

@@ -27,7 +27,7 @@ impl Pure for Square {
     }
 }
 
-// Returns whether each key below 32 has its square.
+/// Returns whether each key below 32 has its square.
 fn has_squares(memo: &mut Memo<Square, Zero>) -> bool {
     for key in 0..32u64 {
         if memo.get(key) != u128::from(key) * u128::from(key) {

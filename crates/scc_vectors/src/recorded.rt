@@ -54,7 +54,7 @@ enum Note {
     Left(usize),
 }
 
-// Returns the step of a call by `pass` in `stripe`, as its record has it.
+/// Returns the step of a call by `pass` in `stripe`, as its record has it.
 fn call(
     stripe: usize,
     stamp: u64,
@@ -73,12 +73,12 @@ fn call(
     )
 }
 
-// Returns the step of the first insertion's array in a stripe, two buckets, as the history has it.
+/// Returns the step of the first insertion's array in a stripe, two buckets, as the history has it.
 fn array(stripe: usize, stamp: u64) -> Note {
     Note::Step(stripe, Step::Resize { stamp, buckets: 2 })
 }
 
-// Makes an act by a pass, and returns what is seen of it.
+/// Makes an act by a pass, and returns what is seen of it.
 fn answer<L: Ledger, M: Site<Shared<Same>>, R: Wait>(
     rt: &R,
     recorded: &Recorded<Map, L, M>,
@@ -110,7 +110,7 @@ fn answer<L: Ledger, M: Site<Shared<Same>>, R: Wait>(
     }
 }
 
-// Makes the acts in turn, and notes what is seen of each.
+/// Makes the acts in turn, and notes what is seen of each.
 fn act_in_turn<L: Ledger, M: Site<Shared<Same>>, R: Wait>(
     rt: &R,
     recorded: &Recorded<Map, L, M>,
@@ -128,12 +128,12 @@ fn act_in_turn<L: Ledger, M: Site<Shared<Same>>, R: Wait>(
     }
 }
 
-// Adds a note. If memory is refused, the note is lost, and the comparison of all notes fails.
+/// Adds a note. If memory is refused, the note is lost, and the comparison of all notes fails.
 fn add(notes: &mut Vec<Note>, note: Note) {
     let _ = notes.push(note);
 }
 
-// Notes the step at `place`.
+/// Notes the step at `place`.
 fn note_step(finished: &Finished<Map>, place: (usize, usize), notes: &mut Vec<Note>) {
     if let Some(history) = finished.histories.get(place.0) {
         if let Some(step) = history.get(place.1) {
@@ -142,7 +142,7 @@ fn note_step(finished: &Finished<Map>, place: (usize, usize), notes: &mut Vec<No
     }
 }
 
-// Returns the number of pairs in all of `parts`.
+/// Returns the number of pairs in all of `parts`.
 fn left_in(parts: &[Map]) -> usize {
     let mut left = 0usize;
     for part in parts {
@@ -151,7 +151,7 @@ fn left_in(parts: &[Map]) -> usize {
     left
 }
 
-// Notes each step in the order of the run, and the number of pairs left.
+/// Notes each step in the order of the run, and the number of pairs left.
 fn note_run(finished: &Finished<Map>, notes: &mut Vec<Note>) {
     for place in finished.order.as_slice() {
         note_step(finished, *place, notes);
@@ -159,7 +159,7 @@ fn note_run(finished: &Finished<Map>, notes: &mut Vec<Note>) {
     add(notes, Note::Left(left_in(finished.parts.as_slice())));
 }
 
-// Finishes the run with `passes`, and notes what is seen. Returns what came back if the finish was refused.
+/// Finishes the run with `passes`, and notes what is seen. Returns what came back if the finish was refused.
 fn finish<L: Ledger, M: Site<Shared<Same>>>(
     closed: Closed<Map, L, M>,
     passes: Vec<Pass<Map, L>>,
@@ -178,7 +178,7 @@ fn finish<L: Ledger, M: Site<Shared<Same>>>(
     }
 }
 
-// Finishes the run with the first pass alone, and then with both passes.
+/// Finishes the run with the first pass alone, and then with both passes.
 fn finish_again<L: Ledger, M: Site<Shared<Same>>>(
     closed: Closed<Map, L, M>,
     passes: Vec<Pass<Map, L>>,
@@ -194,7 +194,7 @@ fn finish_again<L: Ledger, M: Site<Shared<Same>>>(
     }
 }
 
-// Finishes the run with `passes` and `last`.
+/// Finishes the run with `passes` and `last`.
 fn finish_with<L: Ledger, M: Site<Shared<Same>>>(
     closed: Closed<Map, L, M>,
     passes: Vec<Pass<Map, L>>,
@@ -214,8 +214,8 @@ enum Ends {
     WithOneThenBoth,
 }
 
-// Makes the acts of both passes in turn, ends the run, and notes all that is seen. Returns false if memory was
-// refused.
+/// Makes the acts of both passes in turn, ends the run, and notes all that is seen. Returns false if memory was
+/// refused.
 fn play<L: Ledger, M: Site<Shared<Same>>, R: Wait>(
     rt: &R,
     alloc: Global,
@@ -241,7 +241,7 @@ fn play<L: Ledger, M: Site<Shared<Same>>, R: Wait>(
     }
 }
 
-// Makes the acts and ends the run, as `play` does, with the two passes that were handed out.
+/// Makes the acts and ends the run, as `play` does, with the two passes that were handed out.
 fn play_on<L: Ledger, M: Site<Shared<Same>>, R: Wait>(
     rt: &R,
     recorded: Recorded<Map, L, M>,
@@ -259,7 +259,7 @@ fn play_on<L: Ledger, M: Site<Shared<Same>>, R: Wait>(
     }
 }
 
-// Makes the acts of both passes in turn.
+/// Makes the acts of both passes in turn.
 fn act_by_both<L: Ledger, M: Site<Shared<Same>>, R: Wait>(
     rt: &R,
     recorded: &Recorded<Map, L, M>,
@@ -272,7 +272,7 @@ fn act_by_both<L: Ledger, M: Site<Shared<Same>>, R: Wait>(
     }
 }
 
-// Plays the acts, and compares all notes with the wanted ones.
+/// Plays the acts, and compares all notes with the wanted ones.
 fn expect_notes<R: AllocGlobal + Abort + Wait>(
     rt: &R,
     acts: &[(Who, Act)],
@@ -296,8 +296,8 @@ fn expect_notes<R: AllocGlobal + Abort + Wait>(
     expect_eq(rt, (is_played, notes.as_slice()), (true, wanted));
 }
 
-// A stamp is one more than the greater of the pass's clock and the stripe's last stamp, so two calls in two stripes
-// may have equal stamps. The order of the run is by stamps, and by stripes if the stamps are equal.
+/// A stamp is one more than the greater of the pass's clock and the stripe's last stamp, so two calls in two stripes
+/// may have equal stamps. The order of the run is by stamps, and by stripes if the stamps are equal.
 #[test]
 fn recorded_stamps_and_order(rt: HostRuntime) {
     let acts = [

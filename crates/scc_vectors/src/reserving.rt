@@ -3,16 +3,16 @@ use scc::{Reservation, hash_index, hash_map, hash_set};
 
 // A single-threaded container that takes reservations.
 pub(crate) trait Reserving {
-    // Adds a key that is missing, and returns whether it went in.
+    /// Adds a key that is missing, and returns whether it went in.
     fn add(&mut self, key: u64) -> bool;
 
-    // Adds `additional` slots to the minimum, and returns the token that releases them, or `None`.
+    /// Adds `additional` slots to the minimum, and returns the token that releases them, or `None`.
     fn reserve_slots(&mut self, additional: usize) -> Option<Reservation>;
 
-    // Releases a token's slots. A refused token comes back.
+    /// Releases a token's slots. A refused token comes back.
     fn release_slots(&mut self, token: Reservation) -> Result<(), Reservation>;
 
-    // Returns the capacity, and both ends of its range.
+    /// Returns the capacity, and both ends of its range.
     fn sizes(&self) -> (usize, usize, usize);
 }
 
@@ -73,9 +73,9 @@ impl Reserving for hash_index::Owned<u64, u64> {
     }
 }
 
-// Reserves 10000 slots, then the greatest number and 0, inserts the keys 0 to 15, and releases the slots. Returns the
-// capacity before and after the first reservation, whether the other two were refused, whether each key went in, and
-// the capacity at the end.
+/// Reserves 10000 slots, then the greatest number and 0, inserts the keys 0 to 15, and releases the slots. Returns the
+/// capacity before and after the first reservation, whether the other two were refused, whether each key went in, and
+/// the capacity at the end.
 pub(crate) fn grows_and_gives_back<C: Reserving>(
     form: &mut C,
 ) -> (usize, usize, bool, bool, usize) {
@@ -90,7 +90,7 @@ pub(crate) fn grows_and_gives_back<C: Reserving>(
     (before, grown, refused, added && is_back, form.sizes().0)
 }
 
-// Adds the keys 0 to 15, and returns whether each went in.
+/// Adds the keys 0 to 15, and returns whether each went in.
 fn add_sixteen<C: Reserving>(form: &mut C) -> bool {
     for key in 0..16 {
         if !form.add(key) {
@@ -100,7 +100,7 @@ fn add_sixteen<C: Reserving>(form: &mut C) -> bool {
     true
 }
 
-// Returns the sizes of a new container, its sizes after it reserved 1000 slots, and after its first insertion.
+/// Returns the sizes of a new container, its sizes after it reserved 1000 slots, and after its first insertion.
 pub(crate) fn sizes_without_array<C: Reserving>(
     form: &mut C,
 ) -> Option<[(usize, usize, usize); 3]> {
@@ -114,7 +114,7 @@ pub(crate) fn sizes_without_array<C: Reserving>(
     }
 }
 
-// Returns whether a token is refused and comes back with its slots.
+/// Returns whether a token is refused and comes back with its slots.
 fn refuses<C: Reserving>(form: &mut C, token: Reservation, slots: usize) -> bool {
     match form.release_slots(token) {
         Ok(()) => false,
@@ -122,8 +122,8 @@ fn refuses<C: Reserving>(form: &mut C, token: Reservation, slots: usize) -> bool
     }
 }
 
-// Returns whether `second`, which has reserved 50 and 60 slots, takes a token of 100 slots from `first`, and then
-// refuses its own two, since only 10 reserved slots are left.
+/// Returns whether `second`, which has reserved 50 and 60 slots, takes a token of 100 slots from `first`, and then
+/// refuses its own two, since only 10 reserved slots are left.
 pub(crate) fn foreign_and_own_tokens<C: Reserving>(first: &mut C, second: &mut C) -> bool {
     let (Some(fifty), Some(sixty)) = (second.reserve_slots(50), second.reserve_slots(60)) else {
         return false;

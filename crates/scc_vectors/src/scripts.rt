@@ -5,7 +5,7 @@ use std::process::Abort;
 use std::sync::Wait;
 use std::thread::Threads;
 
-// Plays a script, and checks the text that it writes and the status that it ends with.
+/// Plays a script, and checks the text that it writes and the status that it ends with.
 fn expect_run<R: AllocGlobal + Abort + Threads + Wait + Sync>(
     rt: &R,
     script: &str,
@@ -61,7 +61,7 @@ fn run_map_on_two_stripes_len_and_clear(rt: HostRuntime) {
     );
 }
 
-// Keys 0 to 32 share a bucket of 32 slots, so the last put evicts key 0.
+/// Keys 0 to 32 share a bucket of 32 slots, so the last put evicts key 0.
 #[test]
 fn run_cache_evicts_the_first(rt: HostRuntime) {
     expect_run(

@@ -9,8 +9,8 @@ use test_kit::maybe_equal::MaybeEqual;
 
 const GREATEST: usize = 1 << 63;
 
-// Replaces a key. Returns the mark of the old key, with `None` inside if the key was missing, or `None` if the call
-// fails.
+/// Replaces a key. Returns the mark of the old key, with `None` inside if the key was missing, or `None` if the call
+/// fails.
 fn replace(set: &mut Owned<MaybeEqual, Masked>, number: u64, mark: u64) -> Option<Option<u64>> {
     match set.replace_sync(MaybeEqual(number, mark)) {
         Ok(Some(old)) => Some(Some(old.1)),
@@ -19,7 +19,7 @@ fn replace(set: &mut Owned<MaybeEqual, Masked>, number: u64, mark: u64) -> Optio
     }
 }
 
-// Returns the mark of the stored key.
+/// Returns the mark of the stored key.
 fn mark_of(set: &Owned<MaybeEqual, Masked>, number: u64) -> Option<u64> {
     set.read_sync(&MaybeEqual(number, 0), |key| key.1)
 }
@@ -43,7 +43,7 @@ fn set_try_from_iter_counts_once(rt: HostRuntime) {
     }
 }
 
-// Returns the first key, and the key that is then removed through its entry.
+/// Returns the first key, and the key that is then removed through its entry.
 fn take_first(set: &mut Owned<u64>) -> Option<(u64, u64)> {
     match set.begin_sync() {
         Some(first) => {
@@ -66,7 +66,7 @@ fn set_begin_get_remove_entry(rt: HostRuntime) {
     );
 }
 
-// Inserts 1, 2 and 3.
+/// Inserts 1, 2 and 3.
 fn insert_three(set: &mut Owned<u64>) -> bool {
     for key in 1..4 {
         if set.insert_sync(key).is_err() {
@@ -76,7 +76,7 @@ fn insert_three(set: &mut Owned<u64>) -> bool {
     true
 }
 
-// Returns whether none of `keys` is present.
+/// Returns whether none of `keys` is present.
 fn are_gone(set: &Owned<u64>, keys: &[u64]) -> bool {
     for key in keys {
         if set.contains_sync(key) {
@@ -86,8 +86,8 @@ fn are_gone(set: &Owned<u64>, keys: &[u64]) -> bool {
     true
 }
 
-// Inserts 1, 2 and 3, and walks with a closure that stops at its first call. The walk must stop. `taken` keys are
-// removed, and `left` keys stay.
+/// Inserts 1, 2 and 3, and walks with a closure that stops at its first call. The walk must stop. `taken` keys are
+/// removed, and `left` keys stay.
 fn expect_stop<R: AllocGlobal + Abort>(rt: &R, verdict: Verdict, taken: usize, left: usize) {
     let mut set: Owned<u64> = Owned::new(rt.alloc());
     let mut keys = Vec::new(rt.alloc());
@@ -114,8 +114,8 @@ fn set_iter_mut_keep_stop_at_first(rt: HostRuntime) {
     expect_stop(&rt, Verdict::KeepStop, 0, 3);
 }
 
-// Replaces each key below 40 by one whose mark is the number plus `above`. Returns whether each key had the mark
-// number plus `old`, or was missing if `old` is `None`.
+/// Replaces each key below 40 by one whose mark is the number plus `above`. Returns whether each key had the mark
+/// number plus `old`, or was missing if `old` is `None`.
 fn replace_all(set: &mut Owned<MaybeEqual, Masked>, above: u64, old: Option<u64>) -> bool {
     for i in 0..40u64 {
         let wanted = match old {
@@ -129,7 +129,7 @@ fn replace_all(set: &mut Owned<MaybeEqual, Masked>, above: u64, old: Option<u64>
     true
 }
 
-// Returns whether each key below 40 is stored with the mark number plus `above`.
+/// Returns whether each key below 40 is stored with the mark number plus `above`.
 fn have_marks(set: &Owned<MaybeEqual, Masked>, above: u64) -> bool {
     for i in 0..40u64 {
         if mark_of(set, i) != Some(i.saturating_add(above)) {

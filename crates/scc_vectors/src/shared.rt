@@ -12,8 +12,8 @@ const HALF: u64 = 1 << 63;
 
 const GREATEST: usize = 1 << 63;
 
-// Returns whether a thread that holds the entry of key 1 gets through a call on `other`. If both were in one stripe,
-// the thread would wait for itself, up to the limit of a test.
+/// Returns whether a thread that holds the entry of key 1 gets through a call on `other`. If both were in one stripe,
+/// the thread would wait for itself, up to the limit of a test.
 fn comes_through(rt: &impl Wait, map: &HashMap<u64, u64, Same>, other: u64) -> bool {
     match map.get_sync(rt, &1) {
         Some(entry) => map.contains_sync(rt, &other) && *entry.key() == 1,
@@ -21,7 +21,7 @@ fn comes_through(rt: &impl Wait, map: &HashMap<u64, u64, Same>, other: u64) -> b
     }
 }
 
-// Inserts a key of each stripe. Returns whether both went in, and the stripes of both keys and of the greatest key.
+/// Inserts a key of each stripe. Returns whether both went in, and the stripes of both keys and of the greatest key.
 fn insert_in_both(rt: &impl Wait, map: &HashMap<u64, u64, Same>) -> (bool, [usize; 3]) {
     let are_inserted = map.insert_sync(rt, 1, 10).is_ok()
         && map.insert_sync(rt, HALF + 1, 20).is_ok();
@@ -49,7 +49,7 @@ fn shared_map_of_two_stripes(rt: HostRuntime) {
     }
 }
 
-// Puts a key with itself as value. Returns the key that the put evicts, if any, or `None` if the put fails.
+/// Puts a key with itself as value. Returns the key that the put evicts, if any, or `None` if the put fails.
 fn put<H: BuildHasher>(
     rt: &impl Wait,
     cache: &HashCache<u64, u64, H>,
@@ -62,7 +62,7 @@ fn put<H: BuildHasher>(
     }
 }
 
-// Puts the keys 0 to 31, and returns whether no put evicted a pair.
+/// Puts the keys 0 to 31, and returns whether no put evicted a pair.
 fn fill<H: BuildHasher>(rt: &impl Wait, cache: &HashCache<u64, u64, H>) -> bool {
     for key in 0..32 {
         if put(rt, cache, key) != Some(None) {
@@ -72,7 +72,7 @@ fn fill<H: BuildHasher>(rt: &impl Wait, cache: &HashCache<u64, u64, H>) -> bool 
     true
 }
 
-// Returns the length, the capacity, and both ends of its range.
+/// Returns the length, the capacity, and both ends of its range.
 fn cache_sizes<H: BuildHasher>(rt: &impl Wait, cache: &HashCache<u64, u64, H>) -> [usize; 4] {
     let range = cache.capacity_range();
     [
@@ -83,7 +83,7 @@ fn cache_sizes<H: BuildHasher>(rt: &impl Wait, cache: &HashCache<u64, u64, H>) -
     ]
 }
 
-// Each of the four stripes has at most 64 slots, so 32 pairs in a bucket don't double a stripe.
+/// Each of the four stripes has at most 64 slots, so 32 pairs in a bucket don't double a stripe.
 #[test]
 fn shared_cache_of_four_stripes_evicts(rt: HostRuntime) {
     match HashCache::with_hasher(rt.alloc(), Zero) {
@@ -99,8 +99,8 @@ fn shared_cache_of_four_stripes_evicts(rt: HostRuntime) {
     }
 }
 
-// Returns whether a thread that holds the entry of key 1 gets through a put of `other`. If both were in one stripe,
-// the thread would wait for itself, up to the limit of a test.
+/// Returns whether a thread that holds the entry of key 1 gets through a put of `other`. If both were in one stripe,
+/// the thread would wait for itself, up to the limit of a test.
 fn puts_beside_an_entry(rt: &impl Wait, cache: &HashCache<u64, u64, Same>, other: u64) -> bool {
     match cache.get_sync(rt, &1) {
         Some(entry) => put(rt, cache, other) == Some(None) && *entry.key() == 1,
@@ -108,8 +108,8 @@ fn puts_beside_an_entry(rt: &impl Wait, cache: &HashCache<u64, u64, Same>, other
     }
 }
 
-// Two stripes of 64 slots each: the 33rd key of a bucket finds its stripe half full, which doubles, and the other
-// stripe stays. One stripe of 128 slots wouldn't be half full, and four stripes would have 256 slots.
+/// Two stripes of 64 slots each: the 33rd key of a bucket finds its stripe half full, which doubles, and the other
+/// stripe stays. One stripe of 128 slots wouldn't be half full, and four stripes would have 256 slots.
 #[test]
 fn shared_cache_capacities(rt: HostRuntime) {
     match HashCache::with_capacity_and_hasher(rt.alloc(), 100, 2000, Same) {
@@ -140,7 +140,7 @@ fn shared_cache_capacities(rt: HostRuntime) {
     }
 }
 
-// Returns the values of the next three versions, with `None` for a missing version.
+/// Returns the values of the next three versions, with `None` for a missing version.
 fn next_three(index: &HashIndex<u64, u64>, rt: &impl Wait) -> Option<[Option<u64>; 3]> {
     match index.iter(rt) {
         Ok(mut versions) => {
@@ -154,7 +154,7 @@ fn next_three(index: &HashIndex<u64, u64>, rt: &impl Wait) -> Option<[Option<u64
     }
 }
 
-// Sets the value of `key`, and returns whether the key was present and now has `value`.
+/// Sets the value of `key`, and returns whether the key was present and now has `value`.
 fn update(index: &HashIndex<u64, u64>, rt: &impl Wait, key: u64, value: u64) -> bool {
     match index.get_sync(rt, &key) {
         Some(mut entry) => entry.update(value).is_ok(),
@@ -162,14 +162,14 @@ fn update(index: &HashIndex<u64, u64>, rt: &impl Wait, key: u64, value: u64) -> 
     }
 }
 
-// Returns whether `key` has `value`, and a walk over versions shows this value alone.
+/// Returns whether `key` has `value`, and a walk over versions shows this value alone.
 fn shows_alone(index: &HashIndex<u64, u64>, rt: &impl Wait, key: u64, value: u64) -> bool {
     index.peek_with(rt, &key, |_, value| *value) == Some(value)
         && next_three(index, rt) == Some([Some(value), None, None])
 }
 
-// Returns the value of a version of a key that is held while the index updates the key and is dropped. Returns `None`
-// if a call on the index returns something else.
+/// Returns the value of a version of a key that is held while the index updates the key and is dropped. Returns `None`
+/// if a call on the index returns something else.
 fn peek_across<R: Wait>(rt: &R, index: HashIndex<u64, u64>) -> Option<u64> {
     if index.entry_sync(rt, 37).or_insert(11).is_err() {
         return None;
@@ -194,29 +194,29 @@ fn shared_index_peeked_version_stays(rt: HostRuntime) {
 
 // A container that is filled, and that refuses impossible reservations.
 trait Filling {
-    // Adds a key that is missing, and returns whether it went in.
+    /// Adds a key that is missing, and returns whether it went in.
     fn add<R: Wait>(&self, rt: &R, key: u64) -> bool;
 
-    // Returns the capacity, and both ends of its range.
+    /// Returns the capacity, and both ends of its range.
     fn sizes<R: Wait>(&self, rt: &R) -> [usize; 3];
 
-    // Returns whether a reservation of `slots` is refused.
+    /// Returns whether a reservation of `slots` is refused.
     fn refuses<R: Wait>(&self, rt: &R, slots: usize) -> bool;
 }
 
 // A container that takes reservations, each for as long as it is held.
 trait Reserving: Filling {
-    // Returns the sizes while `slots` are reserved, and then also with the keys from `first` up to, but without, `end`
-    // added. Returns `None` if the reservation has another number of slots, if the greatest number of slots or 0 isn't
-    // refused, or if a key doesn't go in.
+    /// Returns the sizes while `slots` are reserved, and then also with the keys from `first` up to, but without, `end`
+    /// added. Returns `None` if the reservation has another number of slots, if the greatest number of slots or 0 isn't
+    /// refused, or if a key doesn't go in.
     fn hold<R: Wait>(&self, rt: &R, slots: usize, first: u64, end: u64) -> Option<[[usize; 3]; 2]>;
 
-    // Returns the sizes with 100 and 200 slots reserved, then with 200 alone, and then with none.
+    /// Returns the sizes with 100 and 200 slots reserved, then with 200 alone, and then with none.
     fn hold_both<R: Wait>(&self, rt: &R) -> Option<[[usize; 3]; 3]>;
 }
 
-// Adds the keys from `first` up to, but without, `end`. Returns whether each went in, and reservations of the greatest
-// number, of the greatest number of slots and of 0 are refused.
+/// Adds the keys from `first` up to, but without, `end`. Returns whether each went in, and reservations of the greatest
+/// number, of the greatest number of slots and of 0 are refused.
 fn refuses_and_adds<C: Filling, R: Wait>(rt: &R, form: &C, first: u64, end: u64) -> bool {
     for key in first..end {
         if !form.add(rt, key) {
@@ -355,7 +355,7 @@ impl Reserving for HashIndex<u64, u64> {
     }
 }
 
-// A container of 1024 slots grows by a reservation, and releases the extra capacity afterwards, also with 16 keys.
+/// A container of 1024 slots grows by a reservation, and releases the extra capacity afterwards, also with 16 keys.
 fn expect_growth<C: Reserving, R: Abort + Wait>(rt: &R, form: &C) {
     let bare = form.sizes(rt);
     let held = form.hold(rt, 10_000, 0, 16);
@@ -395,7 +395,7 @@ fn shared_index_reserve_grows_and_gives_back(rt: HostRuntime) {
     }
 }
 
-// Each of the 16 stripes has a sixteenth of the 1000 slots, rounded up: 63, for which an array of 64 slots is made.
+/// Each of the 16 stripes has a sixteenth of the 1000 slots, rounded up: 63, for which an array of 64 slots is made.
 fn expect_first_array<C: Reserving, R: Abort + Wait>(rt: &R, form: &C) {
     let bare = form.sizes(rt);
     let held = form.hold(rt, 1000, 1, 2);
@@ -433,7 +433,7 @@ fn shared_index_reserve_without_array(rt: HostRuntime) {
     }
 }
 
-// While the greatest number of slots is reserved, it can't be reserved again: the sum of both would be 0 in a word.
+/// While the greatest number of slots is reserved, it can't be reserved again: the sum of both would be 0 in a word.
 fn expect_most<C: Reserving, R: Abort + Wait>(rt: &R, form: &C) {
     let held = form.hold(rt, GREATEST, 0, 0);
     expect_eq(
@@ -467,7 +467,7 @@ fn shared_index_reserves_the_most_once(rt: HostRuntime) {
     }
 }
 
-// Two reservations add up, and each releases its own slots.
+/// Two reservations add up, and each releases its own slots.
 fn expect_sums<C: Reserving, R: Abort + Wait>(rt: &R, form: &C) {
     let sums = [[0, 300, GREATEST], [0, 200, GREATEST], [0, 0, GREATEST]];
     expect_eq(rt, form.hold_both(rt), Some(sums));

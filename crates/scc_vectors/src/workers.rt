@@ -10,7 +10,7 @@ struct Turns {
     last: usize,
 }
 
-// Returns a worker whose turn with the number `last` returns false. If `last` is 5 or more, none does.
+/// Returns a worker whose turn with the number `last` returns false. If `last` is 5 or more, none does.
 fn up_to(last: usize) -> Turns {
     Turns { made: 0, last }
 }

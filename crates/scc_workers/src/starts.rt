@@ -14,12 +14,12 @@ struct Turns {
     last: usize,
 }
 
-// Returns work whose turns all return true.
+/// Returns work whose turns all return true.
 fn all() -> Turns {
     Turns { made: 0, last: 5 }
 }
 
-// Returns work whose turn `j` returns false.
+/// Returns work whose turn `j` returns false.
 fn up_to(j: usize) -> Turns {
     Turns { made: 0, last: j }
 }
@@ -129,7 +129,7 @@ struct Notes {
     after: AtomicU64,
 }
 
-// Returns the number with a 1 in the digit of turn `j` of worker `worker`, in base 16.
+/// Returns the number with a 1 in the digit of turn `j` of worker `worker`, in base 16.
 fn digit(worker: usize, j: usize) -> u64 {
     match u32::try_from(worker.wrapping_mul(5).wrapping_add(j)) {
         Ok(place) => 1u64.wrapping_shl(place.wrapping_mul(4)),

@@ -31,7 +31,7 @@ impl Starter for Plain {
     }
 }
 
-// Makes the turns of a worker in their order, until the gate holds one back or a turn returns false.
+/// Makes the turns of a worker in their order, until the gate holds one back or a turn returns false.
 fn work_through<W: Work, G: Gate>(worker: usize, work: &mut W, gate: &G) -> End {
     for j in 0..work.turns() {
         if !gate.before(worker, j) {
@@ -46,8 +46,8 @@ fn work_through<W: Work, G: Gate>(worker: usize, work: &mut W, gate: &G) -> End 
     End::Done
 }
 
-// Starts a thread for each item and keeps its handle in `handles`. Returns false at the first thread that isn't
-// started, and starts no further thread.
+/// Starts a thread for each item and keeps its handle in `handles`. Returns false at the first thread that isn't
+/// started, and starts no further thread.
 fn start_all<'s, E, S: Starter, W: Work + Send, G: Gate + Sync>(
     starter: &S,
     scope: &Scope<'s, E>,
@@ -72,8 +72,8 @@ fn start_all<'s, E, S: Starter, W: Work + Send, G: Gate + Sync>(
     true
 }
 
-// Adds the end of one more worker to what is known: whether the gate gave up a worker, and whether a turn returned
-// false.
+/// Adds the end of one more worker to what is known: whether the gate gave up a worker, and whether a turn returned
+/// false.
 fn with_end(known: (bool, bool), end: End) -> (bool, bool)
     ensures gave_up { IsTrue result.0 ↔ (IsTrue known.0 ⊎ (end ≡ End.Gate)) }
     ensures stopped { IsTrue result.1 ↔ (IsTrue known.1 ⊎ (end ≡ End.Stopped)) }
@@ -86,7 +86,7 @@ fn with_end(known: (bool, bool), end: End) -> (bool, bool)
     }
 }
 
-// Waits for all threads. Returns whether the gate gave up a worker, and whether a turn returned false.
+/// Waits for all threads. Returns whether the gate gave up a worker, and whether a turn returned false.
 fn join_all<R: Threads + Wait>(rt: &R, handles: Vec<JoinHandle<End>>) -> (bool, bool) {
     let mut known = (false, false);
     for handle in handles {
@@ -95,7 +95,7 @@ fn join_all<R: Threads + Wait>(rt: &R, handles: Vec<JoinHandle<End>>) -> (bool, 
     known
 }
 
-// Returns the first cause in the order of `RunError`, or `Ok` if there is none.
+/// Returns the first cause in the order of `RunError`, or `Ok` if there is none.
 fn outcome(started: bool, gave_up: bool, stopped: bool) -> Result<(), RunError>
     ensures start { started ≡ false → result ≡ Err RunError.Start }
     ensures gate { started ≡ true → gave_up ≡ true → result ≡ Err RunError.Gate }
@@ -113,7 +113,7 @@ fn outcome(started: bool, gave_up: bool, stopped: bool) -> Result<(), RunError>
     }
 }
 
-// As `run`, with threads started by `starter`.
+/// As `run`, with threads started by `starter`.
 pub(crate) fn run_by<S: Starter, R: Threads + Wait + Sync, W: Work + Send, G: Gate + Sync>(
     starter: &S,
     rt: &R,

@@ -9,7 +9,7 @@ use test_kit::masked::{SAME, ZERO};
 
 type Row = (Call, Answer);
 
-// A put of `key` with itself as value, which evicts the pair `evicted`.
+/// A put of `key` with itself as value, which evicts the pair `evicted`.
 fn puts(key: u64, evicted: (u64, u64)) -> Row {
     let pair = (evicted.0, 0, evicted.1);
     (
@@ -18,7 +18,7 @@ fn puts(key: u64, evicted: (u64, u64)) -> Row {
     )
 }
 
-// Makes the calls on a cache whose keys share a bucket of 32 slots.
+/// Makes the calls on a cache whose keys share a bucket of 32 slots.
 fn expect_in_one_bucket<R: AllocGlobal + Abort>(rt: &R, rows: &[Row]) {
     match Owned::with_capacity_and_hasher(rt.alloc(), 0, 64, ZERO) {
         Ok(mut cache) => expect_answers(rt, &mut cache, rows),
@@ -39,7 +39,7 @@ fn cache_which_calls_leave_the_order(rt: HostRuntime) {
     expect_in_one_bucket(&rt, &rows);
 }
 
-// A declined removal keeps the value that its condition wrote, and an accepted removal returns it.
+/// A declined removal keeps the value that its condition wrote, and an accepted removal returns it.
 #[test]
 fn cache_false_remove_if_keeps_what_it_wrote(rt: HostRuntime) {
     let rows = [
@@ -52,7 +52,7 @@ fn cache_false_remove_if_keeps_what_it_wrote(rt: HostRuntime) {
     expect_in_one_bucket(&rt, &rows);
 }
 
-// Walks add 1 to each value that they come to, and keep the order of the pairs that stay.
+/// Walks add 1 to each value that they come to, and keep the order of the pairs that stay.
 #[test]
 fn cache_walks_keep_the_order(rt: HostRuntime) {
     let rows = [
@@ -69,7 +69,7 @@ fn cache_walks_keep_the_order(rt: HostRuntime) {
     expect_in_one_bucket(&rt, &rows);
 }
 
-// A put evicts a pair of its own bucket alone.
+/// A put evicts a pair of its own bucket alone.
 #[test]
 fn cache_evicts_from_the_keys_own_bucket(rt: HostRuntime) {
     let other = 1 << 63;

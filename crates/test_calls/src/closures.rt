@@ -7,7 +7,7 @@ use test_kit::zero::Zero;
 
 type Map = Owned<u64, u64, Zero>;
 
-// Inserts the keys below `end`, all in one bucket. Returns whether each went in.
+/// Inserts the keys below `end`, all in one bucket. Returns whether each went in.
 fn fill(map: &mut Map, end: u64) -> bool {
     for key in 0..end {
         if map.insert_sync(key, key).is_err() {
@@ -17,7 +17,7 @@ fn fill(map: &mut Map, end: u64) -> bool {
     true
 }
 
-// Walks until the closure's call number `last`, or to the end. Returns the result and the number of calls.
+/// Walks until the closure's call number `last`, or to the end. Returns the result and the number of calls.
 fn walk(map: &Map, last: u64) -> (bool, u64) {
     let mut calls = 0u64;
     let ended = map.iter_sync(|_, _| {
@@ -38,8 +38,8 @@ fn map_iter_calls_up_to_its_first_false(rt: HostRuntime) {
     );
 }
 
-// Searches for the pair of the closure's call number `last`, or for none. Returns whether a pair is found, and the
-// number of calls.
+/// Searches for the pair of the closure's call number `last`, or for none. Returns whether a pair is found, and the
+/// number of calls.
 fn search(map: &mut Map, last: u64) -> (bool, u64) {
     let mut calls = 0u64;
     let is_found = map
@@ -62,7 +62,7 @@ fn map_any_calls_up_to_the_pair_that_passes(rt: HostRuntime) {
     );
 }
 
-// Walks and keeps every second key. Returns the number of calls and of pairs left.
+/// Walks and keeps every second key. Returns the number of calls and of pairs left.
 fn retain(map: &mut Map) -> (u64, usize) {
     let mut calls = 0u64;
     map.retain_sync(|key, _| {
@@ -79,8 +79,8 @@ fn map_retain_calls_once_a_pair(rt: HostRuntime) {
     expect_eq(&rt, (is_filled, retain(&mut map)), (true, (40, 20)));
 }
 
-// Walks with a closure that returns `seventh` at its call number 7 and `each` at the others. Returns whether the walk
-// came to its end, and the numbers of calls, of pairs taken and of pairs left.
+/// Walks with a closure that returns `seventh` at its call number 7 and `each` at the others. Returns whether the walk
+/// came to its end, and the numbers of calls, of pairs taken and of pairs left.
 fn take(
     map: &mut Map,
     taken: &mut Vec<(u64, u64)>,
@@ -112,7 +112,7 @@ fn map_iter_mut_calls_up_to_each_stop(rt: HostRuntime) {
     expect_eq(&rt, (is_filled, walks), (true, wanted));
 }
 
-// Inserts a key with closures in two ways. Returns the value of the key, and how often the closures were called.
+/// Inserts a key with closures in two ways. Returns the value of the key, and how often the closures were called.
 fn insert(map: &mut Map, key: u64) -> (Option<u64>, u64) {
     let mut calls = 0u64;
     let with = map
@@ -146,8 +146,8 @@ fn map_entries_call_only_where_the_key_is_missing(rt: HostRuntime) {
     );
 }
 
-// Tries to insert a key with closures in two ways, which fail with 7 if `fails`, else make the value 9. Returns how
-// many of the calls returned an entry and how many the error, how often the closures were called, and the length.
+/// Tries to insert a key with closures in two ways, which fail with 7 if `fails`, else make the value 9. Returns how
+/// many of the calls returned an entry and how many the error, how often the closures were called, and the length.
 fn try_insert(map: &mut Map, key: u64, fails: bool) -> (u64, u64, u64, usize) {
     let mut calls = 0u64;
     let made = if fails { Err(7u64) } else { Ok(9u64) };
@@ -188,7 +188,7 @@ fn map_entries_try_only_where_the_key_is_missing(rt: HostRuntime) {
     expect_eq(&rt, tries, [(0, 2, 2, 0), (2, 0, 1, 1), (2, 0, 0, 1)]);
 }
 
-// Removes the key if a condition returns `holds`. Returns the result, and how often the condition was called.
+/// Removes the key if a condition returns `holds`. Returns the result, and how often the condition was called.
 fn remove_if(map: &mut Map, key: u64, holds: bool) -> (Option<(u64, u64)>, u64) {
     let mut calls = 0u64;
     let removed = map.remove_if_sync(&key, |_| {

@@ -9,7 +9,7 @@ use test_forms::form::{Act, At, Way};
 use test_kit::masked::{SAME, ZERO};
 use test_kit::maybe_equal::MaybeEqual;
 
-// Adds two keys, looks keys up, walks and removes. Returns whether each call returns what it must.
+/// Adds two keys, looks keys up, walks and removes. Returns whether each call returns what it must.
 fn goes_well<H: BuildHasher + Drop>(map: &mut hash_map::Owned<MaybeEqual, u64, H>) -> bool {
     let (first, second, other) = (MaybeEqual(11, 7), MaybeEqual(12, 0), MaybeEqual(13, 0));
     let added = map.insert_sync(first, 17).is_ok();
@@ -37,7 +37,7 @@ fn goes_well<H: BuildHasher + Drop>(map: &mut hash_map::Owned<MaybeEqual, u64, H
         && map.remove_sync(&other).is_none()
 }
 
-// Returns the mark of the stored key and its value.
+/// Returns the mark of the stored key and its value.
 fn mark_and_value<H: BuildHasher + Drop>(
     map: &hash_map::Owned<MaybeEqual, u64, H>,
     number: u64,

@@ -18,17 +18,17 @@ type Index = hash_index::Owned<Token, Token, Masked>;
 
 type Sizes = (Call, (usize, usize, usize));
 
-// Makes the calls on a map under `hasher`.
+/// Makes the calls on a map under `hasher`.
 fn expect_of_map<R: AllocGlobal + Abort>(rt: &R, hasher: Masked, rows: &[Sizes]) {
     expect_sizes(rt, &mut Map::with_hasher(rt.alloc(), hasher), rows);
 }
 
-// Makes the calls on a set under `hasher`.
+/// Makes the calls on a set under `hasher`.
 fn expect_of_set<R: AllocGlobal + Abort>(rt: &R, hasher: Masked, rows: &[Sizes]) {
     expect_sizes(rt, &mut Set::with_hasher(rt.alloc(), hasher), rows);
 }
 
-// Makes the calls on an index under `hasher`.
+/// Makes the calls on an index under `hasher`.
 fn expect_of_index<R: AllocGlobal + Abort>(rt: &R, hasher: Masked, rows: &[Sizes]) {
     expect_sizes(rt, &mut Index::with_hasher(rt.alloc(), hasher), rows);
 }

@@ -9,10 +9,10 @@ use test_kit::masked::{Masked, ZERO};
 
 // A container that prepares an insertion.
 trait Making: Form {
-    // Prepares an insertion of `key`. Returns whether the preparation succeeded.
+    /// Prepares an insertion of `key`. Returns whether the preparation succeeded.
     fn make(&mut self, key: u64) -> bool;
 
-    // Removes the mark of a refused growth, if there is one.
+    /// Removes the mark of a refused growth, if there is one.
     fn let_go(&mut self);
 }
 
@@ -56,13 +56,13 @@ impl Making for hash_cache::Owned<Token, Token, Masked> {
     }
 }
 
-// Returns the number of pairs, the capacity, and the number of waiting buckets.
+/// Returns the number of pairs, the capacity, and the number of waiting buckets.
 fn sizes<F: Making>(form: &F) -> (usize, usize, usize) {
     let sizes = form.sizes();
     (sizes.len, sizes.capacity, form.waiting().unwrap_or(0))
 }
 
-// Adds the keys from `first` on and before `end`. Returns whether each call returned `answer`.
+/// Adds the keys from `first` on and before `end`. Returns whether each call returned `answer`.
 fn add<F: Making>(form: &mut F, first: u64, end: u64, answer: Answer) -> bool {
     for key in first..end {
         if form.add(Way::Insert, Token::of(key), Token::of(key)) != answer {
@@ -72,8 +72,8 @@ fn add<F: Making>(form: &mut F, first: u64, end: u64, answer: Answer) -> bool {
     true
 }
 
-// Prepares insertions of keys that share a bucket of 32 slots. The last insertion returns `last` and leaves `pairs`
-// pairs.
+/// Prepares insertions of keys that share a bucket of 32 slots. The last insertion returns `last` and leaves `pairs`
+/// pairs.
 fn expect_rooms<R: Abort, F: Making>(rt: &R, form: &mut F, last: Answer, pairs: usize) {
     let first = (form.make(0), sizes(form));
     let filled = add(form, 0, 32, Answer::Added(None));
@@ -125,7 +125,7 @@ fn cache_room_is_made_before_a_put(rt: HostRuntime) {
 
 type Cache = hash_cache::Owned<u64, u64, Masked>;
 
-// Returns the pair that a put of `key` would evict.
+/// Returns the pair that a put of `key` would evict.
 fn next_out(cache: &Cache, key: u64) -> Option<(u64, u64)> {
     match cache.next_evicted(&key) {
         Some((key, value)) => Some((*key, *value)),
@@ -133,8 +133,8 @@ fn next_out(cache: &Cache, key: u64) -> Option<(u64, u64)> {
     }
 }
 
-// Puts the keys 0 to 31, each with the next number as value. Returns whether each went in, and none would have
-// evicted a pair.
+/// Puts the keys 0 to 31, each with the next number as value. Returns whether each went in, and none would have
+/// evicted a pair.
 fn fill(cache: &mut Cache) -> bool {
     for key in 0..32u64 {
         if next_out(cache, key).is_some() || cache.put_sync(key, key.saturating_add(1)).is_err() {
@@ -144,8 +144,8 @@ fn fill(cache: &mut Cache) -> bool {
     true
 }
 
-// Returns the pairs that a put into a full bucket would evict, for a key that is there and for a missing key, the
-// pair that the put does evict, and the pair that the next put would evict.
+/// Returns the pairs that a put into a full bucket would evict, for a key that is there and for a missing key, the
+/// pair that the put does evict, and the pair that the next put would evict.
 fn outs(
     cache: &mut Cache,
 ) -> (
@@ -161,7 +161,7 @@ fn outs(
     (before, out, next_out(cache, 33))
 }
 
-// A cache tells before a put which pair it evicts: none if the key is there or a slot is free.
+/// A cache tells before a put which pair it evicts: none if the key is there or a slot is free.
 #[test]
 fn cache_next_evicted_is_told_before_a_put(rt: HostRuntime) {
     match hash_cache::Owned::with_capacity_and_hasher(rt.alloc(), 0, 64, ZERO) {

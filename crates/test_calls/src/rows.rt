@@ -39,7 +39,7 @@ pub(crate) enum Call {
     Clear,
 }
 
-// Adds the keys from `first` on and before `end`. Returns whether each was added.
+/// Adds the keys from `first` on and before `end`. Returns whether each was added.
 fn fill<F: Form>(form: &mut F, first: u64, end: u64) -> bool {
     for key in first..end {
         if form.add(Way::Insert, Token::of(key), Token::of(key)) != Answer::Added(None) {
@@ -49,7 +49,7 @@ fn fill<F: Form>(form: &mut F, first: u64, end: u64) -> bool {
     true
 }
 
-// Removes the keys from `first` on and before `end`. Returns whether each is gone.
+/// Removes the keys from `first` on and before `end`. Returns whether each is gone.
 fn empty<F: Form>(form: &mut F, first: u64, end: u64) -> bool {
     for key in first..end {
         form.remove(&Token::of(key));
@@ -60,7 +60,7 @@ fn empty<F: Form>(form: &mut F, first: u64, end: u64) -> bool {
     true
 }
 
-// Removes the keys from `first` on and before `end`, each through its entry. Returns whether each is gone.
+/// Removes the keys from `first` on and before `end`, each through its entry. Returns whether each is gone.
 fn empty_by_entry<F: Form>(form: &mut F, first: u64, end: u64) -> bool {
     for key in first..end {
         form.act(At::Any, Act::RemoveEntry, &Token::of(key), Token::of(0));
@@ -71,7 +71,7 @@ fn empty_by_entry<F: Form>(form: &mut F, first: u64, end: u64) -> bool {
     true
 }
 
-// Adds `keys` keys that differ in their highest bits. Returns whether each was added and is read.
+/// Adds `keys` keys that differ in their highest bits. Returns whether each was added and is read.
 fn spread<F: Form>(form: &mut F, keys: u64) -> bool {
     for i in 0..keys {
         if form.add(Way::Insert, Token::marked(i << 40, i), Token::of(0)) != Answer::Added(None) {
@@ -86,7 +86,7 @@ fn spread<F: Form>(form: &mut F, keys: u64) -> bool {
     true
 }
 
-// Makes a call on many keys or on all.
+/// Makes a call on many keys or on all.
 fn answer_of_many<F: Form>(alloc: Global, form: &mut F, call: Call) -> Answer {
     match call {
         Call::Fill(first, end) => Answer::Yes(fill(form, first, end)),
@@ -110,7 +110,7 @@ fn answer_of_many<F: Form>(alloc: Global, form: &mut F, call: Call) -> Answer {
     }
 }
 
-// Makes a call.
+/// Makes a call.
 fn answer<F: Form>(alloc: Global, form: &mut F, call: Call) -> Answer {
     match call {
         Call::Add(way, number, mark, value) => form.add(
@@ -129,13 +129,13 @@ fn answer<F: Form>(alloc: Global, form: &mut F, call: Call) -> Answer {
     }
 }
 
-// Returns the number of pairs, the capacity, and the number of waiting buckets.
+/// Returns the number of pairs, the capacity, and the number of waiting buckets.
 fn sizes<F: Form>(form: &F) -> (usize, usize, usize) {
     let sizes = form.sizes();
     (sizes.len, sizes.capacity, form.waiting().unwrap_or(0))
 }
 
-// Returns the number of the first row with a wrong answer, and what the call returned.
+/// Returns the number of the first row with a wrong answer, and what the call returned.
 fn first_other<F: Form>(
     alloc: Global,
     form: &mut F,
@@ -150,7 +150,7 @@ fn first_other<F: Form>(
     None
 }
 
-// Makes the calls in turn. Each must return the answer of its row.
+/// Makes the calls in turn. Each must return the answer of its row.
 pub(crate) fn expect_answers<R: AllocGlobal + Abort, F: Form>(
     rt: &R,
     form: &mut F,
@@ -159,8 +159,8 @@ pub(crate) fn expect_answers<R: AllocGlobal + Abort, F: Form>(
     expect_eq(rt, first_other(rt.alloc(), form, rows), None);
 }
 
-// Makes calls on many keys in turn. Each must return true, and leave the number of pairs, the capacity and the number
-// of waiting buckets of its row.
+/// Makes calls on many keys in turn. Each must return true, and leave the number of pairs, the capacity and the number
+/// of waiting buckets of its row.
 pub(crate) fn expect_sizes<R: AllocGlobal + Abort, F: Form>(
     rt: &R,
     form: &mut F,

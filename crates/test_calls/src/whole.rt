@@ -14,7 +14,7 @@ use test_kit::zero::Zero;
 // The number of slots that a test asks for, and the capacity that it gets.
 const CAPACITIES: [(usize, usize); 5] = [(0, 0), (1, 64), (64, 64), (65, 128), (800, 1024)];
 
-// Returns the length and the capacity of a map made for `slots` slots, or `None` if it is refused.
+/// Returns the length and the capacity of a map made for `slots` slots, or `None` if it is refused.
 fn sizes_of_map(alloc: Global, slots: usize) -> Option<(usize, usize)> {
     match hash_map::Owned::<u64, u64>::with_capacity(alloc, slots) {
         Ok(map) => Some((map.len(), map.capacity())),
@@ -30,7 +30,7 @@ fn map_with_capacity_rounds_up(rt: HostRuntime) {
     expect_eq(&rt, sizes_of_map(rt.alloc(), usize::MAX), None);
 }
 
-// Returns the length and the capacity of an index made for `slots` slots, or `None` if it is refused.
+/// Returns the length and the capacity of an index made for `slots` slots, or `None` if it is refused.
 fn sizes_of_index(alloc: Global, slots: usize) -> Option<(usize, usize)> {
     match hash_index::Owned::<u64, u64>::with_capacity(alloc, slots) {
         Ok(index) => Some((index.len(), index.capacity())),
@@ -46,8 +46,8 @@ fn index_with_capacity_rounds_up(rt: HostRuntime) {
     expect_eq(&rt, sizes_of_index(rt.alloc(), usize::MAX), None);
 }
 
-// Returns whether a clone equals the map, the clone's capacity, and the number of its waiting buckets. Returns `None`
-// if the clone is refused.
+/// Returns whether a clone equals the map, the clone's capacity, and the number of its waiting buckets. Returns `None`
+/// if the clone is refused.
 fn clone_of(map: &Map) -> Option<(bool, usize, usize)> {
     match map.try_clone() {
         Ok(copy) => Some((copy == *map, copy.capacity(), copy.pending())),
@@ -55,7 +55,7 @@ fn clone_of(map: &Map) -> Option<(bool, usize, usize)> {
     }
 }
 
-// Inserts the keys from `first` on and before `end`. Returns whether each went in.
+/// Inserts the keys from `first` on and before `end`. Returns whether each went in.
 fn fill(map: &mut Map, first: u64, end: u64) -> bool {
     for key in first..end {
         if map.insert_sync(key, key).is_err() {
@@ -65,7 +65,7 @@ fn fill(map: &mut Map, first: u64, end: u64) -> bool {
     true
 }
 
-// A clone has the pairs and the capacity of its map, and no waiting bucket.
+/// A clone has the pairs and the capacity of its map, and no waiting bucket.
 #[test]
 fn map_clone_has_nothing_pending(rt: HostRuntime) {
     let mut map = hash_map::Owned::with_hasher(rt.alloc(), Zero);
@@ -78,7 +78,7 @@ fn map_clone_has_nothing_pending(rt: HostRuntime) {
     );
 }
 
-// Reserves 100 slots and clones the map. Returns the clone's capacity and both ends of its range.
+/// Reserves 100 slots and clones the map. Returns the clone's capacity and both ends of its range.
 fn clone_reserved(map: &mut hash_map::Owned<u64, u64>) -> Option<[usize; 3]> {
     if map.reserve(100).is_none() {
         return None;
@@ -92,7 +92,7 @@ fn clone_reserved(map: &mut hash_map::Owned<u64, u64>) -> Option<[usize; 3]> {
     }
 }
 
-// A clone doesn't get the reserved slots.
+/// A clone doesn't get the reserved slots.
 #[test]
 fn map_clone_without_array_has_none(rt: HostRuntime) {
     let sizes = clone_reserved(&mut hash_map::Owned::new(rt.alloc()));
@@ -101,13 +101,13 @@ fn map_clone_without_array_has_none(rt: HostRuntime) {
 
 type Map = hash_map::Owned<u64, u64, Zero>;
 
-// Returns whether `a` equals `b`, and whether `b` equals `a`.
+/// Returns whether `a` equals `b`, and whether `b` equals `a`.
 fn equal(a: &Map, b: &Map) -> (bool, bool) {
     (*a == *b, *b == *a)
 }
 
-// Compares two empty maps, and again after each step on the way to the same pairs in both. Returns the comparisons,
-// and whether each step succeeds.
+/// Compares two empty maps, and again after each step on the way to the same pairs in both. Returns the comparisons,
+/// and whether each step succeeds.
 fn compare(a: &mut Map, b: &mut Map) -> ([(bool, bool); 5], bool) {
     let bare = equal(a, b);
     let first = a.insert_sync(1, 10).is_ok();
@@ -135,8 +135,8 @@ fn map_equality_looks_both_ways(rt: HostRuntime) {
 
 type Keys = hash_set::Owned<u64>;
 
-// Compares two sets, inserts a key into the first, and compares again. Returns whether they are equal, whether the
-// key goes in, and whether the sets then differ.
+/// Compares two sets, inserts a key into the first, and compares again. Returns whether they are equal, whether the
+/// key goes in, and whether the sets then differ.
 fn compare_keys(a: &mut Keys, b: &Keys) -> [bool; 3] {
     let before = *a == *b;
     [before, a.insert_sync(4).is_ok(), *a != *b]
@@ -153,7 +153,7 @@ fn set_equality_looks_at_keys(rt: HostRuntime) {
     }
 }
 
-// A set made of items keeps the first of equal keys.
+/// A set made of items keeps the first of equal keys.
 #[test]
 fn set_of_items_keeps_the_first_key(rt: HostRuntime) {
     match hash_set::Owned::try_from_iter(rt.alloc(), [MaybeEqual(5, 1), MaybeEqual(5, 2)]) {
@@ -166,7 +166,7 @@ fn expect_first_mark<R: Abort>(rt: &R, set: &hash_set::Owned<MaybeEqual>) {
     expect_eq(rt, set.read_sync(&MaybeEqual(5, 9), |key| key.1), Some(1));
 }
 
-// Steps from entry to entry, and steps that remove each pair, meet the pairs of a walk in its order.
+/// Steps from entry to entry, and steps that remove each pair, meet the pairs of a walk in its order.
 fn expect_steps<R: AllocGlobal + Abort, F: Form>(rt: &R, form: &mut F) {
     expect_sizes(rt, form, &[(Call::Fill(0, 40), (40, 128, 0))]);
     let mut walked = Vec::new(rt.alloc());
@@ -212,7 +212,7 @@ fn index_steps_from_entry_to_entry(rt: HostRuntime) {
     expect_steps(&rt, &mut hash_index::Owned::with_hasher(rt.alloc(), ZERO));
 }
 
-// A snapshot has each version once.
+/// A snapshot has each version once.
 fn expect_snapshot<R: AllocGlobal + Abort, F: Form>(rt: &R, form: &mut F) {
     expect_sizes(rt, form, &[(Call::Fill(0, 40), (40, 128, 0))]);
     let mut walked = Vec::new(rt.alloc());

@@ -23,14 +23,14 @@ pub struct Asked {
 }
 
 impl Asked {
-    // Returns the pair of the call with `value`, as the kind shows it.
+    /// Returns the pair of the call with `value`, as the kind shows it.
     fn pair(&self, kind: Kind, value: u64) -> Seen {
         let shown = if kind.shows_values() { value } else { 0 };
         (self.number, self.mark, shown)
     }
 }
 
-// Adds the pair of a missing key.
+/// Adds the pair of a missing key.
 fn add_missing(
     list: &mut List,
     asked: &Asked,
@@ -49,7 +49,7 @@ fn add_missing(
     Ok(list.add(asked.hash, pair, evicted)? && is_right)
 }
 
-// Returns the pair after adding by `way` to a key that is there, and the answer that the call must return.
+/// Returns the pair after adding by `way` to a key that is there, and the answer that the call must return.
 fn after_adding(asked: &Asked, way: Way, kind: Kind, old: Seen) -> (Seen, Answer) {
     let written = (old.0, old.1, asked.value);
     let swapped = (asked.number, asked.mark, old.2);
@@ -94,7 +94,7 @@ fn replace(list: &mut List, asked: &Asked, answer: Answer) -> Result<bool, Alloc
     add(list, asked, Way::Replace, answer)
 }
 
-// Sets the value of a key that is there, and returns the new pair.
+/// Sets the value of a key that is there, and returns the new pair.
 fn write(list: &mut List, asked: &Asked, old: Seen) -> Result<Seen, AllocError> {
     let new = (old.0, old.1, asked.value);
     list.renew(asked.hash, new)?;
@@ -121,7 +121,7 @@ fn modify(list: &mut List, asked: &Asked, answer: Answer) -> Result<bool, AllocE
     }
 }
 
-// Returns whether `next` is another pair of the list, or `None`.
+/// Returns whether `next` is another pair of the list, or `None`.
 fn is_other(list: &List, old: Seen, next: Option<Seen>) -> bool {
     match next {
         Some(pair) => pair.0 != old.0 && list.has(pair),
@@ -129,13 +129,13 @@ fn is_other(list: &List, old: Seen, next: Option<Seen>) -> bool {
     }
 }
 
-// Removes the pair of an entry. Returns `is_right`.
+/// Removes the pair of an entry. Returns `is_right`.
 fn take_out(list: &mut List, old: Seen, is_right: bool) -> bool {
     list.remove(old.0);
     is_right
 }
 
-// Does `act` on the entry of a pair that is there. Returns whether `answer` is right.
+/// Does `act` on the entry of a pair that is there. Returns whether `answer` is right.
 fn act_on(
     list: &mut List,
     asked: &Asked,
@@ -179,7 +179,7 @@ fn act_on(
     })
 }
 
-// Does `act` on the first entry, which may be any of the list. Returns whether `answer` is right.
+/// Does `act` on the first entry, which may be any of the list. Returns whether `answer` is right.
 fn act_on_first(list: &mut List, act: Act, answer: Answer) -> bool {
     match (act, answer) {
         (Act::Next, Answer::Found(None)) => list.len() < 2,
@@ -214,7 +214,7 @@ fn act(
     }
 }
 
-// Returns the answer for a removal that removes `pair`, or nothing.
+/// Returns the answer for a removal that removes `pair`, or nothing.
 fn gone(kind: Kind, pair: Option<Seen>) -> Answer {
     if kind == Kind::Index {
         Answer::Yes(pair.is_some())
@@ -242,8 +242,8 @@ fn remove_if(list: &mut List, asked: &Asked, answer: Answer) -> bool {
     answer == gone(kind, there)
 }
 
-// Adds 1 to each value, and removes the pairs that a walk takes. Returns whether `met`, if it is there, are the
-// removed pairs.
+/// Adds 1 to each value, and removes the pairs that a walk takes. Returns whether `met`, if it is there, are the
+/// removed pairs.
 fn take(
     alloc: Global,
     list: &mut List,
@@ -263,8 +263,8 @@ fn take(
     })
 }
 
-// Removes the pairs of `met`. Returns whether they are pairs of the list, as many as the call's number modulo 8, or
-// all if the list has fewer.
+/// Removes the pairs of `met`. Returns whether they are pairs of the list, as many as the call's number modulo 8, or
+/// all if the list has fewer.
 fn drain(list: &mut List, asked: &Asked, met: &[Seen]) -> bool {
     let most = (asked.number % 8) as usize;
     let mut is_right = met.len() == most.min(list.len());
@@ -275,7 +275,7 @@ fn drain(list: &mut List, asked: &Asked, met: &[Seen]) -> bool {
     is_right
 }
 
-// Makes a call that meets or removes many pairs. Returns whether `answer` and `met` are right.
+/// Makes a call that meets or removes many pairs. Returns whether `answer` and `met` are right.
 fn walk(
     alloc: Global,
     list: &mut List,

@@ -119,7 +119,7 @@ pub fn way_of(number: u64) -> Way {
     }
 }
 
-// Returns what a walk returns that adds pairs to a list: `Yes`, or `Refused` if the list had no room.
+/// Returns what a walk returns that adds pairs to a list: `Yes`, or `Refused` if the list had no room.
 fn walked(had_room: bool) -> Answer {
     if had_room {
         Answer::Yes(true)
@@ -128,7 +128,7 @@ fn walked(had_room: bool) -> Answer {
     }
 }
 
-// Makes a call that meets or removes many pairs, or a call on the whole container.
+/// Makes a call that meets or removes many pairs, or a call on the whole container.
 fn make_walk<F: Form>(
     alloc: Global,
     form: &mut F,

@@ -20,8 +20,8 @@ pub struct List {
     until_forgotten: Option<u64>,
 }
 
-// Returns the bucket of `hash` in an array of `capacity` slots: the first bits of `hash`, enough to number the
-// buckets.
+/// Returns the bucket of `hash` in an array of `capacity` slots: the first bits of `hash`, enough to number the
+/// buckets.
 fn bucket_of(hash: u64, capacity: usize) -> u64 {
     let wide = u128::from(hash) * (capacity / BUCKET) as u128;
     (wide >> 64) as u64
@@ -57,7 +57,7 @@ impl List {
         self.pairs.len()
     }
 
-    // Returns the position of the key with `number`.
+    /// Returns the position of the key with `number`.
     fn place_of(&self, number: u64) -> Option<usize> {
         self.pairs.iter().position(|pair| pair.1.0 == number)
     }
@@ -111,7 +111,7 @@ impl List {
         Ok(())
     }
 
-    // Returns the least recent pair in the bucket of `hash`, and the number of pairs in that bucket.
+    /// Returns the least recent pair in the bucket of `hash`, and the number of pairs in that bucket.
     fn least_of(&self, hash: u64) -> (Option<Seen>, usize) {
         let bucket = bucket_of(hash, self.capacity);
         let mut least = None;
@@ -127,8 +127,8 @@ impl List {
         (least, count)
     }
 
-    // Returns whether a new pair may evict `evicted`, or nothing if it is `None`. Only a cache evicts, from a full
-    // bucket. With one stripe it evicts the least recent pair of the bucket.
+    /// Returns whether a new pair may evict `evicted`, or nothing if it is `None`. Only a cache evicts, from a full
+    /// bucket. With one stripe it evicts the least recent pair of the bucket.
     fn can_lose(&self, hash: u64, evicted: Option<Seen>) -> bool {
         if self.kind != Kind::Cache {
             return evicted.is_none();
@@ -162,7 +162,7 @@ impl List {
         Ok(could_go)
     }
 
-    // Returns whether the list forgets the pair that is being added.
+    /// Returns whether the list forgets the pair that is being added.
     fn forgets(&mut self) -> bool {
         match self.until_forgotten {
             Some(others) => {
@@ -213,7 +213,7 @@ impl List {
         self.pairs.clear();
     }
 
-    // Returns the pairs sorted by bucket in an array of `capacity` slots, each bucket's in its order.
+    /// Returns the pairs sorted by bucket in an array of `capacity` slots, each bucket's in its order.
     fn grouped(&self, alloc: Global, capacity: usize) -> Result<Vec<Hashed>, AllocError> {
         let mut pairs = Vec::new(alloc);
         for bucket in 0..(capacity / BUCKET) as u64 {

@@ -47,7 +47,7 @@ impl Book {
         Some(alive)
     }
 
-    // Returns the number of the next token, if there is room for it.
+    /// Returns the number of the next token, if there is room for it.
     fn next(&self) -> Result<usize, AllocError> {
         let id = self.made.get();
         if id >= self.drops.len() {

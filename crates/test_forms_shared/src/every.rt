@@ -30,7 +30,7 @@ struct Size {
 }
 
 impl Size {
-    // Returns `of_one` if the size has one stripe, else `of_several`.
+    /// Returns `of_one` if the size has one stripe, else `of_several`.
     fn name(self, of_one: &'static str, of_several: &'static str) -> &'static str {
         if self.is_one { of_one } else { of_several }
     }
@@ -135,7 +135,7 @@ fn in_cache<R: Wait + AllocGlobal, C: Case>(
     case.check(alloc, &mut Held::of_stripes(rt, cache, size.is_one))
 }
 
-// Prints `what` and `form` if the case didn't hold. Returns the status of the case, whose container is gone.
+/// Prints `what` and `form` if the case didn't hold. Returns the status of the case, whose container is gone.
 fn tell<R: Print, C: Case>(
     rt: &R,
     case: &C,
@@ -150,7 +150,7 @@ fn tell<R: Print, C: Case>(
     }
 }
 
-// Tries a case in each owned kind. Returns the worst status.
+/// Tries a case in each owned kind. Returns the worst status.
 fn in_owned_forms<R: AllocGlobal + Print, C: Case>(
     rt: &R,
     case: &C,
@@ -168,7 +168,7 @@ fn in_owned_forms<R: AllocGlobal + Print, C: Case>(
     worst.max(tell(rt, case, "owned cache", what, cache))
 }
 
-// Tries a case in each shared kind of the given size. Returns the worst status.
+/// Tries a case in each shared kind of the given size. Returns the worst status.
 fn in_shared_forms<R: Wait + AllocGlobal + Print, C: Case>(
     rt: &R,
     case: &C,

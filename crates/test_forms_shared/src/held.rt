@@ -34,7 +34,7 @@ impl<'a, R, C> Held<'a, R, C> {
     }
 }
 
-// Returns what a walk returns that adds pairs to a list: `Yes`, or `Refused` if the list had no room.
+/// Returns what a walk returns that adds pairs to a list: `Yes`, or `Refused` if the list had no room.
 fn walked(had_room: bool) -> Answer {
     if had_room {
         Answer::Yes(true)

@@ -12,7 +12,7 @@ use test_kit::masked::{Masked, ZERO};
 use test_kit::refusals::{Refusal, TRIES};
 use test_kit::zero::Zero;
 
-// Checks a clone of three keys in 64 slots, and adds a fourth key to the clone alone.
+/// Checks a clone of three keys in 64 slots, and adds a fourth key to the clone alone.
 fn expect_copy<F: Form, R: Abort + Print>(
     rt: &R,
     refusal: &mut Refusal,
@@ -105,7 +105,7 @@ fn a_clone_of_an_index_is_whole(rt: HostRuntime) {
     expect_index(&rt, &mut refusal, &index);
 }
 
-// Removes key 2 from the map, and checks that the clone keeps it.
+/// Removes key 2 from the map, and checks that the clone keeps it.
 fn expect_two_maps<R: Abort + Wait>(
     rt: &R,
     map: &HashMap<u64, u64, Zero>,
@@ -149,7 +149,7 @@ fn a_clone_of_a_shared_map_is_whole(rt: HostRuntime) {
     expect(&rt, false);
 }
 
-// Removes key 2 from the set, and checks that the clone keeps it.
+/// Removes key 2 from the set, and checks that the clone keeps it.
 fn expect_two_sets<R: Abort + Wait>(rt: &R, set: &HashSet<u64, Zero>, copy: &HashSet<u64, Zero>) {
     expect(rt, set.remove_sync(rt, &2).is_some());
     expect(rt, copy.contains_sync(rt, &2));
@@ -189,7 +189,7 @@ fn a_clone_of_a_shared_set_is_whole(rt: HostRuntime) {
     expect(&rt, false);
 }
 
-// Removes key 2 from the index, and checks that the clone keeps it.
+/// Removes key 2 from the index, and checks that the clone keeps it.
 fn expect_two_indexs<R: Abort + Wait>(
     rt: &R,
     index: &HashIndex<u64, u64, Zero>,

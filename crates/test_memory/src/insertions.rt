@@ -26,7 +26,7 @@ enum State {
     Wide,
 }
 
-// Returns the pair that an insertion of `key` evicts from a bucket of 32, if any.
+/// Returns the pair that an insertion of `key` evicts from a bucket of 32, if any.
 fn driven_out(kind: Kind, way: Way, key: u64) -> Option<Seen> {
     if kind == Kind::Cache && key >= 32 {
         let oldest = key.saturating_sub(32);
@@ -36,7 +36,7 @@ fn driven_out(kind: Kind, way: Way, key: u64) -> Option<Seen> {
     }
 }
 
-// Returns the answer of `way` if the key is missing and memory is given.
+/// Returns the answer of `way` if the key is missing and memory is given.
 fn wanted(kind: Kind, way: Way, key: u64) -> Answer {
     let evicted = driven_out(kind, way, key);
     if way.lends(kind) {
@@ -49,7 +49,7 @@ fn wanted(kind: Kind, way: Way, key: u64) -> Answer {
     }
 }
 
-// Returns the first key that is present once `count` keys were added, from 0 on.
+/// Returns the first key that is present once `count` keys were added, from 0 on.
 fn first_kept(kind: Kind, count: u64) -> u64 {
     if kind == Kind::Cache {
         count.saturating_sub(32)
@@ -73,7 +73,7 @@ impl Looks {
     }
 }
 
-// Adds `key` by `way`, after the keys below it, until the insertion succeeds. A refused insertion must change nothing.
+/// Adds `key` by `way`, after the keys below it, until the insertion succeeds. A refused insertion must change nothing.
 pub(crate) fn expect_added<F: Form, R: Abort + Print>(
     rt: &R,
     refusal: &mut Refusal,
@@ -139,8 +139,8 @@ impl Job for Insertion {
     }
 }
 
-// Adds keys to a full bucket until the array has doubled. The first key doubles it. If the growth is refused, the key
-// is added all the same, and the next key tries again.
+/// Adds keys to a full bucket until the array has doubled. The first key doubles it. If the growth is refused, the key
+/// is added all the same, and the next key tries again.
 fn expect_growth<F: Form, R: Abort + Print>(
     rt: &R,
     refusal: &mut Refusal,
@@ -165,7 +165,7 @@ fn expect_growth<F: Form, R: Abort + Print>(
 // The ways that are tried if the keys before take much memory.
 const SOME: [Way; 4] = [Way::Insert, Way::Replace, Way::OrInsert, Way::Vacant];
 
-// Tries each of `ways` that the kind has.
+/// Tries each of `ways` that the kind has.
 fn expect_insertions<R: AllocGlobal + Abort + Print + Wait>(
     rt: &R,
     of: Of,

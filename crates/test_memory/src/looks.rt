@@ -8,12 +8,12 @@ use test_forms::numbered::Seen;
 use test_forms::token::Token;
 use test_kit::refusals::{Refusal, TRIES};
 
-// Returns the value of a key that was added by `way`: its complement, unless the way gives it another value.
+/// Returns the value of a key that was added by `way`: its complement, unless the way gives it another value.
 pub(crate) fn value_of(way: Way, key: u64) -> u64 {
     way.value(key, !key)
 }
 
-// Returns the numbers of a pair. A set shows no value.
+/// Returns the numbers of a pair. A set shows no value.
 pub(crate) fn pair_of(kind: Kind, key: u64, value: u64) -> Seen {
     if kind.shows_values() {
         (key, 0, value)
@@ -22,8 +22,8 @@ pub(crate) fn pair_of(kind: Kind, key: u64, value: u64) -> Seen {
     }
 }
 
-// Fails if a key from `first` up to, but without, `end` is missing or hasn't the value of `way`, or if another key is
-// present.
+/// Fails if a key from `first` up to, but without, `end` is missing or hasn't the value of `way`, or if another key is
+/// present.
 pub(crate) fn expect_keys<F: Form, R: Abort>(rt: &R, form: &F, way: Way, first: u64, end: u64) {
     let kind = form.kind();
     expect_eq(rt, form.sizes().len as u64, end.saturating_sub(first));
@@ -34,7 +34,7 @@ pub(crate) fn expect_keys<F: Form, R: Abort>(rt: &R, form: &F, way: Way, first: 
     expect_eq(rt, form.read(&Token::of(end)), Answer::Found(None));
 }
 
-// Adds a key until the insertion isn't refused.
+/// Adds a key until the insertion isn't refused.
 pub(crate) fn put<F: Form, R: Print>(
     rt: &R,
     refusal: &mut Refusal,
@@ -53,7 +53,7 @@ pub(crate) fn put<F: Form, R: Print>(
     }
 }
 
-// Adds the keys below `count`, with the values of `way`.
+/// Adds the keys below `count`, with the values of `way`.
 pub(crate) fn fill<F: Form, R: Abort + Print>(
     rt: &R,
     refusal: &mut Refusal,
@@ -67,8 +67,8 @@ pub(crate) fn fill<F: Form, R: Abort + Print>(
     expect_keys(rt, form, way, 0, count);
 }
 
-// Adds keys, each with its complement as value, to a container of 64 slots until it has 128. The 33rd key makes it
-// grow if the growth isn't refused. Returns the number of added keys; a cache has lost all but the last 32.
+/// Adds keys, each with its complement as value, to a container of 64 slots until it has 128. The 33rd key makes it
+/// grow if the growth isn't refused. Returns the number of added keys; a cache has lost all but the last 32.
 pub(crate) fn fill_to_growth<F: Form, R: Abort + Print>(
     rt: &R,
     refusal: &mut Refusal,
@@ -98,7 +98,7 @@ pub(crate) struct Look {
 }
 
 impl Look {
-    // Returns an empty look with room for all pairs of a case.
+    /// Returns an empty look with room for all pairs of a case.
     pub(crate) fn new<R: AllocGlobal + Abort + Print>(rt: &R, refusal: &mut Refusal) -> Look {
         for _ in 0..TRIES {
             match Vec::with_capacity(rt.alloc(), 96) {
@@ -115,7 +115,7 @@ impl Look {
         panic!(rt; "a list is refused each time")
     }
 
-    // Looks at `form`.
+    /// Looks at `form`.
     pub(crate) fn see<F: Form, R: Abort>(&mut self, rt: &R, form: &F) {
         self.pairs.clear();
         expect(rt, form.collect(&mut self.pairs));
@@ -123,8 +123,8 @@ impl Look {
         self.waiting = form.waiting();
     }
 
-    // Fails if the look `after` a refused call shows other pairs, another order or other sizes than this look before
-    // the call. If `may_grow`, the array may have doubled before the refusal. An index makes no such growth.
+    /// Fails if the look `after` a refused call shows other pairs, another order or other sizes than this look before
+    /// the call. If `may_grow`, the array may have doubled before the refusal. An index makes no such growth.
     pub(crate) fn expect_same<R: Abort>(&self, rt: &R, after: &Look, may_grow: bool) {
         expect_eq(rt, after.pairs.as_slice(), self.pairs.as_slice());
         match (self.sizes, after.sizes) {

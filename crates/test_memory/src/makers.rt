@@ -31,7 +31,7 @@ impl Of {
         }
     }
 
-    // Returns a number of slots for which each array has 128 slots.
+    /// Returns a number of slots for which each array has 128 slots.
     pub(crate) fn wide(self) -> usize {
         match self {
             Of::Map | Of::Set | Of::Index | Of::Cache => 128,
@@ -51,8 +51,8 @@ pub(crate) trait Job {
     );
 }
 
-// Makes an empty container with `slots` slots, and does the job with it. A shared container of 64 slots has one
-// stripe. A cache has at most 128 slots.
+/// Makes an empty container with `slots` slots, and does the job with it. A shared container of 64 slots has one
+/// stripe. A cache has at most 128 slots.
 pub(crate) fn with<J: Job, R: AllocGlobal + Abort + Print + Wait>(
     rt: &R,
     refusal: &mut Refusal,
@@ -72,7 +72,7 @@ pub(crate) fn with<J: Job, R: AllocGlobal + Abort + Print + Wait>(
     }
 }
 
-// Makes a container of the items, and does the job with it.
+/// Makes a container of the items, and does the job with it.
 pub(crate) fn of_items<J: Job, R: AllocGlobal + Abort + Print + Wait>(
     rt: &R,
     refusal: &mut Refusal,
@@ -91,8 +91,8 @@ pub(crate) fn of_items<J: Job, R: AllocGlobal + Abort + Print + Wait>(
     }
 }
 
-// Returns the item of a key, which has its complement as value. Containers are made of the items of the keys below 34,
-// enough to make an array grow.
+/// Returns the item of a key, which has its complement as value. Containers are made of the items of the keys below 34,
+/// enough to make an array grow.
 pub(crate) fn item(key: u64) -> (Token, Token) {
     (Token::of(key), Token::of(!key))
 }

@@ -3,7 +3,7 @@ use crate::makers::Of;
 use std::io::Print;
 use test_kit::refusals::Refusal;
 
-// Reports that an insertion was refused.
+/// Reports that an insertion was refused.
 pub(crate) fn insertion<R: Print>(rt: &R, refusal: &mut Refusal, of: Of) {
     match of {
         Of::Map => refusal.meet(rt, "an insertion into a map"),
@@ -17,7 +17,7 @@ pub(crate) fn insertion<R: Print>(rt: &R, refusal: &mut Refusal, of: Of) {
     }
 }
 
-// Reports that a growth was refused. The pair is inserted all the same.
+/// Reports that a growth was refused. The pair is inserted all the same.
 pub(crate) fn growth<R: Print>(rt: &R, refusal: &mut Refusal, of: Of) {
     match of {
         Of::Map => refusal.meet(rt, "a growth of a map"),
@@ -31,7 +31,7 @@ pub(crate) fn growth<R: Print>(rt: &R, refusal: &mut Refusal, of: Of) {
     }
 }
 
-// Reports that a shrink was refused. The pair is removed all the same.
+/// Reports that a shrink was refused. The pair is removed all the same.
 pub(crate) fn shrink<R: Print>(rt: &R, refusal: &mut Refusal, of: Of) {
     match of {
         Of::Map => refusal.meet(rt, "a shrink of a map"),
@@ -45,7 +45,7 @@ pub(crate) fn shrink<R: Print>(rt: &R, refusal: &mut Refusal, of: Of) {
     }
 }
 
-// Reports that a walk that takes pairs was refused room in its list.
+/// Reports that a walk that takes pairs was refused room in its list.
 pub(crate) fn walk<R: Print>(rt: &R, refusal: &mut Refusal, of: Of) {
     match of {
         Of::Map => refusal.meet(rt, "a taking walk of a map"),
@@ -58,7 +58,7 @@ pub(crate) fn walk<R: Print>(rt: &R, refusal: &mut Refusal, of: Of) {
     }
 }
 
-// Reports that the growth of a reservation was refused. The slots are reserved all the same.
+/// Reports that the growth of a reservation was refused. The slots are reserved all the same.
 pub(crate) fn reservation<R: Print>(rt: &R, refusal: &mut Refusal, of: Of) {
     match of {
         Of::Map => refusal.meet(rt, "a growth at a reservation of a map"),

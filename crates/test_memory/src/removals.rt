@@ -36,7 +36,7 @@ const REMOVALS: [Removal; 7] = [
 ];
 
 impl Removal {
-    // Returns whether the kind has this removal.
+    /// Returns whether the kind has this removal.
     fn is_of(self, kind: Kind) -> bool {
         match self {
             Removal::Value => kind.writes_values(),
@@ -45,7 +45,7 @@ impl Removal {
         }
     }
 
-    // Returns whether the removal of `key` takes out `other`.
+    /// Returns whether the removal of `key` takes out `other`.
     fn takes(self, key: u64, other: u64) -> bool {
         match self {
             Removal::Walk | Removal::Clear => true,
@@ -54,7 +54,7 @@ impl Removal {
         }
     }
 
-    // Returns the value that the other keys have after the removal.
+    /// Returns the value that the other keys have after the removal.
     fn leaves(self, kind: Kind, key: u64) -> u64 {
         let value = value_of(Way::Insert, key);
         if self == Removal::Retain && kind.writes_values() {
@@ -65,7 +65,7 @@ impl Removal {
     }
 }
 
-// Returns the answer of a removal of a pair.
+/// Returns the answer of a removal of a pair.
 fn removed(kind: Kind, key: u64, value: u64) -> Answer {
     if kind == Kind::Index {
         Answer::Yes(true)
@@ -74,7 +74,7 @@ fn removed(kind: Kind, key: u64, value: u64) -> Answer {
     }
 }
 
-// Takes all pairs, until the list has had room for each.
+/// Takes all pairs, until the list has had room for each.
 fn take_all<F: Form, R: AllocGlobal + Abort + Print>(
     rt: &R,
     refusal: &mut Refusal,
@@ -94,7 +94,7 @@ fn take_all<F: Form, R: AllocGlobal + Abort + Print>(
     expect_eq(rt, look.pairs.len(), 17);
 }
 
-// Removes the pair of `key`, or more pairs with it.
+/// Removes the pair of `key`, or more pairs with it.
 fn remove<F: Form, R: AllocGlobal + Abort + Print>(
     rt: &R,
     refusal: &mut Refusal,
@@ -130,8 +130,8 @@ fn remove<F: Form, R: AllocGlobal + Abort + Print>(
     }
 }
 
-// Fills a bucket of an array of 64 slots until the array has doubled, and removes all keys but the last 17, one more
-// than an eighth of the slots. Returns the number of keys that were added, from 0 on.
+/// Fills a bucket of an array of 64 slots until the array has doubled, and removes all keys but the last 17, one more
+/// than an eighth of the slots. Returns the number of keys that were added, from 0 on.
 fn thin_out<F: Form, R: Abort + Print>(rt: &R, refusal: &mut Refusal, form: &mut F) -> u64 {
     let count = fill_to_growth(rt, refusal, form);
     for key in 0..count {
@@ -143,7 +143,7 @@ fn thin_out<F: Form, R: Abort + Print>(rt: &R, refusal: &mut Refusal, form: &mut
     count
 }
 
-// Removes the first key from `first` on that is present. Returns the key after it.
+/// Removes the first key from `first` on that is present. Returns the key after it.
 fn remove_next<F: Form>(form: &mut F, first: u64) -> u64 {
     let mut key = first;
     let before = form.sizes().len;
@@ -157,7 +157,7 @@ fn remove_next<F: Form>(form: &mut F, first: u64) -> u64 {
     key
 }
 
-// Shrinks the array by one removal after another, and by clearing, until the shrink isn't refused.
+/// Shrinks the array by one removal after another, and by clearing, until the shrink isn't refused.
 pub(crate) fn expect_shrunk<F: Form, R: Abort + Print>(
     rt: &R,
     refusal: &mut Refusal,
@@ -219,7 +219,7 @@ impl Job for Shrink {
     }
 }
 
-// Tries each removal that the kind has.
+/// Tries each removal that the kind has.
 fn expect_shrinks<R: AllocGlobal + Abort + Print + Wait>(rt: &R, of: Of) {
     let mut refusal = Refusal::new();
     for removal in REMOVALS {

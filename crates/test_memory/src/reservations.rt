@@ -70,7 +70,7 @@ impl Job for Greatest {
     }
 }
 
-// Tries both reservations, the second on a container without an array.
+/// Tries both reservations, the second on a container without an array.
 fn expect_reservations<R: AllocGlobal + Abort + Print + Wait>(rt: &R, of: Of) {
     let mut refusal = Refusal::new();
     with(rt, &mut refusal, of, 64, &Reservation);

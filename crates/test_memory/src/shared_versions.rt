@@ -12,7 +12,7 @@ use test_kit::zero::Zero;
 
 type Index = HashIndex<u64, u64, Zero>;
 
-// Returns an index of the keys 0 and 1, each with its complement as value.
+/// Returns an index of the keys 0 and 1, each with its complement as value.
 fn of_two<R: AllocGlobal + Abort + Print + Wait>(rt: &R, refusal: &mut Refusal) -> Index {
     for _ in 0..TRIES {
         match HashIndex::try_from_iter(rt, rt.alloc(), [(0, !0), (1, !1)]) {
@@ -23,8 +23,8 @@ fn of_two<R: AllocGlobal + Abort + Print + Wait>(rt: &R, refusal: &mut Refusal) 
     panic!(rt; "it is refused each time")
 }
 
-// Sets the value of key 1 by its entry until the call isn't refused. While it is refused, the entry shows the old
-// value.
+/// Sets the value of key 1 by its entry until the call isn't refused. While it is refused, the entry shows the old
+/// value.
 fn expect_updated<R: Abort + Print + Wait>(
     rt: &R,
     refusal: &mut Refusal,
@@ -48,8 +48,8 @@ fn expect_updated<R: Abort + Print + Wait>(
     expect_eq(rt, (*entry.key(), *entry.get()), (1, value));
 }
 
-// Publishes the value of key 1 with its lowest bit flipped. If it is refused, the entry comes back as it was with the
-// value that the closure returned, and publishes that value by its next calls.
+/// Publishes the value of key 1 with its lowest bit flipped. If it is refused, the entry comes back as it was with the
+/// value that the closure returned, and publishes that value by its next calls.
 fn expect_modified<R: Abort + Print + Wait>(rt: &R, refusal: &mut Refusal, index: &Index) {
     match index.entry_sync(rt, 1).and_modify(|value| *value ^ 1) {
         Ok(entry) => expect_eq(rt, *entry.key(), 1),
@@ -74,7 +74,7 @@ fn expect_modified<R: Abort + Print + Wait>(rt: &R, refusal: &mut Refusal, index
     }
 }
 
-// A peeked version stays as it was, whatever is refused after it.
+/// A peeked version stays as it was, whatever is refused after it.
 #[test]
 fn a_refused_shared_entry_publishes_by_its_next_call(rt: HostRuntime) {
     let mut refusal = Refusal::new();
@@ -89,7 +89,7 @@ fn a_refused_shared_entry_publishes_by_its_next_call(rt: HostRuntime) {
     }
 }
 
-// Checks a clone of the versions, and then the versions themselves, once the index is empty.
+/// Checks a clone of the versions, and then the versions themselves, once the index is empty.
 fn expect_cloned<R: Abort + Print + Wait>(
     rt: &R,
     refusal: &mut Refusal,
@@ -110,7 +110,7 @@ fn expect_cloned<R: Abort + Print + Wait>(
     expect(rt, false);
 }
 
-// A snapshot and its clone keep their versions, whatever happens to the index.
+/// A snapshot and its clone keep their versions, whatever happens to the index.
 #[test]
 fn a_refused_clone_of_a_snapshot_leaves_the_shared_snapshot(rt: HostRuntime) {
     let mut refusal = Refusal::new();

@@ -90,7 +90,7 @@ fn a_refused_change_leaves_the_shared_version(rt: HostRuntime) {
     expect_changes(&rt, Of::SharedIndex);
 }
 
-// Returns an index of the keys 0 and 1, each with its complement as value.
+/// Returns an index of the keys 0 and 1, each with its complement as value.
 fn of_two<R: AllocGlobal + Abort + Print>(rt: &R, refusal: &mut Refusal) -> Index {
     for _ in 0..TRIES {
         match Owned::try_from_iter(rt.alloc(), [(0, !0), (1, !1)]) {
@@ -101,8 +101,8 @@ fn of_two<R: AllocGlobal + Abort + Print>(rt: &R, refusal: &mut Refusal) -> Inde
     panic!(rt; "it is refused each time")
 }
 
-// Sets the value of key 1 by its entry until the call isn't refused. While it is refused, the entry shows the old
-// value.
+/// Sets the value of key 1 by its entry until the call isn't refused. While it is refused, the entry shows the old
+/// value.
 fn expect_updated<R: Abort + Print>(
     rt: &R,
     refusal: &mut Refusal,
@@ -126,8 +126,8 @@ fn expect_updated<R: Abort + Print>(
     expect_eq(rt, (*entry.key(), *entry.get()), (1, value));
 }
 
-// Publishes the value of key 1 with its lowest bit flipped. If it is refused, the entry comes back as it was with the
-// value that the closure returned, and publishes that value by its next calls.
+/// Publishes the value of key 1 with its lowest bit flipped. If it is refused, the entry comes back as it was with the
+/// value that the closure returned, and publishes that value by its next calls.
 fn expect_modified<R: Abort + Print>(rt: &R, refusal: &mut Refusal, index: &mut Index) {
     match index.entry_sync(1).and_modify(|value| *value ^ 1) {
         Ok(entry) => expect_eq(rt, *entry.key(), 1),
@@ -167,7 +167,7 @@ fn a_refused_entry_publishes_by_its_next_call(rt: HostRuntime) {
     expect_eq(&rt, values, (Some(!0), Some(7)));
 }
 
-// Checks that there are two versions, each with the complement of its key as value, and none after them.
+/// Checks that there are two versions, each with the complement of its key as value, and none after them.
 pub(crate) fn expect_versions<R: Abort>(rt: &R, versions: Iter<u64, u64>) {
     let mut left = versions;
     let mut seen = 0usize;
@@ -183,7 +183,7 @@ pub(crate) fn expect_versions<R: Abort>(rt: &R, versions: Iter<u64, u64>) {
     );
 }
 
-// Checks a clone of the versions, and then the versions themselves, once the index is empty.
+/// Checks a clone of the versions, and then the versions themselves, once the index is empty.
 fn expect_cloned<R: Abort + Print>(
     rt: &R,
     refusal: &mut Refusal,
@@ -204,7 +204,7 @@ fn expect_cloned<R: Abort + Print>(
     expect(rt, false);
 }
 
-// A snapshot and its clone keep their versions, whatever happens to the index.
+/// A snapshot and its clone keep their versions, whatever happens to the index.
 #[test]
 fn a_refused_clone_of_a_snapshot_leaves_the_snapshot(rt: HostRuntime) {
     let mut refusal = Refusal::new();

@@ -16,13 +16,13 @@ use test_kit::refusals::{Refusal, TRIES};
 
 const KEYS: u64 = 12;
 
-// Returns whether a pair was taken, with the 9 that the closure wrote.
+/// Returns whether a pair was taken, with the 9 that the closure wrote.
 fn is_taken(kind: Kind, taken: &[Seen], key: u64) -> bool {
     let pair = pair_of(kind, key, 9);
     taken.iter().any(|other| *other == pair)
 }
 
-// Checks that each key is in the list, or in the container with its old value.
+/// Checks that each key is in the list, or in the container with its old value.
 fn expect_parted<F: Form, R: Abort>(rt: &R, form: &F, taken: &[Seen]) {
     let kind = form.kind();
     let all = form.sizes().len.saturating_add(taken.len());

@@ -15,7 +15,7 @@ use test_kit::masked::{Masked, ZERO};
 use test_kit::refusals::{Refusal, TRIES};
 use test_kit::zero::Zero;
 
-// Tries each way on an owned container.
+/// Tries each way on an owned container.
 fn expect_no_array<C: Form + Reserving, R: Abort + Print>(rt: &R, owned: &mut C) {
     let token = owned
         .reserve_slots(GREATEST)

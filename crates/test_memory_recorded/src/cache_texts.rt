@@ -18,8 +18,8 @@ use test_kit::zero::Zero;
 
 type Names = Owned<u64, String, Shared<Zero>>;
 
-// Returns whether `reply` is the reply of the put of `key`: the put of key 32 evicts key 0 with its text, and no other
-// put evicts.
+/// Returns whether `reply` is the reply of the put of `key`: the put of key 32 evicts key 0 with its text, and no other
+/// put evicts.
 fn is_answer(key: u64, reply: &Reply<u64, String>) -> bool {
     match reply {
         Reply::Evicted(None) => key < 32,
@@ -28,7 +28,7 @@ fn is_answer(key: u64, reply: &Reply<u64, String>) -> bool {
     }
 }
 
-// Returns the number of pairs in the cache, asking again until the call succeeds.
+/// Returns the number of pairs in the cache, asking again until the call succeeds.
 fn length<L: Ledger, M: Site<Shared<Zero>>, R: AllocGlobal + Print + Wait>(
     rt: &R,
     refusal: &mut Refusal,
@@ -44,14 +44,14 @@ fn length<L: Ledger, M: Site<Shared<Zero>>, R: AllocGlobal + Print + Wait>(
     None
 }
 
-// Returns the clock of `pass`, and the number of its receipts.
+/// Returns the clock of `pass`, and the number of its receipts.
 fn said<L: Ledger>(pass: &Pass<Names, L>) -> (u64, usize) {
     (pass.clock(), pass.receipts().len())
 }
 
-// Puts a key once, and returns whether its reply is right, or `None` if its text or the put was refused. Key 0 has the
-// text "x", and every other key an empty text, which allocates nothing. The container may refuse only the put of key
-// 32: any other refusal by it is wrong.
+/// Puts a key once, and returns whether its reply is right, or `None` if its text or the put was refused. Key 0 has the
+/// text "x", and every other key an empty text, which allocates nothing. The container may refuse only the put of key
+/// 32: any other refusal by it is wrong.
 fn put<L: Ledger, M: Site<Shared<Zero>>, R: AllocGlobal + Print + Wait>(
     rt: &R,
     refusal: &mut Refusal,
@@ -75,7 +75,7 @@ fn put<L: Ledger, M: Site<Shared<Zero>>, R: AllocGlobal + Print + Wait>(
     }
 }
 
-// Puts a key until it goes in. A refused put leaves the pass as it was, and the pairs of the keys below.
+/// Puts a key until it goes in. A refused put leaves the pass as it was, and the pairs of the keys below.
 fn expect_put<L: Ledger, M: Site<Shared<Zero>>, R: AllocGlobal + Abort + Print + Wait>(
     rt: &R,
     refusal: &mut Refusal,
@@ -96,8 +96,8 @@ fn expect_put<L: Ledger, M: Site<Shared<Zero>>, R: AllocGlobal + Abort + Print +
     expect(rt, false);
 }
 
-// Looks for key 0 once, and returns whether it has its text if there are keys, or is missing if there are none.
-// Returns `None` if the look was refused.
+/// Looks for key 0 once, and returns whether it has its text if there are keys, or is missing if there are none.
+/// Returns `None` if the look was refused.
 fn look<L: Ledger, M: Site<Shared<Zero>>, R: Print + Wait>(
     rt: &R,
     refusal: &mut Refusal,
@@ -115,7 +115,7 @@ fn look<L: Ledger, M: Site<Shared<Zero>>, R: Print + Wait>(
     }
 }
 
-// Looks for key 0 until the look succeeds.
+/// Looks for key 0 until the look succeeds.
 fn expect_first<L: Ledger, M: Site<Shared<Zero>>, R: Abort + Print + Wait>(
     rt: &R,
     refusal: &mut Refusal,
@@ -131,7 +131,7 @@ fn expect_first<L: Ledger, M: Site<Shared<Zero>>, R: Abort + Print + Wait>(
     expect(rt, false);
 }
 
-// Puts the keys 0 to 32 with the only pass, in a bucket of 32 slots.
+/// Puts the keys 0 to 32 with the only pass, in a bucket of 32 slots.
 fn put_all<L: Ledger, M: Site<Shared<Zero>>, R: AllocGlobal + Abort + Print + Wait>(
     rt: &R,
     refusal: &mut Refusal,
@@ -146,7 +146,7 @@ fn put_all<L: Ledger, M: Site<Shared<Zero>>, R: AllocGlobal + Abort + Print + Wa
     }
 }
 
-// Runs the test on one stripe of 64 slots. Returns false if the container was refused.
+/// Runs the test on one stripe of 64 slots. Returns false if the container was refused.
 fn on_one_stripe<L: Ledger, M: Site<Shared<Zero>>, R: AllocGlobal + Abort + Print + Wait>(
     rt: &R,
     refusal: &mut Refusal,

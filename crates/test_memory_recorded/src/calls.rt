@@ -15,7 +15,7 @@ use std::sync::{Arc, Wait};
 use test_kit::refusals::{Refusal, TRIES};
 use test_kit::zero::Zero;
 
-// Returns one owner of the hasher, or `None` if memory is refused each time.
+/// Returns one owner of the hasher, or `None` if memory is refused each time.
 pub(crate) fn shared<R: AllocGlobal + Print>(
     rt: &R,
     refusal: &mut Refusal,
@@ -29,7 +29,7 @@ pub(crate) fn shared<R: AllocGlobal + Print>(
     None
 }
 
-// Checks that the clock of `pass` and the number of its receipts are `clock`. They are equal if it is the only pass.
+/// Checks that the clock of `pass` and the number of its receipts are `clock`. They are equal if it is the only pass.
 pub(crate) fn expect_clock<C: Tried, L: Ledger, R: Abort>(rt: &R, pass: &Pass<C, L>, clock: usize) {
     expect_eq(
         rt,
@@ -38,7 +38,7 @@ pub(crate) fn expect_clock<C: Tried, L: Ledger, R: Abort>(rt: &R, pass: &Pass<C,
     );
 }
 
-// Makes the call with this number once, and returns whether its reply is right, or `None` if the call has no key.
+/// Makes the call with this number once, and returns whether its reply is right, or `None` if the call has no key.
 fn make_call<C: Tried, L: Ledger, M: Site<C::Hasher>, R: Wait>(
     rt: &R,
     recorded: &Recorded<C, L, M>,
@@ -56,7 +56,7 @@ fn make_call<C: Tried, L: Ledger, M: Site<C::Hasher>, R: Wait>(
     }
 }
 
-// Makes the call with this number until it succeeds.
+/// Makes the call with this number until it succeeds.
 fn expect_call<C: Tried, L: Ledger, M: Site<C::Hasher>, R: Abort + Print + Wait>(
     rt: &R,
     refusal: &mut Refusal,
@@ -80,8 +80,8 @@ fn expect_call<C: Tried, L: Ledger, M: Site<C::Hasher>, R: Abort + Print + Wait>
     expect_clock(rt, pass, before.saturating_add(1));
 }
 
-// Counts the keys of both stripes. If a stripe is refused, the stripes before it are counted and recorded, and the
-// next call counts both.
+/// Counts the keys of both stripes. If a stripe is refused, the stripes before it are counted and recorded, and the
+/// next call counts both.
 fn expect_length<C: Tried, L: Ledger, M: Site<C::Hasher>, R: Abort + Print + Wait>(
     rt: &R,
     refusal: &mut Refusal,
@@ -108,8 +108,8 @@ fn expect_length<C: Tried, L: Ledger, M: Site<C::Hasher>, R: Abort + Print + Wai
     expect(rt, false);
 }
 
-// Clears both stripes. If a stripe is refused, the stripes before it are cleared and recorded, and the next call
-// clears both.
+/// Clears both stripes. If a stripe is refused, the stripes before it are cleared and recorded, and the next call
+/// clears both.
 fn expect_clearing<C: Tried, L: Ledger, M: Site<C::Hasher>, R: Abort + Print + Wait>(
     rt: &R,
     refusal: &mut Refusal,
@@ -135,8 +135,8 @@ fn expect_clearing<C: Tried, L: Ledger, M: Site<C::Hasher>, R: Abort + Print + W
     expect(rt, false);
 }
 
-// Makes all calls on two stripes, and the finish. The second stripe stays empty. Returns false if the container was
-// refused.
+/// Makes all calls on two stripes, and the finish. The second stripe stays empty. Returns false if the container was
+/// refused.
 fn call_and_finish<C: Tried, L: Ledger, M: Site<C::Hasher>, R: AllocGlobal + Abort + Print + Wait>(
     rt: &R,
     refusal: &mut Refusal,
@@ -171,8 +171,8 @@ where
     }
 }
 
-// Makes all calls with one pass: one key is present after them, none after the clearing, and then one again. The
-// second stripe has room for three steps, so the clearing asks for more after the first stripe is cleared.
+/// Makes all calls with one pass: one key is present after them, none after the clearing, and then one again. The
+/// second stripe has room for three steps, so the clearing asks for more after the first stripe is cleared.
 fn call_all<C: Tried, L: Ledger, M: Site<C::Hasher>, R: Abort + Print + Wait>(
     rt: &R,
     refusal: &mut Refusal,
@@ -190,7 +190,7 @@ fn call_all<C: Tried, L: Ledger, M: Site<C::Hasher>, R: Abort + Print + Wait>(
     expect_call(rt, refusal, recorded, pass, 0);
 }
 
-// Opens a container whose hasher has several owners, and makes the calls. Returns whether it could be opened.
+/// Opens a container whose hasher has several owners, and makes the calls. Returns whether it could be opened.
 fn attempt<C: Tried, R: AllocGlobal + Abort + Print + Wait>(rt: &R, refusal: &mut Refusal) -> bool
 where
     C::Hasher: CloneOwner + Drop,

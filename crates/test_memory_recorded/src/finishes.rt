@@ -7,7 +7,7 @@ use std::process::Abort;
 use std::sync::ledger::Ledger;
 use test_kit::refusals::{Refusal, TRIES};
 
-// Returns the number of steps in the histories of all stripes.
+/// Returns the number of steps in the histories of all stripes.
 fn steps_of<C: Tried, L: Ledger, M: Site<C::Hasher>>(closed: &Closed<C, L, M>) -> usize {
     let mut steps = 0usize;
     for guarded in closed.stripes.as_slice() {
@@ -16,12 +16,12 @@ fn steps_of<C: Tried, L: Ledger, M: Site<C::Hasher>>(closed: &Closed<C, L, M>) -
     steps
 }
 
-// Returns the clock of the first pass.
+/// Returns the clock of the first pass.
 fn clock_of<C: Tried, L: Ledger>(passes: &[Pass<C, L>]) -> Option<u64> {
     passes.first().map(|pass| pass.clock())
 }
 
-// Returns what a refused finish handed back, and checks that it is what was handed in.
+/// Returns what a refused finish handed back, and checks that it is what was handed in.
 fn handed_back<C: Tried, L: Ledger, M: Site<C::Hasher>, R: Abort + Print>(
     rt: &R,
     refusal: &mut Refusal,
@@ -44,7 +44,7 @@ where
     (back.recorded, back.passes)
 }
 
-// Checks that the order has all steps, and that the calls in it have the stamps from 1 on.
+/// Checks that the order has all steps, and that the calls in it have the stamps from 1 on.
 fn expect_told<C: Tried, R: Abort>(
     rt: &R,
     finished: &Finished<C>,
@@ -65,7 +65,7 @@ fn expect_told<C: Tried, R: Abort>(
     expect_eq(rt, (are_in_turn, Some(stamps)), (true, clock));
 }
 
-// Finishes the run. Returns `None` if the finish is refused each time.
+/// Finishes the run. Returns `None` if the finish is refused each time.
 fn finished<C: Tried, L: Ledger, M: Site<C::Hasher>, R: Abort + Print>(
     rt: &R,
     refusal: &mut Refusal,
@@ -87,7 +87,7 @@ where
     None
 }
 
-// Finishes a run of one pass, until the finish succeeds, and checks the number of keys then in the first stripe.
+/// Finishes a run of one pass, until the finish succeeds, and checks the number of keys then in the first stripe.
 pub(crate) fn expect_finished<C: Tried, L: Ledger, M: Site<C::Hasher>, R: Abort + Print>(
     rt: &R,
     refusal: &mut Refusal,
@@ -109,7 +109,7 @@ where
     }
 }
 
-// Returns the number of keys of the first part.
+/// Returns the number of keys of the first part.
 fn count_of<C: Tried>(parts: &[C]) -> Option<usize> {
     match parts.first() {
         Some(part) => Some(part.count()),

@@ -6,7 +6,7 @@ use std::process::Abort;
 use std::sync::ledger::Ledger;
 use test_kit::refusals::{Refusal, TRIES};
 
-// Returns the number of passes, the sum of their clocks, and the number of their receipts.
+/// Returns the number of passes, the sum of their clocks, and the number of their receipts.
 fn clocks_of<C: Calls, L: Ledger>(passes: &[Pass<C, L>]) -> (usize, u64, usize) {
     let (mut clocks, mut receipts) = (0u64, 0usize);
     for pass in passes {
@@ -16,7 +16,7 @@ fn clocks_of<C: Calls, L: Ledger>(passes: &[Pass<C, L>]) -> (usize, u64, usize) 
     (passes.len(), clocks, receipts)
 }
 
-// Returns the number of stripes, and the number of steps in their histories.
+/// Returns the number of stripes, and the number of steps in their histories.
 fn steps_of<C: Calls + Drop, L: Ledger, M: Site<C::Hasher>>(
     closed: &Closed<C, L, M>,
 ) -> (usize, usize)
@@ -30,8 +30,8 @@ where
     (closed.stripes.len(), steps)
 }
 
-// Returns what can be seen of an unfinished run: the numbers of stripes, steps and passes, the sum of the passes'
-// clocks, and the number of their receipts.
+/// Returns what can be seen of an unfinished run: the numbers of stripes, steps and passes, the sum of the passes'
+/// clocks, and the number of their receipts.
 fn seen_of<C: Calls + Drop, L: Ledger, M: Site<C::Hasher>>(
     closed: &Closed<C, L, M>,
     passes: &[Pass<C, L>],
@@ -44,7 +44,7 @@ where
     [stripes, steps, passes, clocks as usize, receipts]
 }
 
-// Reports a refused finish, by whether a call before it was refused room for its record.
+/// Reports a refused finish, by whether a call before it was refused room for its record.
 fn meet_finish<R: Print>(rt: &R, refusal: &mut Refusal, lacked_room: bool) {
     if lacked_room {
         refusal.meet(rt, "a finish after room for a record");
@@ -53,7 +53,7 @@ fn meet_finish<R: Print>(rt: &R, refusal: &mut Refusal, lacked_room: bool) {
     }
 }
 
-// Returns what a refused finish handed back, and checks that it is seen as it was `before` the finish.
+/// Returns what a refused finish handed back, and checks that it is seen as it was `before` the finish.
 fn handed_back<C: Calls + Drop, L: Ledger, M: Site<C::Hasher>, R: Abort + Print>(
     rt: &R,
     refusal: &mut Refusal,
@@ -70,8 +70,8 @@ where
     (back.recorded, back.passes)
 }
 
-// Finishes the run, in which a call was refused room for its record if `lacked_room`. Returns `None` if the finish is
-// refused each time.
+/// Finishes the run, in which a call was refused room for its record if `lacked_room`. Returns `None` if the finish is
+/// refused each time.
 pub(crate) fn finished<C: Calls + Drop, L: Ledger, M: Site<C::Hasher>, R: Abort + Print>(
     rt: &R,
     refusal: &mut Refusal,

@@ -18,7 +18,7 @@ use std::sync::ledger::{Blank, Ledger};
 use test_kit::refusals::{Refusal, TRIES};
 use test_kit::zero::Zero;
 
-// Reports what an insertion was refused. The keys below `key` stay.
+/// Reports what an insertion was refused. The keys below `key` stay.
 fn meet_insertion<R: Print>(rt: &R, refusal: &mut Refusal, cause: CallError, key: u64) {
     match cause {
         CallError::Room => refusal.meet(rt, "room for a recorded insertion"),
@@ -27,7 +27,7 @@ fn meet_insertion<R: Print>(rt: &R, refusal: &mut Refusal, cause: CallError, key
     }
 }
 
-// Inserts a key with its complement as value, after the keys below it, until the insertion succeeds.
+/// Inserts a key with its complement as value, after the keys below it, until the insertion succeeds.
 fn expect_inserted<L: Ledger, M: Site<Shared<Zero>>, R: Abort + Print + Wait>(
     rt: &R,
     refusal: &mut Refusal,
@@ -60,8 +60,8 @@ fn expect_inserted<L: Ledger, M: Site<Shared<Zero>>, R: Abort + Print + Wait>(
     expect_eq(rt, pass.receipts().get(before), Some(&last));
 }
 
-// Checks that the first array stands in the history before the first insertion, and the growth before the last
-// insertion, unless it was refused.
+/// Checks that the first array stands in the history before the first insertion, and the growth before the last
+/// insertion, unless it was refused.
 fn expect_growth<L: Ledger, M: Site<Shared<Zero>>, R: Abort + Print>(
     rt: &R,
     refusal: &mut Refusal,
@@ -82,8 +82,8 @@ fn expect_growth<L: Ledger, M: Site<Shared<Zero>>, R: Abort + Print>(
     }
 }
 
-// Inserts keys up to the key that grows the array while its bucket is full, and finishes. Returns false if the
-// container was refused.
+/// Inserts keys up to the key that grows the array while its bucket is full, and finishes. Returns false if the
+/// container was refused.
 fn grow_and_finish<L: Ledger, M: Site<Shared<Zero>>, R: AllocGlobal + Abort + Print + Wait>(
     rt: &R,
     refusal: &mut Refusal,
@@ -112,7 +112,7 @@ fn grow_and_finish<L: Ledger, M: Site<Shared<Zero>>, R: AllocGlobal + Abort + Pr
     }
 }
 
-// Makes the insertions with the only pass, and the finish.
+/// Makes the insertions with the only pass, and the finish.
 fn insert_and_finish<L: Ledger, M: Site<Shared<Zero>>, R: Abort + Print + Wait>(
     rt: &R,
     refusal: &mut Refusal,

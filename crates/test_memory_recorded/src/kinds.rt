@@ -32,7 +32,7 @@ pub(crate) enum What {
 // The number of calls that each kind makes.
 pub(crate) const CALLS: u64 = 8;
 
-// Returns the number of keys present after `made` calls.
+/// Returns the number of keys present after `made` calls.
 pub(crate) fn count_after(made: usize) -> usize {
     match made {
         0 => 0,
@@ -43,19 +43,19 @@ pub(crate) fn count_after(made: usize) -> usize {
 
 // A kind with its calls.
 pub(crate) trait Tried: WholeCalls + Drop {
-    // Returns the call with this number, and its reply.
+    /// Returns the call with this number, and its reply.
     fn call_of(number: u64) -> (Self::Call, Self::Reply);
 
-    // Returns the number of keys.
+    /// Returns the number of keys.
     fn count(&self) -> usize;
 
-    // Returns an empty container.
+    /// Returns an empty container.
     fn made(alloc: Global, hasher: Shared<Zero>) -> Self;
 
-    // Returns the hasher that the container is made with.
+    /// Returns the hasher that the container is made with.
     fn hasher(hasher: Shared<Zero>) -> Self::Hasher;
 
-    // Reports what was refused.
+    /// Reports what was refused.
     fn meet<R: Print>(rt: &R, refusal: &mut Refusal, what: What);
 
     // A clone of a call equals the call.

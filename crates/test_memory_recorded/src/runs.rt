@@ -10,7 +10,7 @@ use std::process::Abort;
 use test_kit::refusals::{Refusal, TRIES};
 use test_kit::zero::Zero;
 
-// Returns a list with room for the calls, or `None` if memory is refused each time.
+/// Returns a list with room for the calls, or `None` if memory is refused each time.
 fn listed<T: Drop, R: AllocGlobal + Print>(rt: &R, refusal: &mut Refusal) -> Option<Vec<T>> {
     for _ in 0..TRIES {
         match Vec::with_capacity(rt.alloc(), 8) {
@@ -21,7 +21,7 @@ fn listed<T: Drop, R: AllocGlobal + Print>(rt: &R, refusal: &mut Refusal) -> Opt
     None
 }
 
-// Adds the calls of a kind and their replies, and returns whether there was room.
+/// Adds the calls of a kind and their replies, and returns whether there was room.
 fn list_calls<C: Tried>(calls: &mut Vec<C::Call>, wanted: &mut Vec<C::Reply>) -> bool
 where
     C::Call: Drop,
@@ -36,7 +36,7 @@ where
     true
 }
 
-// Runs the calls that have no reply yet, and returns whether all calls are made.
+/// Runs the calls that have no reply yet, and returns whether all calls are made.
 fn run_rest<C: Tried, R: Abort + Print>(
     rt: &R,
     refusal: &mut Refusal,
@@ -59,7 +59,7 @@ fn run_rest<C: Tried, R: Abort + Print>(
     ended.is_ok()
 }
 
-// Runs all calls, and if the run is refused, the calls that weren't made. Returns the number of calls made.
+/// Runs all calls, and if the run is refused, the calls that weren't made. Returns the number of calls made.
 fn run_all<C: Tried, R: Abort + Print>(
     rt: &R,
     refusal: &mut Refusal,
@@ -76,7 +76,7 @@ fn run_all<C: Tried, R: Abort + Print>(
     replies.len() as u64
 }
 
-// Runs the calls of a kind on `container`.
+/// Runs the calls of a kind on `container`.
 fn expect_run<C: Tried, R: AllocGlobal + Abort + Print>(
     rt: &R,
     refusal: &mut Refusal,
@@ -105,7 +105,7 @@ where
     expect_eq(rt, made, CALLS);
 }
 
-// Runs the calls of a kind on a new container, whose hasher has several owners.
+/// Runs the calls of a kind on a new container, whose hasher has several owners.
 fn expect_run_on_new<C: Tried, R: AllocGlobal + Abort + Print>(rt: &R)
 where
     C::Call: Drop,
@@ -118,7 +118,7 @@ where
     }
 }
 
-// Makes the call with this number once. Returns whether its reply is right, or `None` if the call was refused.
+/// Makes the call with this number once. Returns whether its reply is right, or `None` if the call was refused.
 fn ask<C: Tried, R: Print>(
     rt: &R,
     refusal: &mut Refusal,
@@ -135,7 +135,7 @@ fn ask<C: Tried, R: Print>(
     }
 }
 
-// Makes the call with this number until it isn't refused. A refused call must leave the number of keys.
+/// Makes the call with this number until it isn't refused. A refused call must leave the number of keys.
 fn expect_call<C: Tried, R: Abort + Print>(
     rt: &R,
     refusal: &mut Refusal,
@@ -152,7 +152,7 @@ fn expect_call<C: Tried, R: Abort + Print>(
     expect(rt, false);
 }
 
-// Makes each call of a kind on a new container, whose hasher has several owners.
+/// Makes each call of a kind on a new container, whose hasher has several owners.
 fn expect_each<C: Tried, R: AllocGlobal + Abort + Print>(rt: &R) {
     let mut refusal = Refusal::new();
     let Some(hasher) = shared(rt, &mut refusal) else {
@@ -208,7 +208,7 @@ fn a_refused_call_of_a_cache_changes_nothing(rt: HostRuntime) {
 
 type Numbers = hash_map::Owned<u64, u64, Zero>;
 
-// Returns a map of 128 slots, or `None` if memory is refused each time.
+/// Returns a map of 128 slots, or `None` if memory is refused each time.
 fn sized<R: AllocGlobal + Print>(rt: &R, refusal: &mut Refusal) -> Option<Numbers> {
     for _ in 0..TRIES {
         match hash_map::Owned::with_capacity_and_hasher(rt.alloc(), 128, Zero) {
@@ -219,7 +219,7 @@ fn sized<R: AllocGlobal + Print>(rt: &R, refusal: &mut Refusal) -> Option<Number
     None
 }
 
-// Inserts the keys below 31, and returns whether each went in.
+/// Inserts the keys below 31, and returns whether each went in.
 fn fill(map: &mut Numbers) -> bool {
     for key in 0..31u64 {
         if map.insert_sync(key, !key).is_err() {
@@ -229,7 +229,7 @@ fn fill(map: &mut Numbers) -> bool {
     true
 }
 
-// Runs the calls that weren't made, of two insertions and a count, and returns whether all three are made.
+/// Runs the calls that weren't made, of two insertions and a count, and returns whether all three are made.
 fn insert_rest<R: Abort + Print>(
     rt: &R,
     refusal: &mut Refusal,
@@ -256,8 +256,8 @@ fn insert_rest<R: Abort + Print>(
     ended.is_ok()
 }
 
-// A run inserts two keys into a bucket that is nearly full, in a map with less than half of its slots in use. The
-// second insertion wants the overflow list, so it may be refused after the first was made.
+/// A run inserts two keys into a bucket that is nearly full, in a map with less than half of its slots in use. The
+/// second insertion wants the overflow list, so it may be refused after the first was made.
 #[test]
 fn a_refused_run_ends_at_its_overflow_list(rt: HostRuntime) {
     let mut refusal = Refusal::new();

@@ -8,7 +8,7 @@ use std::sync::Wait;
 use std::thread::Threads;
 use test_kit::refusals::{Refusal, TRIES};
 
-// Plays a script into an output that allocates nothing, until it isn't refused.
+/// Plays a script into an output that allocates nothing, until it isn't refused.
 fn expect_script<R: AllocGlobal + Abort + Print + Threads + Wait + Sync>(
     rt: &R,
     script: &[u8],
@@ -34,7 +34,7 @@ fn expect_script<R: AllocGlobal + Abort + Print + Threads + Wait + Sync>(
     expect(rt, false);
 }
 
-// One worker on one stripe makes its calls on an owned map.
+/// One worker on one stripe makes its calls on an owned map.
 #[test]
 fn a_refused_script_says_so_alone(rt: HostRuntime) {
     expect_script(

@@ -19,7 +19,7 @@ use test_kit::zero::Zero;
 
 type Names = Owned<String, String, Shared<Zero>>;
 
-// Returns a text, or `None` if memory is refused each time.
+/// Returns a text, or `None` if memory is refused each time.
 pub(crate) fn text<R: AllocGlobal + Print>(
     rt: &R,
     refusal: &mut Refusal,
@@ -34,7 +34,7 @@ pub(crate) fn text<R: AllocGlobal + Print>(
     None
 }
 
-// Returns the call with this number: an insertion, an upsertion or a removal.
+/// Returns the call with this number: an insertion, an upsertion or a removal.
 fn call_of(number: u64, key: String, value: String) -> MapCall<String, String>
     ensures { IsSome (map_key result) }
 {
@@ -45,7 +45,7 @@ fn call_of(number: u64, key: String, value: String) -> MapCall<String, String>
     }
 }
 
-// Returns the call with this number and its texts, or `None` if a text is refused each time.
+/// Returns the call with this number and its texts, or `None` if a text is refused each time.
 fn made<R: AllocGlobal + Print>(
     rt: &R,
     refusal: &mut Refusal,
@@ -62,7 +62,7 @@ fn made<R: AllocGlobal + Print>(
     }
 }
 
-// Returns whether `reply` is the reply of the call with this number.
+/// Returns whether `reply` is the reply of the call with this number.
 fn is_answer(number: u64, reply: &Reply<String, String>) -> bool {
     match reply {
         Reply::Inserted => number == 0,
@@ -72,8 +72,8 @@ fn is_answer(number: u64, reply: &Reply<String, String>) -> bool {
     }
 }
 
-// Makes the call with this number once. Returns whether its reply is right, or `None` if a text or the call was
-// refused.
+/// Makes the call with this number once. Returns whether its reply is right, or `None` if a text or the call was
+/// refused.
 fn ask<L: Ledger, M: Site<Shared<Zero>>, R: AllocGlobal + Print + Wait>(
     rt: &R,
     refusal: &mut Refusal,
@@ -93,7 +93,7 @@ fn ask<L: Ledger, M: Site<Shared<Zero>>, R: AllocGlobal + Print + Wait>(
     }
 }
 
-// Makes the call with this number until it succeeds. A refused call leaves the pass as it was.
+/// Makes the call with this number until it succeeds. A refused call leaves the pass as it was.
 fn expect_answer<L: Ledger, M: Site<Shared<Zero>>, R: AllocGlobal + Abort + Print + Wait>(
     rt: &R,
     refusal: &mut Refusal,
@@ -114,7 +114,7 @@ fn expect_answer<L: Ledger, M: Site<Shared<Zero>>, R: AllocGlobal + Abort + Prin
     expect_receipt(rt, pass, number);
 }
 
-// Checks that the last receipt is that of the call with this number.
+/// Checks that the last receipt is that of the call with this number.
 fn expect_receipt<L: Ledger, R: Abort>(rt: &R, pass: &Pass<Names, L>, number: u64) {
     let stamp = number.saturating_add(1);
     expect_eq(
@@ -129,8 +129,8 @@ fn expect_receipt<L: Ledger, R: Abort>(rt: &R, pass: &Pass<Names, L>, number: u6
     expect(rt, is_last);
 }
 
-// Returns whether the records of `history` have the stamps from 1 on, each with the right reply, and the number of
-// records. Resizes may stand between them.
+/// Returns whether the records of `history` have the stamps from 1 on, each with the right reply, and the number of
+/// records. Resizes may stand between them.
 fn records_of(history: &[Step<MapCall<String, String>, Reply<String, String>>]) -> (bool, u64) {
     let mut told = 0u64;
     let mut are_right = true;
@@ -144,7 +144,7 @@ fn records_of(history: &[Step<MapCall<String, String>, Reply<String, String>>]) 
     (are_right, told)
 }
 
-// Checks that the one stripe has three records, and that nothing is left.
+/// Checks that the one stripe has three records, and that nothing is left.
 fn expect_told<R: Abort>(rt: &R, finished: &Finished<Names>) {
     for history in finished.histories.as_slice() {
         expect_eq(rt, records_of(history.as_slice()), (true, 3));
@@ -155,7 +155,7 @@ fn expect_told<R: Abort>(rt: &R, finished: &Finished<Names>) {
     expect_eq(rt, (finished.histories.len(), finished.parts.len()), (1, 1));
 }
 
-// Makes the three calls with the only pass, and the finish.
+/// Makes the three calls with the only pass, and the finish.
 fn call_and_finish<L: Ledger, M: Site<Shared<Zero>>, R: AllocGlobal + Abort + Print + Wait>(
     rt: &R,
     refusal: &mut Refusal,
@@ -174,7 +174,7 @@ fn call_and_finish<L: Ledger, M: Site<Shared<Zero>>, R: AllocGlobal + Abort + Pr
     }
 }
 
-// Makes the three calls on one stripe. Returns false if the container was refused.
+/// Makes the three calls on one stripe. Returns false if the container was refused.
 fn three_calls<L: Ledger, M: Site<Shared<Zero>>, R: AllocGlobal + Abort + Print + Wait>(
     rt: &R,
     refusal: &mut Refusal,

@@ -17,13 +17,13 @@ use std::sync::ledger::{Blank, Ledger};
 use test_kit::refusals::{Refusal, TRIES};
 use test_kit::zero::Zero;
 
-// Returns the clock of `pass`, and the number of its receipts.
+/// Returns the clock of `pass`, and the number of its receipts.
 fn said<L: Ledger>(pass: &Pass<Map, L>) -> (u64, usize) {
     (pass.clock(), pass.receipts().len())
 }
 
-// Inserts (1, 10) until it goes in, under stamp 1. A refused call leaves the clock at 0 and no receipt. Returns
-// whether a call was refused room for its record.
+/// Inserts (1, 10) until it goes in, under stamp 1. A refused call leaves the clock at 0 and no receipt. Returns
+/// whether a call was refused room for its record.
 fn insert<L: Ledger, M: Site<Shared<Zero>>, R: Abort + Print + Wait>(
     rt: &R,
     refusal: &mut Refusal,
@@ -49,7 +49,7 @@ fn insert<L: Ledger, M: Site<Shared<Zero>>, R: Abort + Print + Wait>(
     lacked_room
 }
 
-// Checks that the run is the first array and the insertion, both under stamp 1, and that the pair is present.
+/// Checks that the run is the first array and the insertion, both under stamp 1, and that the pair is present.
 fn expect_run<R: Abort>(rt: &R, run: &Finished<Map>) {
     let steps = [
         Step::Resize {
@@ -76,7 +76,7 @@ fn expect_run<R: Abort>(rt: &R, run: &Finished<Map>) {
     );
 }
 
-// Makes the insertion and the finish with the only pass.
+/// Makes the insertion and the finish with the only pass.
 fn insert_and_finish<L: Ledger, M: Site<Shared<Zero>>, R: Abort + Print + Wait>(
     rt: &R,
     refusal: &mut Refusal,
@@ -94,7 +94,7 @@ fn insert_and_finish<L: Ledger, M: Site<Shared<Zero>>, R: Abort + Print + Wait>(
     }
 }
 
-// Runs the test on one stripe. Returns false if the container was refused.
+/// Runs the test on one stripe. Returns false if the container was refused.
 fn on_one_stripe<L: Ledger, M: Site<Shared<Zero>>, R: AllocGlobal + Abort + Print + Wait>(
     rt: &R,
     refusal: &mut Refusal,

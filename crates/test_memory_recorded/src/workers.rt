@@ -21,12 +21,12 @@ impl Work for Turns {
     }
 }
 
-// Returns the number of turns that each worker has made.
+/// Returns the number of turns that each worker has made.
 fn made_of(work: &[Turns; 2]) -> (usize, usize) {
     (work[0].made, work[1].made)
 }
 
-// The first worker may have been started before the refused request, and has then ended.
+/// The first worker may have been started before the refused request, and has then ended.
 #[test]
 fn a_refused_run_of_workers_ends_what_it_started(rt: HostRuntime) {
     let mut refusal = Refusal::new();

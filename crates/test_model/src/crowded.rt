@@ -12,13 +12,13 @@ use test_kit::masked::{Masked, ZERO};
 // Numbers of pairs that one bucket of 32 slots waits for.
 const CROWDS: [u64; 2] = [40, 600];
 
-// Returns the pair of `number`, as its kind shows it.
+/// Returns the pair of `number`, as its kind shows it.
 fn pair_of(kind: Kind, number: u64) -> Seen {
     let value = if kind.shows_values() { number } else { 0 };
     (number, 0, value)
 }
 
-// Adds the pairs of the numbers from `from` on and before `to`. Returns whether each was added.
+/// Adds the pairs of the numbers from `from` on and before `to`. Returns whether each was added.
 fn fills<F: Form>(form: &mut F, from: u64, to: u64) -> bool {
     let mut added = true;
     for number in from..to {
@@ -27,7 +27,7 @@ fn fills<F: Form>(form: &mut F, from: u64, to: u64) -> bool {
     added
 }
 
-// Returns whether the pairs below number `to` are there, and no others.
+/// Returns whether the pairs below number `to` are there, and no others.
 fn finds<F: Form>(form: &F, kind: Kind, to: u64) -> bool {
     let mut found = form.read(&Token::of(to)) == Answer::Found(None);
     for number in 0..to {
@@ -36,8 +36,8 @@ fn finds<F: Form>(form: &F, kind: Kind, to: u64) -> bool {
     found && form.sizes().len as u64 == to
 }
 
-// Returns whether `pairs` pairs of one bucket are found while all buckets of an array of `slots` slots wait, are
-// relocated by one insertion, and are found again.
+/// Returns whether `pairs` pairs of one bucket are found while all buckets of an array of `slots` slots wait, are
+/// relocated by one insertion, and are found again.
 fn relocates<F: Form + Reserving>(form: &mut F, kind: Kind, pairs: u64, slots: usize) -> bool {
     let waits = form.sizes().capacity == slots && form.waiting() == Some(slots / 32);
     let found = finds(form, kind, pairs);
@@ -46,8 +46,8 @@ fn relocates<F: Form + Reserving>(form: &mut F, kind: Kind, pairs: u64, slots: u
     waits && found && added && relocated && finds(form, kind, pairs.saturating_add(1))
 }
 
-// Returns whether a bucket of `pairs` pairs waits and is relocated three times: the array grows by a reservation and
-// by a second one, and shrinks when the second one is released.
+/// Returns whether a bucket of `pairs` pairs waits and is relocated three times: the array grows by a reservation and
+/// by a second one, and shrinks when the second one is released.
 fn crowds<F: Form + Reserving>(form: &mut F, kind: Kind, pairs: u64) -> bool {
     let filled = fills(form, 0, pairs);
     let Some(_first) = form.reserve_slots(10_000) else {

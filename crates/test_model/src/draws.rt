@@ -36,7 +36,7 @@ pub struct Draws {
     mask: u64,
 }
 
-// Returns one of `calls`, the one with the number `number` modulo their count.
+/// Returns one of `calls`, the one with the number `number` modulo their count.
 fn one_of(calls: &[What], number: u64) -> What {
     let place = (number as usize).checked_rem(calls.len());
     match calls.get(place.unwrap_or(0)) {
@@ -56,7 +56,7 @@ impl Draws {
         }
     }
 
-    // Returns whether calls fill the container: they do in the first three quarters of a round.
+    /// Returns whether calls fill the container: they do in the first three quarters of a round.
     fn fills(&self) -> bool {
         match self.made.checked_rem(self.round) {
             Some(place) => place < self.round / 4 * 3,
@@ -64,14 +64,14 @@ impl Draws {
         }
     }
 
-    // Returns whether the next call is taken from the list of all gentle calls in turn. Every other call is, so that
-    // each gentle call is made.
+    /// Returns whether the next call is taken from the list of all gentle calls in turn. Every other call is, so that
+    /// each gentle call is made.
     fn is_turn(&self) -> bool {
         self.made % 2 == 0
     }
 
-    // Draws what the next call does. A call that isn't taken in turn fills or empties the container. While buckets
-    // wait, most of these calls only look, so that the buckets go on waiting.
+    /// Draws what the next call does. A call that isn't taken in turn fills or empties the container. While buckets
+    /// wait, most of these calls only look, so that the buckets go on waiting.
     fn what(&mut self, kind: Kind, fills: bool, waits: bool) -> What {
         let drawn = next(&mut self.seed);
         if self.is_turn() {
@@ -90,8 +90,8 @@ impl Draws {
         }
     }
 
-    // Draws a key of the list or another one. Calls in turn get keys of the list for a while, and then keys that were
-    // never there. Other calls get a new key three times of four while the container is filled, then once of four.
+    /// Draws a key of the list or another one. Calls in turn get keys of the list for a while, and then keys that were
+    /// never there. Other calls get a new key three times of four while the container is filled, then once of four.
     fn number(&mut self, list: &List, fills: bool) -> u64 {
         let drawn = next(&mut self.seed);
         let choice = next(&mut self.seed) % 4;

@@ -9,28 +9,28 @@ use test_forms::token::Token;
 use test_forms_shared::every::{Case, in_every_form};
 use test_kit::masked::{ALIKE, ZERO};
 
-// Returns the number of keys: a full bucket of a cache, or more than a bucket of another kind has slots for.
+/// Returns the number of keys: a full bucket of a cache, or more than a bucket of another kind has slots for.
 fn keys_of(kind: Kind) -> u64 {
     if kind == Kind::Cache { 32 } else { 40 }
 }
 
-// Returns the key of number `i`, far from the other keys. `i` is added to its mark.
+/// Returns the key of number `i`, far from the other keys. `i` is added to its mark.
 fn key_of(i: u64, mark: u64) -> Token {
     Token::marked(i.wrapping_mul(0x9E37_79B9_7F4A_7C15), mark.wrapping_add(i))
 }
 
-// Returns the numbers of the pair of key `i`.
+/// Returns the numbers of the pair of key `i`.
 fn pair_of(i: u64, mark: u64, value: u64) -> Seen {
     let key = key_of(i, mark);
     (key.number(), key.mark(), value)
 }
 
-// Returns the value as the kind shows it.
+/// Returns the value as the kind shows it.
 fn shown(kind: Kind, value: u64) -> u64 {
     if kind.shows_values() { value } else { 0 }
 }
 
-// Adds the keys (i, 100 + i) with the values i. Returns whether each was added, and an equal key then comes back.
+/// Adds the keys (i, 100 + i) with the values i. Returns whether each was added, and an equal key then comes back.
 fn fills<F: Form>(form: &mut F) -> bool {
     let kind = form.kind();
     let mut added = true;
@@ -44,7 +44,7 @@ fn fills<F: Form>(form: &mut F) -> bool {
     added
 }
 
-// Returns whether key i has the mark `mark` + i and the value `value` + i, and is removed with them.
+/// Returns whether key i has the mark `mark` + i and the value `value` + i, and is removed with them.
 fn goes<F: Form>(form: &mut F, mark: u64, value: u64) -> bool {
     let kind = form.kind();
     let mut gone = true;
@@ -65,7 +65,7 @@ fn goes<F: Form>(form: &mut F, mark: u64, value: u64) -> bool {
 #[derive(Clone, Copy)]
 pub struct Replaces;
 
-// Returns whether each replacement returns the replaced key.
+/// Returns whether each replacement returns the replaced key.
 fn all_replaced<F: Form>(form: &mut F) -> bool {
     let kind = form.kind();
     let mut replaced = true;
@@ -100,7 +100,7 @@ impl Case for Replaces {
 #[derive(Clone, Copy)]
 pub struct Updates;
 
-// Writes the value of key `i` as its kind does.
+/// Writes the value of key `i` as its kind does.
 fn write<F: Form>(form: &mut F, i: u64) -> Answer {
     let (key, value) = (key_of(i, 200), Token::of(i.wrapping_add(400)));
     match form.kind() {
@@ -110,7 +110,7 @@ fn write<F: Form>(form: &mut F, i: u64) -> Answer {
     }
 }
 
-// Returns whether each write returns what its kind says.
+/// Returns whether each write returns what its kind says.
 fn all_updated<F: Form>(form: &mut F) -> bool {
     let kind = form.kind();
     let mut updated = true;

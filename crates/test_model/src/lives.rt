@@ -52,13 +52,13 @@ pub struct Lives {
 }
 
 impl Lives {
-    // Returns whether as many tokens live as a container with `pairs` pairs holds.
+    /// Returns whether as many tokens live as a container with `pairs` pairs holds.
     fn has_just(&self, kind: Kind, pairs: usize) -> bool {
         let tokens = if kind.shows_values() { 2 } else { 1 };
         self.book.alive() == Some(pairs.wrapping_mul(tokens))
     }
 
-    // Makes the call on each key of a range. Returns whether only the held tokens live then.
+    /// Makes the call on each key of a range. Returns whether only the held tokens live then.
     fn run<F: Form>(
         &self,
         alloc: Global,
@@ -75,7 +75,7 @@ impl Lives {
         Ok(self.has_just(form.kind(), form.sizes().len))
     }
 
-    // Makes the runs of calls on single keys: calls that add, that fail, that write and that remove.
+    /// Makes the runs of calls on single keys: calls that add, that fail, that write and that remove.
     fn run_calls<F: Form>(&self, alloc: Global, form: &mut F) -> Result<bool, AllocError> {
         let mut right = true;
         for (what, from, to) in RUNS {
@@ -84,7 +84,7 @@ impl Lives {
         Ok(right)
     }
 
-    // Makes walks that remove a part of the pairs, and clears the container.
+    /// Makes walks that remove a part of the pairs, and clears the container.
     fn run_walks<F: Form>(&self, alloc: Global, form: &mut F) -> bool {
         let kind = form.kind();
         let mut taken = Vec::new(alloc);
@@ -110,7 +110,7 @@ impl Case for Lives {
     }
 }
 
-// Tries the case with `last` keys in the end, under the hash 0 for all keys and under keys as hashes.
+/// Tries the case with `last` keys in the end, under the hash 0 for all keys and under keys as hashes.
 fn run_to<R: Wait + AllocGlobal + Print>(rt: &R, last: u64, what: &str, good: &str) -> u8 {
     let (Ok(crowded), Ok(spread)) = (Book::new(rt.alloc(), ROOM), Book::new(rt.alloc(), ROOM))
     else {

@@ -37,13 +37,13 @@ use versions::run_versions;
 /// The calls of a run if there is no argument.
 const USUAL_CALLS: u64 = 1000;
 
-// Makes `run` under its hasher, and once more with a list that forgets a pair.
+/// Makes `run` under its hasher, and once more with a list that forgets a pair.
 fn run_under<R: Wait + AllocGlobal + Print>(rt: &R, run: Run, what: &str, wrong: &str) -> u8 {
     let right = in_every_form(rt, &run, what, run.hasher);
     right.max(in_every_form(rt, &Forgetful(run), wrong, run.hasher))
 }
 
-// Makes runs of `calls` calls under each hasher.
+/// Makes runs of `calls` calls under each hasher.
 fn run_all<R: Wait + AllocGlobal + Print>(rt: &R, calls: u64) -> u8 {
     let zero = Run {
         hasher: ZERO,
@@ -84,14 +84,14 @@ fn run_all<R: Wait + AllocGlobal + Print>(rt: &R, calls: u64) -> u8 {
     zero.max(alike).max(same)
 }
 
-// Tries the cases of hostile callers, of drops and of great sizes.
+/// Tries the cases of hostile callers, of drops and of great sizes.
 fn run_cases<R: Wait + AllocGlobal + Print>(rt: &R) -> u8 {
     let hostile = run_stops(rt).max(run_equal_keys(rt)).max(run_tokens(rt));
     let dropped = run_lives(rt).max(run_versions(rt));
     hostile.max(dropped).max(run_sizes(rt)).max(run_crowded(rt))
 }
 
-// Returns the number in the argument, or the usual number if there is none.
+/// Returns the number in the argument, or the usual number if there is none.
 fn calls_asked<R: Env + Alloc>(rt: &R) -> Option<u64> {
     match env::args(rt) {
         Ok(mut words) => match words.nth(1) {

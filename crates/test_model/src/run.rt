@@ -29,7 +29,7 @@ pub struct Run {
     pub waits: bool,
 }
 
-// Returns the numbers of a call.
+/// Returns the numbers of a call.
 fn asked(hasher: &Masked, call: &Call) -> Asked {
     Asked {
         what: call.what,
@@ -40,14 +40,14 @@ fn asked(hasher: &Masked, call: &Call) -> Asked {
     }
 }
 
-// Returns whether a walk meets the pairs of the list, and no others.
+/// Returns whether a walk meets the pairs of the list, and no others.
 fn is_as<F: Form>(alloc: Global, form: &F, list: &List) -> Result<bool, AllocError> {
     let mut met = Vec::new(alloc);
     let collected = form.collect(&mut met);
     Ok(collected && list.is_met_by(alloc, met.as_slice())?)
 }
 
-// Returns whether the sizes fit a container with as many pairs as the list.
+/// Returns whether the sizes fit a container with as many pairs as the list.
 fn fits<F: Form>(form: &F, list: &List) -> bool {
     let sizes = form.sizes();
     sizes.len == list.len()
@@ -56,7 +56,7 @@ fn fits<F: Form>(form: &F, list: &List) -> bool {
         && sizes.capacity <= sizes.maximum
 }
 
-// Makes a call on the container and on the list. Returns whether both agree and the sizes are right.
+/// Makes a call on the container and on the list. Returns whether both agree and the sizes are right.
 fn step<F: Form>(
     alloc: Global,
     hasher: &Masked,
@@ -78,7 +78,7 @@ fn step<F: Form>(
     Ok(is_right && fits(form, list))
 }
 
-// Makes the calls. Returns whether all agreed.
+/// Makes the calls. Returns whether all agreed.
 fn make_all<F: Form>(
     alloc: Global,
     run: &Run,

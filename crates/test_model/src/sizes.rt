@@ -18,17 +18,17 @@ const MAXIMUM: u64 = 1 << 17;
 /// The number of versions in a snapshot.
 const VERSIONS: usize = 100_000;
 
-// Returns the key of `number`. If keys are their own hashes, these keys fill the first half of all buckets evenly.
+/// Returns the key of `number`. If keys are their own hashes, these keys fill the first half of all buckets evenly.
 fn key_of(number: u64) -> Token {
     Token::of(number.reverse_bits() / 2)
 }
 
-// Returns the value of `number`.
+/// Returns the value of `number`.
 fn value_of(number: u64) -> u64 {
     number.wrapping_mul(3)
 }
 
-// Returns the pair of `number`, as its kind shows it.
+/// Returns the pair of `number`, as its kind shows it.
 fn pair_of(kind: Kind, number: u64) -> Seen {
     let value = if kind.shows_values() {
         value_of(number)
@@ -38,7 +38,7 @@ fn pair_of(kind: Kind, number: u64) -> Seen {
     (key_of(number).number(), 0, value)
 }
 
-// Adds the pairs of the numbers from `from` on and before `to`. Returns whether each was added.
+/// Adds the pairs of the numbers from `from` on and before `to`. Returns whether each was added.
 fn fills<F: Form>(form: &mut F, from: u64, to: u64) -> bool {
     let mut added = true;
     for number in from..to {
@@ -48,7 +48,7 @@ fn fills<F: Form>(form: &mut F, from: u64, to: u64) -> bool {
     added
 }
 
-// Returns whether the pairs of the numbers from `from` on and before `to` are there, and that of `to` is missing.
+/// Returns whether the pairs of the numbers from `from` on and before `to` are there, and that of `to` is missing.
 fn finds<F: Form>(form: &F, kind: Kind, from: u64, to: u64) -> bool {
     let mut found = form.read(&key_of(to)) == Answer::Found(None);
     for number in from..to {
@@ -57,7 +57,7 @@ fn finds<F: Form>(form: &F, kind: Kind, from: u64, to: u64) -> bool {
     found
 }
 
-// Removes the pairs of the numbers from `from` on and before `to`. Returns whether each was removed.
+/// Removes the pairs of the numbers from `from` on and before `to`. Returns whether each was removed.
 fn goes<F: Form>(form: &mut F, kind: Kind, from: u64, to: u64) -> bool {
     let mut gone = true;
     for number in from..to {
@@ -71,8 +71,8 @@ fn goes<F: Form>(form: &mut F, kind: Kind, from: u64, to: u64) -> bool {
     gone
 }
 
-// Returns whether an empty container grows past 2^20 slots by insertions, and shrinks to the least array when all but
-// 16 pairs are removed.
+/// Returns whether an empty container grows past 2^20 slots by insertions, and shrinks to the least array when all but
+/// 16 pairs are removed.
 fn grows<F: Form>(form: &mut F, kind: Kind) -> bool {
     fills(form, 0, MANY - 1)
         && form.sizes().used() == (1 << 19, 1 << 20)
@@ -84,8 +84,8 @@ fn grows<F: Form>(form: &mut F, kind: Kind) -> bool {
         && finds(form, kind, 0, 16)
 }
 
-// Returns whether a container of 1000 pairs gets more than 2^20 slots by a reservation, finds its pairs while all its
-// buckets wait, and shrinks back when the reservation is released.
+/// Returns whether a container of 1000 pairs gets more than 2^20 slots by a reservation, finds its pairs while all its
+/// buckets wait, and shrinks back when the reservation is released.
 fn reserves<F: Form + Reserving>(form: &mut F, kind: Kind) -> bool {
     let filled = fills(form, 0, 1000) && form.sizes().used() == (1000, 2048);
     let Some(token) = form.reserve_slots(1 + (1 << 20)) else {
@@ -122,8 +122,8 @@ fn of_indexes(alloc: Global) -> Result<bool, AllocError> {
     Ok(grows(&mut large, Kind::Index) && reserves(&mut small, Kind::Index))
 }
 
-// Returns whether each put of these numbers evicts the pair that was put `MAXIMUM` puts before it, the least recent
-// pair of its bucket.
+/// Returns whether each put of these numbers evicts the pair that was put `MAXIMUM` puts before it, the least recent
+/// pair of its bucket.
 fn evicts<F: Form>(form: &mut F, from: u64, to: u64) -> bool {
     let mut evicted = true;
     for number in from..to {
@@ -136,7 +136,7 @@ fn evicts<F: Form>(form: &mut F, from: u64, to: u64) -> bool {
     evicted
 }
 
-// Shows that a cache takes as many pairs as its maximum without an eviction, and then evicts one pair for each put.
+/// Shows that a cache takes as many pairs as its maximum without an eviction, and then evicts one pair for each put.
 fn of_caches(alloc: Global) -> Result<bool, AllocError> {
     let maximum = MAXIMUM as usize;
     let Ok(mut cache) = scc_cache::Owned::<Token, Token, Masked>::with_capacity_and_hasher(
@@ -155,7 +155,7 @@ fn of_caches(alloc: Global) -> Result<bool, AllocError> {
     Ok(added && full && evicted && cache.sizes().used() == (maximum, maximum))
 }
 
-// Returns whether the snapshot has each version once, and ends for good after them.
+/// Returns whether the snapshot has each version once, and ends for good after them.
 fn has_each_once(
     alloc: Global,
     versions: scc_owned::index::Iter<Token, Token>,
@@ -179,7 +179,7 @@ fn has_each_once(
     Ok(right && count == VERSIONS && versions.next().is_none() && versions.next().is_none())
 }
 
-// Shows that a snapshot of many versions outlives the pairs of its index.
+/// Shows that a snapshot of many versions outlives the pairs of its index.
 fn of_snapshots(alloc: Global) -> Result<bool, AllocError> {
     let mut index: scc_owned::index::Owned<Token, Token, Masked> =
         scc_owned::index::Owned::with_hasher(alloc, SAME);

@@ -10,12 +10,12 @@ use test_forms::token::Token;
 use test_forms_shared::every::{Case, in_every_form};
 use test_kit::masked::{SAME, ZERO};
 
-// Returns a key. If keys are their own hashes, each of these keys has a stripe of its own, if there are several.
+/// Returns a key. If keys are their own hashes, each of these keys has a stripe of its own, if there are several.
 fn key_of(number: u64) -> Token {
     Token::of((number << 60).wrapping_add(number))
 }
 
-// Adds `keys` keys with the value 0. Returns whether each was added.
+/// Adds `keys` keys with the value 0. Returns whether each was added.
 fn fills<F: Form>(form: &mut F, keys: u64) -> bool {
     let mut added = true;
     for number in 1..keys.saturating_add(1) {
@@ -24,7 +24,7 @@ fn fills<F: Form>(form: &mut F, keys: u64) -> bool {
     added
 }
 
-// Returns the number of pairs with `value`.
+/// Returns the number of pairs with `value`.
 fn count_of(pairs: &[Seen], value: u64) -> usize {
     pairs.iter().filter(|pair| pair.2 == value).count()
 }
@@ -37,7 +37,7 @@ struct Walked {
     left: Vec<Seen>,
 }
 
-// Walks over `keys` pairs with a closure that always returns `verdict`.
+/// Walks over `keys` pairs with a closure that always returns `verdict`.
 fn walk<F: Form>(alloc: Global, form: &mut F, keys: u64, verdict: Verdict) -> Option<Walked> {
     let mut taken = Vec::new(alloc);
     let mut left = Vec::new(alloc);
@@ -58,7 +58,7 @@ fn walk<F: Form>(alloc: Global, form: &mut F, keys: u64, verdict: Verdict) -> Op
 #[derive(Clone, Copy)]
 pub struct Stops(pub Verdict);
 
-// Returns whether one of three pairs was visited, and the other two are unchanged.
+/// Returns whether one of three pairs was visited, and the other two are unchanged.
 fn has_stopped(walked: &Walked, verdict: Verdict, kind: Kind) -> bool {
     let (taken, left) = (walked.taken.as_slice(), walked.left.as_slice());
     let counts = (count_of(taken, 9), count_of(left, 9), count_of(left, 0));
@@ -73,7 +73,7 @@ fn has_stopped(walked: &Walked, verdict: Verdict, kind: Kind) -> bool {
     walked.answer == Answer::Yes(false) && counts == wanted && (taken.len(), left.len()) == sizes
 }
 
-// Returns whether an index, which has no such walk, kept its `pairs` pairs.
+/// Returns whether an index, which has no such walk, kept its `pairs` pairs.
 fn has_none(walked: &Walked, pairs: usize) -> bool {
     walked.answer == Answer::Absent && walked.left.len() == pairs
 }
@@ -100,7 +100,7 @@ impl Case for Stops {
 #[derive(Clone, Copy)]
 pub struct Walks(pub Verdict);
 
-// Returns whether each of 32 pairs was visited, and all were taken or all kept.
+/// Returns whether each of 32 pairs was visited, and all were taken or all kept.
 fn has_visited(walked: &Walked, verdict: Verdict, kind: Kind) -> bool {
     let (full, empty) = if verdict == Verdict::Take {
         (walked.taken.as_slice(), walked.left.as_slice())

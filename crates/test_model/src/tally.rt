@@ -33,14 +33,14 @@ impl Tally {
         Ok(())
     }
 
-    // Returns whether `what` was made on a key that is there, or that is missing, as `is_there` says.
+    /// Returns whether `what` was made on a key that is there, or that is missing, as `is_there` says.
     fn has(&self, what: What, is_there: bool) -> bool {
         self.made
             .iter()
             .any(|made| made.0 == what && made.1 == is_there)
     }
 
-    // Returns whether `what` was made, and if its key matters, on keys that are there and on keys that are missing.
+    /// Returns whether `what` was made, and if its key matters, on keys that are there and on keys that are missing.
     fn came(&self, what: What) -> bool {
         if has_key(what) {
             self.has(what, true) && self.has(what, false)

@@ -7,7 +7,7 @@ use test_forms::token::Token;
 use test_kit::lines::say;
 use test_kit::masked::{Masked, SAME};
 
-// Returns whether `form` refuses `token` and returns it with its `slots` slots.
+/// Returns whether `form` refuses `token` and returns it with its `slots` slots.
 fn refuses<C: Reserving>(form: &mut C, token: Reservation, slots: usize) -> bool {
     match form.release_slots(token) {
         Ok(()) => false,
@@ -15,8 +15,8 @@ fn refuses<C: Reserving>(form: &mut C, token: Reservation, slots: usize) -> bool
     }
 }
 
-// Returns whether `second`, which reserved 50 and 60 slots, refuses a token of 200 slots of `first`, takes a token of
-// 100, and then refuses its own two.
+/// Returns whether `second`, which reserved 50 and 60 slots, refuses a token of 200 slots of `first`, takes a token of
+/// 100, and then refuses its own two.
 fn judges<C: Reserving>(first: &mut C, second: &mut C) -> bool {
     let (Some(large), Some(small)) = (first.reserve_slots(200), first.reserve_slots(100)) else {
         return false;

@@ -27,7 +27,7 @@ const SLOTS: usize = 64;
 /// The most slots of a cache of one stripe.
 const MAXIMUM: usize = 256;
 
-// Returns whether two lists have the same pairs, in any order.
+/// Returns whether two lists have the same pairs, in any order.
 fn are_same(pairs: &[Seen], others: &[Seen]) -> bool {
     pairs.len() == others.len()
         && pairs
@@ -35,7 +35,7 @@ fn are_same(pairs: &[Seen], others: &[Seen]) -> bool {
             .all(|pair| others.iter().any(|other| other == pair))
 }
 
-// Returns whether both hold the same pairs and have the same sizes.
+/// Returns whether both hold the same pairs and have the same sizes.
 fn are_alike<A: Form, B: Form>(alloc: Global, one: &A, other: &B) -> bool {
     let mut pairs = Vec::new(alloc);
     let mut others = Vec::new(alloc);
@@ -43,7 +43,7 @@ fn are_alike<A: Form, B: Form>(alloc: Global, one: &A, other: &B) -> bool {
     collected && one.sizes() == other.sizes() && are_same(pairs.as_slice(), others.as_slice())
 }
 
-// Makes a call on both. Returns whether both meet the same pairs, and return the same if the kind has the call.
+/// Makes a call on both. Returns whether both meet the same pairs, and return the same if the kind has the call.
 fn answer_alike<A: Form, B: Form>(alloc: Global, one: &mut A, other: &mut B, call: &Call) -> bool {
     let mut pairs = Vec::new(alloc);
     let mut others = Vec::new(alloc);
@@ -67,7 +67,7 @@ fn answer_alike<A: Form, B: Form>(alloc: Global, one: &mut A, other: &mut B, cal
     is_answered && are_same(pairs.as_slice(), others.as_slice())
 }
 
-// Returns the pairs of a container as a list, from which keys are drawn.
+/// Returns the pairs of a container as a list, from which keys are drawn.
 fn listed<F: Form>(alloc: Global, form: &F) -> Result<List, AllocError> {
     let mut pairs = Vec::new(alloc);
     let mut list = List::new(alloc, form.kind(), false);
@@ -80,7 +80,7 @@ fn listed<F: Form>(alloc: Global, form: &F) -> Result<List, AllocError> {
     Ok(list)
 }
 
-// Makes random calls on both. Returns whether both do the same, each call comes, and the number of slots grows.
+/// Makes random calls on both. Returns whether both do the same, each call comes, and the number of slots grows.
 fn agree<A: Form, B: Form>(
     alloc: Global,
     shared: &mut A,

@@ -10,12 +10,12 @@ use test_kit::masked::{Masked, ZERO};
 
 const KEYS: u64 = 100;
 
-// Returns a pair of tokens of `number`.
+/// Returns a pair of tokens of `number`.
 fn pair(book: &Rc<Book>, number: u64) -> Result<(Token, Token), AllocError> {
     Ok((Token::new(book, number)?, Token::new(book, number)?))
 }
 
-// Returns an owned index of tokens.
+/// Returns an owned index of tokens.
 fn filled(
     alloc: Global,
     book: &Rc<Book>,
@@ -30,8 +30,8 @@ fn filled(
     Ok(index)
 }
 
-// Returns whether a snapshot keeps all versions after its index is cleared, drops those that are taken out of it, and
-// leaves none when it is dropped.
+/// Returns whether a snapshot keeps all versions after its index is cleared, drops those that are taken out of it, and
+/// leaves none when it is dropped.
 fn snapshot_keeps(alloc: Global, book: &Rc<Book>) -> Result<bool, AllocError> {
     let mut index = filled(alloc, book)?;
     let Ok(mut versions) = index.iter() else {
@@ -47,7 +47,7 @@ fn snapshot_keeps(alloc: Global, book: &Rc<Book>) -> Result<bool, AllocError> {
     Ok(whole && half && book.alive() == Some(0))
 }
 
-// Returns a shared index of tokens.
+/// Returns a shared index of tokens.
 fn shared<R: Wait + AllocGlobal>(
     rt: &R,
     book: &Rc<Book>,
@@ -64,7 +64,7 @@ fn shared<R: Wait + AllocGlobal>(
     Ok(index)
 }
 
-// Returns whether a version that was peeked, and no other, outlives its update, its removal and the index.
+/// Returns whether a version that was peeked, and no other, outlives its update, its removal and the index.
 fn peeked_lives_on<R: Wait + AllocGlobal>(rt: &R, book: &Rc<Book>) -> Result<bool, AllocError> {
     let index = shared(rt, book)?;
     let key = Token::new(book, 7)?;

@@ -47,7 +47,7 @@ const CALLS: [Call; 17] = [
     Call::Len(3),
 ];
 
-// Makes the call, and returns whether the answer is right.
+/// Makes the call, and returns whether the answer is right.
 fn is_right<R: Wait>(rt: &R, cache: &Numbers, call: &Call) -> bool {
     match call {
         Call::Put(key, value, is_new) => cache.put_sync(rt, *key, *value).is_ok() == *is_new,
@@ -81,7 +81,7 @@ fn ruled_cache_answers_as_the_plain_cache(rt: HostRuntime) -> Result<(), Fail> {
     Ok(())
 }
 
-// Returns a cache of the numbers below 100, each with its double, with room for all.
+/// Returns a cache of the numbers below 100, each with its double, with room for all.
 fn doubles<R: Wait>(rt: &R, alloc: Global) -> Result<Numbers, MakeError> {
     let cache: Numbers = RuledCache::with_capacity(alloc, 4096, 4096)?;
     for key in 0..100u64 {
@@ -92,7 +92,7 @@ fn doubles<R: Wait>(rt: &R, alloc: Global) -> Result<Numbers, MakeError> {
     Ok(cache)
 }
 
-// Returns the sum of the values.
+/// Returns the sum of the values.
 fn sum_of<R: Wait>(rt: &R, cache: &Numbers) -> u64 {
     let mut sum = 0u64;
     cache.iter_sync(rt, |_, v| {
@@ -156,7 +156,7 @@ impl Service for Doubling {
     }
 }
 
-// Puts the answers to 1000 requests, and returns how many had to go, and whether each of these was right.
+/// Puts the answers to 1000 requests, and returns how many had to go, and whether each of these was right.
 fn displacements<R: Wait>(
     rt: &R,
     service: &Doubling,

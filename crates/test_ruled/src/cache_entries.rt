@@ -34,7 +34,7 @@ const PUTS: [(Put, u64, u64); 7] = [
     (Put::Set, 10, 20),
 ];
 
-// Puts `value` through the entry, or the sum of `value` and the key, and returns the entry.
+/// Puts `value` through the entry, or the sum of `value` and the key, and returns the entry.
 fn put_by<'a>(
     entry: Entry<'a, u64, u64, Anything>,
     put: &Put,
@@ -56,7 +56,7 @@ fn put_by<'a>(
     Some(entry)
 }
 
-// Returns the value of the entry of 1 after the put of `value`.
+/// Returns the value of the entry of 1 after the put of `value`.
 fn value_after<R: Wait>(rt: &R, cache: &Numbers, put: &Put, value: u64) -> Option<u64> {
     let entry = put_by(cache.entry_sync(rt, 1), put, value)?;
     Some(*entry.get())
@@ -73,7 +73,7 @@ fn entries_of_a_ruled_cache_put_where_they_are_vacant(rt: HostRuntime) -> Result
     Ok(())
 }
 
-// Lets a closure fail at the vacant entry of 1, and returns whether its error comes back.
+/// Lets a closure fail at the vacant entry of 1, and returns whether its error comes back.
 fn fails<R: Wait>(rt: &R, cache: &Numbers) -> bool {
     let put = cache
         .entry_sync(rt, 1)
@@ -81,8 +81,8 @@ fn fails<R: Wait>(rt: &R, cache: &Numbers) -> bool {
     matches!(put, Err(TryInsertError::Failed(7)))
 }
 
-// Writes the value of `key` twice and takes the pair out. Returns the first value, the key that the second call saw and
-// the pair.
+/// Writes the value of `key` twice and takes the pair out. Returns the first value, the key that the second call saw and
+/// the pair.
 fn written<R: Wait>(rt: &R, cache: &Numbers, key: u64) -> Option<(u64, u64, (u64, u64))> {
     let mut entry = cache.get_sync(rt, &key)?;
     let old = entry.put(51);
@@ -93,7 +93,7 @@ fn written<R: Wait>(rt: &R, cache: &Numbers, key: u64) -> Option<(u64, u64, (u64
     Some((old, seen, entry.remove_entry()))
 }
 
-// Replaces `key`, and returns the old key with its value. If there is none, puts the key in.
+/// Replaces `key`, and returns the old key with its value. If there is none, puts the key in.
 fn replaced<R: Wait>(rt: &R, cache: &Numbers, key: u64) -> Option<(u64, u64)> {
     match cache.replace_sync(rt, key) {
         ReplaceResult::Replaced(entry, old) => Some((old, *entry.get())),
@@ -104,7 +104,7 @@ fn replaced<R: Wait>(rt: &R, cache: &Numbers, key: u64) -> Option<(u64, u64)> {
     }
 }
 
-// Adds 1 to the value of 1, if there is one, and returns the value.
+/// Adds 1 to the value of 1, if there is one, and returns the value.
 fn modified<R: Wait>(rt: &R, cache: &Numbers) -> Option<u64> {
     match cache
         .entry_sync(rt, 1)
@@ -166,7 +166,7 @@ const LOOKS: [(Look, u64); 10] = [
     (Look::RemoveIf, 0),
 ];
 
-// Looks at the key 0, and returns whether it is there.
+/// Looks at the key 0, and returns whether it is there.
 fn is_seen<R: Wait>(rt: &R, cache: &Colliding, look: &Look) -> bool {
     match look {
         Look::Refresh => cache.refresh_sync(rt, &0, |_, v| *v) == Some(0),
@@ -184,7 +184,7 @@ fn is_seen<R: Wait>(rt: &R, cache: &Colliding, look: &Look) -> bool {
     }
 }
 
-// Fills a bucket with the keys below 32, looks at 0, and returns the key that the put of 32 evicts.
+/// Fills a bucket with the keys below 32, looks at 0, and returns the key that the put of 32 evicts.
 fn evicted_after<R: Wait>(rt: &R, alloc: Global, look: &Look) -> Option<u64> {
     let cache: Colliding = RuledCache::with_capacity_and_hasher(alloc, 0, 64, Zero).ok()?;
     for key in 0..32u64 {

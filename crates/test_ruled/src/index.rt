@@ -51,7 +51,7 @@ const CALLS: [Call; 19] = [
     Call::Len(0),
 ];
 
-// Returns the value of the version of `key`.
+/// Returns the value of the version of `key`.
 fn peeked<R: Wait>(rt: &R, index: &Numbers, key: u64) -> Option<u64> {
     match index.peek(rt, &key) {
         Ok(Some(version)) => Some(*version.value()),
@@ -59,7 +59,7 @@ fn peeked<R: Wait>(rt: &R, index: &Numbers, key: u64) -> Option<u64> {
     }
 }
 
-// Puts in a new version of `value` if `key` has one, and returns whether it did.
+/// Puts in a new version of `value` if `key` has one, and returns whether it did.
 fn updated<R: Wait>(rt: &R, index: &Numbers, key: u64, value: u64) -> bool {
     match index.get_sync(rt, &key) {
         Some(mut entry) => entry.update(value).is_ok() && *entry.get() == value,
@@ -67,7 +67,7 @@ fn updated<R: Wait>(rt: &R, index: &Numbers, key: u64, value: u64) -> bool {
     }
 }
 
-// Returns the value of the key's entry, which gets `value` if it is vacant.
+/// Returns the value of the key's entry, which gets `value` if it is vacant.
 fn or_insert<R: Wait>(rt: &R, index: &Numbers, key: u64, value: u64) -> Option<u64> {
     match index.entry_sync(rt, key) {
         Entry::Occupied(entry) => Some(*entry.get()),
@@ -78,7 +78,7 @@ fn or_insert<R: Wait>(rt: &R, index: &Numbers, key: u64, value: u64) -> Option<u
     }
 }
 
-// Makes the call, and returns whether the answer is right.
+/// Makes the call, and returns whether the answer is right.
 fn is_right<R: Wait>(rt: &R, index: &Numbers, call: &Call) -> bool {
     match call {
         Call::Insert(key, value, is_new) => index.insert_sync(rt, *key, *value).is_ok() == *is_new,
@@ -106,7 +106,7 @@ fn ruled_index_answers_as_the_plain_index(rt: HostRuntime) -> Result<(), Fail> {
     Ok(())
 }
 
-// Returns an index of the numbers below `n` in many stripes, each with its double.
+/// Returns an index of the numbers below `n` in many stripes, each with its double.
 fn doubles<R: Wait>(rt: &R, alloc: Global, n: u64) -> Result<Numbers, MakeError> {
     let index: Numbers = RuledIndex::new(alloc)?;
     for key in 0..n {
@@ -120,7 +120,7 @@ fn doubles<R: Wait>(rt: &R, alloc: Global, n: u64) -> Result<Numbers, MakeError>
     Ok(index)
 }
 
-// Returns how many versions a snapshot has, and the sum of their values.
+/// Returns how many versions a snapshot has, and the sum of their values.
 fn counted<R: Wait>(rt: &R, index: &Numbers) -> Result<(usize, u64), MakeError> {
     let mut count = 0usize;
     let mut sum = 0u64;
@@ -150,7 +150,7 @@ fn snapshots_of_a_ruled_index_have_each_pair(rt: HostRuntime) -> Result<(), Fail
     Ok(())
 }
 
-// Steps from entry to entry, and returns how many there are and the sum of their values.
+/// Steps from entry to entry, and returns how many there are and the sum of their values.
 fn stepped<R: Wait>(rt: &R, index: &Numbers) -> (usize, u64) {
     let mut count = 0usize;
     let mut sum = 0u64;
@@ -166,7 +166,7 @@ fn stepped<R: Wait>(rt: &R, index: &Numbers) -> (usize, u64) {
     (count, sum)
 }
 
-// Removes from entry to entry, and returns how many were removed.
+/// Removes from entry to entry, and returns how many were removed.
 fn removed<R: Wait>(rt: &R, index: &Numbers) -> usize {
     let mut count = 0usize;
     let mut at = index.any_sync(rt, |_, _| true);
@@ -189,7 +189,7 @@ fn ruled_index_is_emptied_step_by_step(rt: HostRuntime) -> Result<(), Fail> {
     Ok(())
 }
 
-// Offers ways to a hundred addresses, and returns how many were taken.
+/// Offers ways to a hundred addresses, and returns how many were taken.
 fn offered<R: Wait>(rt: &R, ways: &Ways, neighbour: u32) -> u32 {
     let mut taken = 0u32;
     for address in 0..100u32 {

@@ -53,7 +53,7 @@ const CALLS: [Call; 19] = [
     Call::Len(2),
 ];
 
-// Returns the value of the key's entry, which gets `value` if it is vacant.
+/// Returns the value of the key's entry, which gets `value` if it is vacant.
 fn or_insert<R: Wait>(rt: &R, map: &Numbers, key: u64, value: u64) -> Option<u64> {
     match map.entry_sync(rt, key) {
         Entry::Occupied(entry) => Some(*entry.get()),
@@ -64,7 +64,7 @@ fn or_insert<R: Wait>(rt: &R, map: &Numbers, key: u64, value: u64) -> Option<u64
     }
 }
 
-// Makes the call, and returns whether the answer is right.
+/// Makes the call, and returns whether the answer is right.
 fn is_right<R: Wait>(rt: &R, map: &Numbers, call: &Call) -> bool {
     match call {
         Call::Insert(key, value, is_new) => map.insert_sync(rt, *key, *value).is_ok() == *is_new,
@@ -97,7 +97,7 @@ fn ruled_map_answers_as_the_plain_map(rt: HostRuntime) -> Result<(), Fail> {
     Ok(())
 }
 
-// Returns a map of the numbers below `n` in many stripes, each with its double.
+/// Returns a map of the numbers below `n` in many stripes, each with its double.
 fn doubles<R: Wait>(rt: &R, alloc: Global, n: u64) -> Result<Numbers, MakeError> {
     let map: Numbers = RuledMap::new(alloc)?;
     for key in 0..n {
@@ -111,7 +111,7 @@ fn doubles<R: Wait>(rt: &R, alloc: Global, n: u64) -> Result<Numbers, MakeError>
     Ok(map)
 }
 
-// Steps from entry to entry, and returns how many there are and the sum of their values.
+/// Steps from entry to entry, and returns how many there are and the sum of their values.
 fn stepped<R: Wait>(rt: &R, map: &Numbers) -> (usize, u64) {
     let mut count = 0usize;
     let mut sum = 0u64;
@@ -146,7 +146,7 @@ fn steps_of_a_ruled_map_meet_each_pair(rt: HostRuntime) -> Result<(), Fail> {
     Ok(())
 }
 
-// Removes from entry to entry, and returns how many were removed.
+/// Removes from entry to entry, and returns how many were removed.
 fn removed<R: Wait>(rt: &R, map: &Numbers) -> usize {
     let mut count = 0usize;
     let mut at = map.any_sync(rt, |_, _| true);
@@ -168,7 +168,7 @@ fn ruled_map_is_emptied_step_by_step(rt: HostRuntime) -> Result<(), Fail> {
     Ok(())
 }
 
-// Asks for the squares of a hundred numbers, and returns their sum.
+/// Asks for the squares of a hundred numbers, and returns their sum.
 fn sum_of_squares<R: Wait>(rt: &R, squares: &Squares) -> u64 {
     let mut sum = 0u64;
     for k in 0..100u64 {
@@ -193,7 +193,7 @@ fn threads_share_squares(rt: HostRuntime) -> Result<(), Fail> {
     Ok(())
 }
 
-// Opens a session, lets it last until `now`, and returns how long that is.
+/// Opens a session, lets it last until `now`, and returns how long that is.
 fn lasts<R: Wait>(
     rt: &R,
     sessions: &TokenSessions,

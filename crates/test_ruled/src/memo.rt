@@ -31,7 +31,7 @@ impl<'a> Pure for Doubled<'a> {
     }
 }
 
-// Asks for the doubles of a hundred numbers twice, and returns their sum.
+/// Asks for the doubles of a hundred numbers twice, and returns their sum.
 fn sum_of_doubles<R: Wait>(rt: &R, memo: &Memo<Doubled<'_>>) -> u64 {
     let mut sum = 0u64;
     for k in 0..100u64 {

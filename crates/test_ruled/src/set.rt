@@ -15,7 +15,7 @@ type Numbers = RuledSet<u64, Anything>;
 /// More steps than a set of these tests has keys.
 const STEPS: u64 = 1000;
 
-// Inserts the numbers below `n` in many stripes, and returns how many were new.
+/// Inserts the numbers below `n` in many stripes, and returns how many were new.
 fn filled<R: Wait>(rt: &R, set: &Numbers, n: u64) -> u64 {
     let mut new = 0u64;
     for k in 0..n {
@@ -26,7 +26,7 @@ fn filled<R: Wait>(rt: &R, set: &Numbers, n: u64) -> u64 {
     new
 }
 
-// Steps from entry to entry, and returns how many there are.
+/// Steps from entry to entry, and returns how many there are.
 fn stepped<R: Wait>(rt: &R, set: &Numbers) -> usize {
     let mut count = 0usize;
     let mut at = set.begin_sync(rt);
@@ -40,7 +40,7 @@ fn stepped<R: Wait>(rt: &R, set: &Numbers) -> usize {
     count
 }
 
-// Removes from entry to entry, and returns how many were removed.
+/// Removes from entry to entry, and returns how many were removed.
 fn removed<R: Wait>(rt: &R, set: &Numbers) -> usize {
     let mut count = 0usize;
     let mut at = set.any_sync(rt, |k| *k > 0);
@@ -103,7 +103,7 @@ fn walks_of_a_ruled_set_meet_each_key(rt: HostRuntime) -> Result<(), Fail> {
     Ok(())
 }
 
-// Inserts the doubles of the numbers below 100, and returns how many were new.
+/// Inserts the doubles of the numbers below 100, and returns how many were new.
 fn doubled<R: Wait>(rt: &R, evens: &Evens) -> u64 {
     let mut new = 0u64;
     for half in 0..100u64 {

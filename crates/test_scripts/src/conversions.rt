@@ -7,12 +7,12 @@ use std::alloc::AllocError;
 use std::io::{self, ErrorKind};
 use std::process::Abort;
 
-// Checks that the error is of `kind`.
+/// Checks that the error is of `kind`.
 fn expect_kind<R: Abort>(rt: &R, error: &io::Error, kind: ErrorKind) {
     expect(rt, error.kind() == kind);
 }
 
-// Returns the refusal as an error of a program that allocates.
+/// Returns the refusal as an error of a program that allocates.
 fn allocates<E>(refusal: E) -> Result<(), AllocError>
 where
     AllocError: From<E>,

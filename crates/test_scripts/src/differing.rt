@@ -14,8 +14,8 @@ use std::marker::Brand;
 use std::sync::ledger::{Blank, Ledger};
 use std::sync::{Arc, Wait};
 
-// Inserts a pair by the only worker, on one stripe. Returns whether the receipts differ from `calls`, or `None` if
-// the run doesn't come to its end.
+/// Inserts a pair by the only worker, on one stripe. Returns whether the receipts differ from `calls`, or `None` if
+/// the run doesn't come to its end.
 fn differs_in<L: Ledger, M: Site<Shared<Same>>, R: Wait>(
     rt: &R,
     alloc: Global,

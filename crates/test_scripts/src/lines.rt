@@ -48,7 +48,7 @@ fn run_bad_headers(rt: HostRuntime) {
     expect_bad_line(&rt, b"map 1 1\xff\n", 1);
 }
 
-// Plays a script in which `line` is the first bad line.
+/// Plays a script in which `line` is the first bad line.
 fn expect_bad_call<R: AllocGlobal + Abort + Threads + Wait + Sync>(rt: &R, line: &str) {
     match format!(in rt.alloc(); "map 1 1\n0 len\n\n{line}\n0 bad\n") {
         Ok(script) => expect_bad_line(rt, script.as_bytes(), 4),
@@ -128,7 +128,7 @@ fn run_line_ends(rt: HostRuntime) {
     }
 }
 
-// Writes 100,000 insertions. The keys repeat after each 1000.
+/// Writes 100,000 insertions. The keys repeat after each 1000.
 fn write_calls(text: &mut String) -> Result<(), AllocError> {
     text.push_str("map 1 1\n")?;
     for i in 0..100_000u64 {
@@ -137,7 +137,7 @@ fn write_calls(text: &mut String) -> Result<(), AllocError> {
     Ok(())
 }
 
-// Writes the replies of these insertions: the first insertion of a key succeeds, and a later one returns its pair.
+/// Writes the replies of these insertions: the first insertion of a key succeeds, and a later one returns its pair.
 fn write_replies(text: &mut String) -> Result<(), AllocError> {
     text.push_str("worker 0\n")?;
     for i in 0..100_000u64 {
@@ -150,7 +150,7 @@ fn write_replies(text: &mut String) -> Result<(), AllocError> {
     Ok(())
 }
 
-// Writes the contents after these insertions.
+/// Writes the contents after these insertions.
 fn write_contents(text: &mut String) -> Result<(), AllocError> {
     text.push_str("contents 1000\n")?;
     for key in 0..1000u64 {
@@ -159,7 +159,7 @@ fn write_contents(text: &mut String) -> Result<(), AllocError> {
     text.push_str("records 100000\n")
 }
 
-// Writes a line that ends with two numbers.
+/// Writes a line that ends with two numbers.
 fn write_line(text: &mut String, begin: &str, first: u64, second: u64) -> Result<(), AllocError> {
     writeln!(text, "{begin}{first} {second}")
 }

@@ -5,7 +5,7 @@ use std::process::Abort;
 use std::sync::Wait;
 use std::thread::Threads;
 
-// Plays a script, which must write `text` and end with `status`.
+/// Plays a script, which must write `text` and end with `status`.
 pub(crate) fn expect_run<R: AllocGlobal + Abort + Threads + Wait + Sync>(
     rt: &R,
     script: &[u8],
@@ -19,7 +19,7 @@ pub(crate) fn expect_run<R: AllocGlobal + Abort + Threads + Wait + Sync>(
     expect_eq(rt, ended, status);
 }
 
-// Plays a script, whose first bad line must have the number `number`.
+/// Plays a script, whose first bad line must have the number `number`.
 pub(crate) fn expect_bad_line<R: AllocGlobal + Abort + Threads + Wait + Sync>(
     rt: &R,
     script: &[u8],

@@ -141,7 +141,7 @@ const BAD: [(&str, usize, &str); 44] = [
     ),
 ];
 
-// Plays a script, which writes these texts to standard output and to standard error.
+/// Plays a script, which writes these texts to standard output and to standard error.
 fn expect_texts<R: AllocGlobal + Abort + Threads + Wait + Sync>(
     rt: &R,
     script: &[u8],
@@ -158,7 +158,7 @@ fn expect_texts<R: AllocGlobal + Abort + Threads + Wait + Sync>(
     expect_eq(rt, ended, status);
 }
 
-// Plays a script whose first bad line has this number, and which is bad for this reason.
+/// Plays a script whose first bad line has this number, and which is bad for this reason.
 fn expect_reason<R: AllocGlobal + Abort + Threads + Wait + Sync>(
     rt: &R,
     script: &[u8],
@@ -205,7 +205,7 @@ fn good_scripts_have_no_reason(rt: HostRuntime) {
     expect_texts(&rt, b"map 1 1\n\n0 len\n", output, "", FINISHED);
 }
 
-// Standard error that fails changes nothing.
+/// Standard error that fails changes nothing.
 #[test]
 fn a_reason_that_cannot_be_written_is_passed_over(rt: HostRuntime) {
     let mut written = Vec::new(rt.alloc());

@@ -98,7 +98,7 @@ fn run_each_kind_on_stripes(rt: HostRuntime) {
     }
 }
 
-// Writes a worker's calls: insertions and reads of 8 keys with themselves as values.
+/// Writes a worker's calls: insertions and reads of 8 keys with themselves as values.
 fn write_calls(script: &mut String, worker: u64) -> Result<(), AllocError> {
     for j in 0..8u64 {
         let key = (j << 61) + worker % 16;
@@ -107,7 +107,7 @@ fn write_calls(script: &mut String, worker: u64) -> Result<(), AllocError> {
     Ok(())
 }
 
-// Writes the calls of all workers.
+/// Writes the calls of all workers.
 fn write_script(script: &mut String) -> Result<(), AllocError> {
     script.push_str("map 16 16\n")?;
     for worker in 0..16u64 {
@@ -116,7 +116,7 @@ fn write_script(script: &mut String) -> Result<(), AllocError> {
     Ok(())
 }
 
-// Writes the replies to a worker.
+/// Writes the replies to a worker.
 fn write_replies(text: &mut String, worker: u64) -> Result<(), AllocError> {
     writeln!(text, "worker {worker}")?;
     for j in 0..8u64 {
@@ -126,7 +126,7 @@ fn write_replies(text: &mut String, worker: u64) -> Result<(), AllocError> {
     Ok(())
 }
 
-// Writes the replies to all workers.
+/// Writes the replies to all workers.
 fn write_all_replies(text: &mut String) -> Result<(), AllocError> {
     for worker in 0..16u64 {
         write_replies(text, worker)?;
@@ -134,7 +134,7 @@ fn write_all_replies(text: &mut String) -> Result<(), AllocError> {
     Ok(())
 }
 
-// Writes the pairs of all workers with rising keys, and the number of records.
+/// Writes the pairs of all workers with rising keys, and the number of records.
 fn write_contents(text: &mut String) -> Result<(), AllocError> {
     text.push_str("contents 128\n")?;
     for j in 0..8u64 {

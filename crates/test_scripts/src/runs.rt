@@ -12,13 +12,13 @@ use std::hash::{BuildHasher, RandomState};
 use std::test::Fail;
 use test_kit::maybe_equal::MaybeEqual;
 
-// Equal calls of numbers are the same call, and equal replies are the same reply.
+/// Equal calls of numbers are the same call, and equal replies are the same reply.
 fn are_exact()
     ensures calls { AreSame ⟦<MapCall<u64, u64> as PartialEq>⟧.eq }
     ensures replies { AreSame ⟦<Reply<u64, u64> as PartialEq>⟧.eq }
 {}
 
-// Counts the pairs by a run of one call.
+/// Counts the pairs by a run of one call.
 fn count<H: BuildHasher>(
     map: &mut Owned<u64, u64, H>,
     replies: &mut Vec<Reply<u64, u64>>,
@@ -31,7 +31,7 @@ fn count<H: BuildHasher>(
     run(map, &[MapCall::Len], replies)
 }
 
-// Inserts a pair, and counts the pairs by a run.
+/// Inserts a pair, and counts the pairs by a run.
 fn insert_and_count<H: BuildHasher>(
     map: &mut Owned<u64, u64, H>,
     replies: &mut Vec<Reply<u64, u64>>,
@@ -59,14 +59,14 @@ fn counts_by_a_run(rt: HostRuntime) {
     }
 }
 
-// Clones of replies equal them, also if keys are compared in part.
+/// Clones of replies equal them, also if keys are compared in part.
 fn replies_are_equal()
     ensures { ClonesEqual ⟦<Reply<MaybeEqual, u64> as Clone>⟧.is_clone ⟦<Reply<MaybeEqual, u64> as PartialEq>⟧.eq }
 {}
 
 type Marked = Owned<MaybeEqual, u64>;
 
-// Makes a call. Returns whether its reply equals `reply`.
+/// Makes a call. Returns whether its reply equals `reply`.
 fn answers(
     map: &mut Marked,
     call: MapCall<MaybeEqual, u64>,
@@ -79,7 +79,7 @@ fn answers(
     }
 }
 
-// Replaces the key 11 by one with the mark 11. Returns the mark of the old key.
+/// Replaces the key 11 by one with the mark 11. Returns the mark of the old key.
 fn swap(map: &mut Marked) -> Option<u64> {
     replies_are_equal();
     match map.call(MapCall::Replace(MaybeEqual(11, 11))) {
@@ -88,7 +88,7 @@ fn swap(map: &mut Marked) -> Option<u64> {
     }
 }
 
-// Removes the key 11. Returns the mark of the stored key, and its value.
+/// Removes the key 11. Returns the mark of the stored key, and its value.
 fn remove(map: &mut Marked) -> Option<(u64, u64)> {
     replies_are_equal();
     match map.call(MapCall::Remove(MaybeEqual(11, 0))) {
@@ -211,7 +211,7 @@ impl Calls for Tally {
         0
     }
 
-    // A tally is made by hand alone.
+    /// A tally is made by hand alone.
     fn make(
         _alloc: Global,
         _skipped: u32,

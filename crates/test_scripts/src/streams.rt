@@ -26,8 +26,8 @@ impl Read for FailingReader<'_> {
     }
 }
 
-// Plays the script from readers that fail with `kind` after each number of bytes. Each run must write `text` and end
-// with `status`.
+/// Plays the script from readers that fail with `kind` after each number of bytes. Each run must write `text` and end
+/// with `status`.
 fn expect_reader<R: AllocGlobal + Abort + Threads + Wait + Sync>(
     rt: &R,
     script: &[u8],
@@ -103,8 +103,8 @@ impl Write for FailingWriter {
     }
 }
 
-// Plays the script to writers that fail after each number of bytes too small for `text`, or at the flush. Each must
-// get the first bytes of `text`. A writer with enough room must get the whole text.
+/// Plays the script to writers that fail after each number of bytes too small for `text`, or at the flush. Each must
+/// get the first bytes of `text`. A writer with enough room must get the whole text.
 fn expect_writer<R: AllocGlobal + Abort + Threads + Wait + Sync>(
     rt: &R,
     script: &[u8],

@@ -6,7 +6,7 @@ use scc::{InsertError, KeyError, MakeError, WalkError};
 use std::fmt::Display;
 use std::process::Abort;
 
-// Checks that a refusal is printed as `text`.
+/// Checks that a refusal is printed as `text`.
 fn expect_text<R: AllocGlobal + Abort, E: Display>(rt: &R, refusal: &E, text: &str) {
     match format!(in rt.alloc(); "{refusal}") {
         Ok(printed) => expect_eq(rt, printed.as_str(), text),

@@ -31,7 +31,7 @@ pub trait Called<'a>: Sized {
     fn settle<R: Wait>(&self, rt: &R, tally: &mut Tally);
 }
 
-// Notes the result of an insertion of `key`.
+/// Notes the result of an insertion of `key`.
 fn note_pair(inserted: Result<(), InsertError<u64, Counted<'_>>>, key: u64, tally: &mut Tally) {
     match inserted {
         Ok(()) => tally.add(key),
@@ -40,7 +40,7 @@ fn note_pair(inserted: Result<(), InsertError<u64, Counted<'_>>>, key: u64, tall
     }
 }
 
-// Notes the result of an insertion of `key` into a set.
+/// Notes the result of an insertion of `key` into a set.
 fn note_key(inserted: Result<(), KeyError<u64>>, key: u64, tally: &mut Tally) {
     match inserted {
         Ok(()) => tally.add(key),
@@ -49,7 +49,7 @@ fn note_key(inserted: Result<(), KeyError<u64>>, key: u64, tally: &mut Tally) {
     }
 }
 
-// Notes that `key` went in, and that another key may have been evicted.
+/// Notes that `key` went in, and that another key may have been evicted.
 fn note_put(evicted: EvictedEntry<u64, Counted<'_>>, key: u64, tally: &mut Tally) {
     tally.add(key);
     if let Some((old, _value)) = evicted {
@@ -57,7 +57,7 @@ fn note_put(evicted: EvictedEntry<u64, Counted<'_>>, key: u64, tally: &mut Tally
     }
 }
 
-// Inserts the key through its entry, if the entry is vacant.
+/// Inserts the key through its entry, if the entry is vacant.
 fn insert_vacant<'a, R: Wait>(
     rt: &R,
     map: &Map<'a>,
@@ -73,7 +73,7 @@ fn insert_vacant<'a, R: Wait>(
     }
 }
 
-// Upserts the key.
+/// Upserts the key.
 fn upsert<'a, R: Wait>(rt: &R, map: &Map<'a>, counts: &'a Counts, key: u64, tally: &mut Tally) {
     match map.upsert_sync(rt, key, counts.make()) {
         Ok(None) => tally.add(key),
@@ -82,7 +82,7 @@ fn upsert<'a, R: Wait>(rt: &R, map: &Map<'a>, counts: &'a Counts, key: u64, tall
     }
 }
 
-// Removes the key through its entry.
+/// Removes the key through its entry.
 fn remove_occupied<R: Wait>(rt: &R, map: &Map<'_>, key: u64, tally: &mut Tally) {
     if let Some(entry) = map.get_sync(rt, &key) {
         let _value = entry.remove();
@@ -120,7 +120,7 @@ impl<'a> Called<'a> for Map<'a> {
     }
 }
 
-// Replaces an equal key by `key`, or inserts `key`.
+/// Replaces an equal key by `key`, or inserts `key`.
 fn replace<R: Wait>(rt: &R, set: &Set, key: u64, tally: &mut Tally) {
     match set.replace_sync(rt, key) {
         Ok(None) => tally.add(key),
@@ -157,7 +157,7 @@ impl<'a> Called<'a> for Set {
     }
 }
 
-// Inserts the key through its entry, or makes a new version.
+/// Inserts the key through its entry, or makes a new version.
 fn publish<'a, R: Wait>(
     rt: &R,
     index: &Index<'a>,
@@ -178,7 +178,7 @@ fn publish<'a, R: Wait>(
     }
 }
 
-// Gets the version of the key, and drops it.
+/// Gets the version of the key, and drops it.
 fn peek<R: Wait>(rt: &R, index: &Index<'_>, key: u64, tally: &mut Tally) {
     match index.peek(rt, &key) {
         Ok(_version) => {}
@@ -212,7 +212,7 @@ impl<'a> Called<'a> for Index<'a> {
     }
 }
 
-// Puts the key.
+/// Puts the key.
 fn put<'a, R: Wait>(rt: &R, cache: &Cache<'a>, counts: &'a Counts, key: u64, tally: &mut Tally) {
     match cache.put_sync(rt, key, counts.make()) {
         Ok(evicted) => note_put(evicted, key, tally),
@@ -221,7 +221,7 @@ fn put<'a, R: Wait>(rt: &R, cache: &Cache<'a>, counts: &'a Counts, key: u64, tal
     }
 }
 
-// Puts the key through its entry, if the entry is vacant.
+/// Puts the key through its entry, if the entry is vacant.
 fn put_vacant<'a, R: Wait>(
     rt: &R,
     cache: &Cache<'a>,

@@ -22,7 +22,7 @@ pub(crate) fn shared(alloc: Global) -> Result<Shared<Same>, AllocError> {
     Ok(Shared::new(Arc::new(alloc, Same)?))
 }
 
-// Opens a recorded container of one stripe for eight passes.
+/// Opens a recorded container of one stripe for eight passes.
 fn opened<C: Calls + Drop, L: Ledger, M: Site<C::Hasher>>(
     alloc: Global,
     hasher: C::Hasher,
@@ -46,7 +46,7 @@ where
     }
 }
 
-// Lets eight workers call a map. Returns the number of call records if all went as in one thread.
+/// Lets eight workers call a map. Returns the number of call records if all went as in one thread.
 fn work_on_map<
     L: Ledger + Send + Sync,
     M: Site<Shared<Same>> + Send + Sync,
@@ -83,7 +83,7 @@ fn of_map<R: Threads + Wait + Sync>(rt: &R, alloc: Global) -> Result<bool, Alloc
     Ok(records == Some(1600))
 }
 
-// Lets eight workers call a set. Returns the number of call records if all went as in one thread.
+/// Lets eight workers call a set. Returns the number of call records if all went as in one thread.
 fn work_on_set<
     L: Ledger + Send + Sync,
     M: Site<Shared<Same>> + Send + Sync,
@@ -120,7 +120,7 @@ fn of_set<R: Threads + Wait + Sync>(rt: &R, alloc: Global) -> Result<bool, Alloc
     Ok(records == Some(1600))
 }
 
-// Lets eight workers call an index. Returns the number of call records if all went as in one thread.
+/// Lets eight workers call an index. Returns the number of call records if all went as in one thread.
 fn work_on_index<
     L: Ledger + Send + Sync,
     M: Site<Shared<Same>> + Send + Sync,
@@ -157,7 +157,7 @@ fn of_index<R: Threads + Wait + Sync>(rt: &R, alloc: Global) -> Result<bool, All
     Ok(records == Some(1600))
 }
 
-// Lets eight workers call a cache. Returns the number of call records if all went as in one thread.
+/// Lets eight workers call a cache. Returns the number of call records if all went as in one thread.
 fn work_on_cache<
     L: Ledger + Send + Sync,
     M: Site<Shared<Same>> + Send + Sync,

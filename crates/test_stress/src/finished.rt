@@ -8,7 +8,7 @@ use scc_recorded::{FinishError, Finished, Pass, Recorded, Site};
 use std::alloc::{AllocError, Global};
 use std::sync::ledger::Ledger;
 
-// Returns the receipts of each pass, in the order of `passes`.
+/// Returns the receipts of each pass, in the order of `passes`.
 fn receipts_of<C: Calls, L: Ledger>(
     alloc: Global,
     passes: &[Pass<C, L>],
@@ -29,8 +29,8 @@ fn receipts_of<C: Calls, L: Ledger>(
     Ok(lists)
 }
 
-// Finishes a run with a pass missing, which must be refused, and then with all passes in another order. Returns the
-// finished run if both went as they must.
+/// Finishes a run with a pass missing, which must be refused, and then with all passes in another order. Returns the
+/// finished run if both went as they must.
 pub(crate) fn finish_late<C: Calls + Drop, L: Ledger, M: Site<C::Hasher>>(
     recorded: Recorded<C, L, M>,
     passes: Vec<Pass<C, L>>,
@@ -55,7 +55,7 @@ where
     }
 }
 
-// Returns the step at `place`, if there is one.
+/// Returns the step at `place`, if there is one.
 fn step_at<C: Calls>(
     finished: &Finished<C>,
     place: (usize, usize),
@@ -63,7 +63,7 @@ fn step_at<C: Calls>(
     finished.histories.get(place.0)?.get(place.1)
 }
 
-// Returns whether the order has each step of each history once, in the order of the history.
+/// Returns whether the order has each step of each history once, in the order of the history.
 pub(crate) fn has_each_place<C: Calls>(
     alloc: Global,
     finished: &Finished<C>,
@@ -85,7 +85,7 @@ pub(crate) fn has_each_place<C: Calls>(
     Ok(right)
 }
 
-// Returns whether the stamps of calls don't fall along the order.
+/// Returns whether the stamps of calls don't fall along the order.
 fn has_rising_stamps<C: Calls>(finished: &Finished<C>) -> bool {
     let mut last = 0u64;
     let mut right = true;
@@ -98,7 +98,7 @@ fn has_rising_stamps<C: Calls>(finished: &Finished<C>) -> bool {
     right
 }
 
-// Returns whether a record is the receipt at `place`.
+/// Returns whether a record is the receipt at `place`.
 fn is_receipt<C: Turns>(
     receipts: &[Receipt<C::Call, C::Reply>],
     place: usize,
@@ -116,8 +116,8 @@ fn is_receipt<C: Turns>(
     }
 }
 
-// Returns the number of call records if the records of each pass, along the order, are the pass's receipts one for
-// one.
+/// Returns the number of call records if the records of each pass, along the order, are the pass's receipts one for
+/// one.
 fn count_receipted<C: Turns>(
     alloc: Global,
     finished: &Finished<C>,
@@ -151,7 +151,7 @@ fn count_receipted<C: Turns>(
     Ok(if right { Some(count) } else { None })
 }
 
-// Makes the steps of a run on one stripe on a plain list. Returns whether each call gets its recorded reply.
+/// Makes the steps of a run on one stripe on a plain list. Returns whether each call gets its recorded reply.
 fn plays_on<C: Turns>(
     alloc: Global,
     plain: &mut Plain,
@@ -170,7 +170,7 @@ fn plays_on<C: Turns>(
     Ok(right)
 }
 
-// Returns whether a part holds the pairs of the list, and no others.
+/// Returns whether a part holds the pairs of the list, and no others.
 fn holds<C: Turns>(alloc: Global, plain: &mut Plain, part: &C) -> Result<bool, AllocError> {
     let mut met = Vec::new(alloc);
     if !part.collect(&mut met) || part.count() != plain.len() {
@@ -183,7 +183,7 @@ fn holds<C: Turns>(alloc: Global, plain: &mut Plain, part: &C) -> Result<bool, A
     }
 }
 
-// Returns the number of call records of a run on one stripe if all checks hold.
+/// Returns the number of call records of a run on one stripe if all checks hold.
 fn count_checked<C: Turns>(
     alloc: Global,
     finished: &Finished<C>,
@@ -203,7 +203,7 @@ fn count_checked<C: Turns>(
     }
 }
 
-// Finishes a run on one stripe. Returns the number of its call records if all checks hold.
+/// Finishes a run on one stripe. Returns the number of its call records if all checks hold.
 pub(crate) fn finish_as_plain<C: Turns, L: Ledger, M: Site<C::Hasher>>(
     alloc: Global,
     recorded: Recorded<C, L, M>,

@@ -16,7 +16,7 @@ pub(crate) type Index = scc_owned::index::Owned<u64, u64, Shared<Same>>;
 
 pub(crate) type Cache = scc_cache::Owned<u64, u64, Shared<Same>>;
 
-// Inserts the pair into the list, and returns the reply.
+/// Inserts the pair into the list, and returns the reply.
 fn insert(plain: &mut Plain, key: u64, value: u64) -> Result<Reply<u64, u64>, AllocError> {
     if plain.has(key) {
         return Ok(Reply::Exists(key, value));
@@ -25,7 +25,7 @@ fn insert(plain: &mut Plain, key: u64, value: u64) -> Result<Reply<u64, u64>, Al
     Ok(Reply::Inserted)
 }
 
-// Puts the pair into the list, and evicts a pair if its bucket is full. Returns whether `reply` is right.
+/// Puts the pair into the list, and evicts a pair if its bucket is full. Returns whether `reply` is right.
 fn put(
     alloc: Global,
     plain: &mut Plain,

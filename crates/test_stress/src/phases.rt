@@ -27,7 +27,7 @@ const CALLS: u64 = 50;
 
 type Made = (MapCall<u64, u64>, Option<Reply<u64, u64>>);
 
-// Returns insertions of keys from `first` on, as the one list of a worker.
+/// Returns insertions of keys from `first` on, as the one list of a worker.
 fn insertions(alloc: Global, first: u64) -> Result<Vec<Vec<Made>>, AllocError> {
     let mut calls: Vec<Made> = Vec::new(alloc);
     for number in 0..CALLS {
@@ -39,7 +39,7 @@ fn insertions(alloc: Global, first: u64) -> Result<Vec<Vec<Made>>, AllocError> {
     Ok(lists)
 }
 
-// Lets a worker make its calls on a thread. Returns the worker's pass if each call got the right reply.
+/// Lets a worker make its calls on a thread. Returns the worker's pass if each call got the right reply.
 fn work_alone<
     L: Ledger + Send + Sync,
     M: Site<Shared<Same>> + Send + Sync,
@@ -62,7 +62,7 @@ fn work_alone<
     }
 }
 
-// Returns whether all receipts of the second pass have greater stamps than those of the first.
+/// Returns whether all receipts of the second pass have greater stamps than those of the first.
 fn is_later<L: Ledger>(first: &Pass<Map, L>, second: &Pass<Map, L>) -> bool {
     let clock = first.clock();
     let made = (first.receipts().len(), second.receipts().len());
@@ -77,7 +77,7 @@ fn is_later<L: Ledger>(first: &Pass<Map, L>, second: &Pass<Map, L>) -> bool {
             .all(|receipt| receipt.stripe == 1 && receipt.stamp > clock)
 }
 
-// Returns whether no step of the first stripe stands after a step of the second.
+/// Returns whether no step of the first stripe stands after a step of the second.
 fn goes_in_phases(finished: &Finished<Map>) -> bool {
     let mut right = true;
     let mut last = 0usize;
@@ -88,7 +88,7 @@ fn goes_in_phases(finished: &Finished<Map>) -> bool {
     right && last == 1
 }
 
-// Returns whether the calls of a worker that was told of another come later.
+/// Returns whether the calls of a worker that was told of another come later.
 fn work_in_phases<
     L: Ledger + Send + Sync,
     M: Site<Shared<Same>> + Send + Sync,

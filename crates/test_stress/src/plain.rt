@@ -13,7 +13,7 @@ pub struct Plain {
     buckets: usize,
 }
 
-// Returns the bucket of a key among `buckets` buckets: the first bits of the key, enough to number the buckets.
+/// Returns the bucket of a key among `buckets` buckets: the first bits of the key, enough to number the buckets.
 fn bucket_of(key: u64, buckets: usize) -> usize {
     let wide = u128::from(key) * buckets as u128;
     (wide >> 64) as usize
@@ -76,7 +76,7 @@ impl Plain {
         Ok(())
     }
 
-    // Returns the pairs of a bucket.
+    /// Returns the pairs of a bucket.
     fn bucket(&self, alloc: Global, bucket: usize) -> Result<Vec<(u64, u64)>, AllocError> {
         let mut pairs = Vec::new(alloc);
         for pair in self.pairs.iter() {

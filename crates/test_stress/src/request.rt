@@ -21,8 +21,8 @@ const USUAL_THREADS: u64 = 4;
 /// The number of calls if none is given.
 const USUAL_CALLS: u64 = 100_000;
 
-// Returns the number in the word at `place`, or `usual` if there is no such word. Returns `None` if the word is no
-// number.
+/// Returns the number in the word at `place`, or `usual` if there is no such word. Returns `None` if the word is no
+/// number.
 fn parse_number(words: &[String], place: usize, usual: u64) -> Option<u64>
     ensures { length words.now ≤ place → result ≡ Some usual }
 {
@@ -32,7 +32,7 @@ fn parse_number(words: &[String], place: usize, usual: u64) -> Option<u64>
     }
 }
 
-// Returns whether to soak, and whether to play the crowds. Without a word both are played.
+/// Returns whether to soak, and whether to play the crowds. Without a word both are played.
 fn parse_parts(words: &[String]) -> Option<(bool, bool)> {
     match words.first() {
         Some(word) => match word.as_str() {

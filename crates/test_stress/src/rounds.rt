@@ -17,7 +17,7 @@ const EVEN: u8 = 0;
 /// The status if a count didn't add up.
 const UNEVEN: u8 = 1;
 
-// Makes `calls` calls in one thread. Returns the tally of the replies.
+/// Makes `calls` calls in one thread. Returns the tally of the replies.
 fn work<'a, C: Called<'a>, R: Wait>(
     rt: &R,
     container: &C,
@@ -34,7 +34,7 @@ fn work<'a, C: Called<'a>, R: Wait>(
     tally
 }
 
-// Returns whether the tallies of the threads add up with the keys of the container.
+/// Returns whether the tallies of the threads add up with the keys of the container.
 fn is_settled<'a, C: Called<'a>, R: Wait>(rt: &R, container: &C, told: &[Tally]) -> bool {
     let mut left = Tally::new();
     for tally in told {
@@ -44,7 +44,7 @@ fn is_settled<'a, C: Called<'a>, R: Wait>(rt: &R, container: &C, told: &[Tally])
     left.is_even()
 }
 
-// Returns the container, or an error if its memory was refused.
+/// Returns the container, or an error if its memory was refused.
 fn made<C: Drop>(container: Option<C>) -> io::Result<C> {
     match container {
         Some(container) => Ok(container),
@@ -55,7 +55,7 @@ fn made<C: Drop>(container: Option<C>) -> io::Result<C> {
 // The data of a thread can't rest on a bound with a lifetime. Therefore each kind starts its threads in a function of
 // its own.
 
-// Returns what each thread was told by a map.
+/// Returns what each thread was told by a map.
 fn told_of_map<'a, R: Wait + Threads + Sync>(
     rt: &R,
     alloc: Global,
@@ -72,7 +72,7 @@ fn told_of_map<'a, R: Wait + Threads + Sync>(
     )?)
 }
 
-// Returns whether a round of a map adds up.
+/// Returns whether a round of a map adds up.
 fn map_adds_up<R: Wait + Threads + Sync>(
     rt: &R,
     alloc: Global,
@@ -84,7 +84,7 @@ fn map_adds_up<R: Wait + Threads + Sync>(
     Ok(is_settled(rt, &map, told.as_slice()))
 }
 
-// Returns what each thread was told by a set.
+/// Returns what each thread was told by a set.
 fn told_of_set<'a, R: Wait + Threads + Sync>(
     rt: &R,
     alloc: Global,
@@ -101,7 +101,7 @@ fn told_of_set<'a, R: Wait + Threads + Sync>(
     )?)
 }
 
-// Returns whether a round of a set adds up.
+/// Returns whether a round of a set adds up.
 fn set_adds_up<R: Wait + Threads + Sync>(
     rt: &R,
     alloc: Global,
@@ -113,7 +113,7 @@ fn set_adds_up<R: Wait + Threads + Sync>(
     Ok(is_settled(rt, &set, told.as_slice()))
 }
 
-// Returns what each thread was told by an index.
+/// Returns what each thread was told by an index.
 fn told_of_index<'a, R: Wait + Threads + Sync>(
     rt: &R,
     alloc: Global,
@@ -130,7 +130,7 @@ fn told_of_index<'a, R: Wait + Threads + Sync>(
     )?)
 }
 
-// Returns whether a round of an index adds up.
+/// Returns whether a round of an index adds up.
 fn index_adds_up<R: Wait + Threads + Sync>(
     rt: &R,
     alloc: Global,
@@ -142,7 +142,7 @@ fn index_adds_up<R: Wait + Threads + Sync>(
     Ok(is_settled(rt, &index, told.as_slice()))
 }
 
-// Returns what each thread was told by a cache.
+/// Returns what each thread was told by a cache.
 fn told_of_cache<'a, R: Wait + Threads + Sync>(
     rt: &R,
     alloc: Global,
@@ -159,7 +159,7 @@ fn told_of_cache<'a, R: Wait + Threads + Sync>(
     )?)
 }
 
-// Returns whether a round of a cache adds up.
+/// Returns whether a round of a cache adds up.
 fn cache_adds_up<R: Wait + Threads + Sync>(
     rt: &R,
     alloc: Global,
@@ -171,7 +171,7 @@ fn cache_adds_up<R: Wait + Threads + Sync>(
     Ok(is_settled(rt, &cache, told.as_slice()))
 }
 
-// Prints `name` if the counts of the container don't add up. Returns `holds`.
+/// Prints `name` if the counts of the container don't add up. Returns `holds`.
 fn tell(rt: &impl Print, name: &str, holds: bool) -> io::Result<bool> {
     if !holds {
         println!(rt; "{name}: what went in and out doesn't add up")?;
@@ -179,7 +179,7 @@ fn tell(rt: &impl Print, name: &str, holds: bool) -> io::Result<bool> {
     Ok(holds)
 }
 
-// Returns whether a round of each container adds up, and each value was dropped once.
+/// Returns whether a round of each container adds up, and each value was dropped once.
 fn all_add_up<R: Wait + Threads + Sync + Print>(
     rt: &R,
     alloc: Global,

@@ -18,14 +18,14 @@ const SHARED: u64 = 8;
 
 // The calls of workers on a container of one kind.
 pub(crate) trait Turns: Calls + Drop {
-    // Returns the call of turn `j` on a key of the worker's own, and its reply if no other worker interferes and the
-    // reply can be known.
+    /// Returns the call of turn `j` on a key of the worker's own, and its reply if no other worker interferes and the
+    /// reply can be known.
     fn own_turn(key: u64, j: u64) -> (Self::Call, Option<Self::Reply>);
 
-    // Returns the call of turn `j` on a key that all workers share.
+    /// Returns the call of turn `j` on a key that all workers share.
     fn shared_turn(key: u64, j: u64) -> Self::Call;
 
-    // Makes a call on a plain list. Returns whether `reply` is right.
+    /// Makes a call on a plain list. Returns whether `reply` is right.
     fn plays(
         alloc: Global,
         plain: &mut Plain,
@@ -33,13 +33,13 @@ pub(crate) trait Turns: Calls + Drop {
         reply: &Self::Reply,
     ) -> Result<bool, AllocError>;
 
-    // Adds all pairs to `met` in the order of a walk. Returns whether there was room. A set's values are 0.
+    /// Adds all pairs to `met` in the order of a walk. Returns whether there was room. A set's values are 0.
     fn collect(&self, met: &mut Vec<(u64, u64)>) -> bool;
 
-    // Returns the number of keys.
+    /// Returns the number of keys.
     fn count(&self) -> usize;
 
-    // Returns whether a walk meets pairs bucket by bucket, each bucket's by recency.
+    /// Returns whether a walk meets pairs bucket by bucket, each bucket's by recency.
     fn is_ordered() -> bool;
 
     // A clone of a call equals the call.
@@ -49,13 +49,13 @@ pub(crate) trait Turns: Calls + Drop {
     ghost equal_replies: { ClonesEqual Self.Reply.is_clone Self.Reply.eq };
 }
 
-// Returns a key of the worker's own. A worker's keys lie in different buckets, and each serves eight turns.
+/// Returns a key of the worker's own. A worker's keys lie in different buckets, and each serves eight turns.
 fn own_key(worker: u64, place: u64) -> u64 {
     (place << 59) | (1 << 40) | (worker << 32)
 }
 
-// Returns the call of turn `j`. Every other call is on a key of the worker's own, and the others are on keys that all
-// workers share.
+/// Returns the call of turn `j`. Every other call is on a key of the worker's own, and the others are on keys that all
+/// workers share.
 fn turn_of<C: Turns>(worker: u64, j: u64) -> (C::Call, Option<C::Reply>) {
     if j % 2 == 0 {
         C::own_turn(own_key(worker, j / 8), j)
@@ -76,7 +76,7 @@ fn turns_of<C: Turns>(
     Ok(turns)
 }
 
-// Returns the turns of all workers.
+/// Returns the turns of all workers.
 pub(crate) fn all_turns<C: Turns>(
     alloc: Global,
 ) -> Result<Vec<Vec<(C::Call, Option<C::Reply>)>>, AllocError> {
@@ -87,7 +87,7 @@ pub(crate) fn all_turns<C: Turns>(
     Ok(lists)
 }
 
-// Returns whether `answer` is the known reply. Returns true if no reply is known.
+/// Returns whether `answer` is the known reply. Returns true if no reply is known.
 fn matches_alone<A: PartialEq>(wanted: &Option<A>, answer: &A) -> bool {
     match wanted {
         Some(wanted) => wanted == answer,
@@ -131,7 +131,7 @@ impl<C: Turns, L: Ledger, M: Site<C::Hasher>, R: Wait> Work for Caller<'_, C, L,
     }
 }
 
-// Returns a worker for each pass.
+/// Returns a worker for each pass.
 pub(crate) fn callers_of<'a, C: Turns, L: Ledger, M: Site<C::Hasher>, R: Wait>(
     rt: &'a R,
     alloc: Global,
@@ -152,7 +152,7 @@ pub(crate) fn callers_of<'a, C: Turns, L: Ledger, M: Site<C::Hasher>, R: Wait>(
     Ok(callers)
 }
 
-// Returns the passes of the workers if each reply on their own keys was that of a single thread.
+/// Returns the passes of the workers if each reply on their own keys was that of a single thread.
 pub(crate) fn passes_of<C: Turns, L: Ledger, M: Site<C::Hasher>, R: Wait>(
     alloc: Global,
     callers: Vec<Caller<'_, C, L, M, R>>,

@@ -13,7 +13,7 @@ use test_kit::maybe_equal::MaybeEqual;
 
 const SESSIONS: u64 = 400;
 
-// Begins the sessions of one parity, and returns the number of sessions that it could begin.
+/// Begins the sessions of one parity, and returns the number of sessions that it could begin.
 fn begins(rt: &impl Wait, store: &SessionStore, parity: u64) -> u64 {
     let mut begun = 0u64;
     for id in 0..SESSIONS {
@@ -24,7 +24,7 @@ fn begins(rt: &impl Wait, store: &SessionStore, parity: u64) -> u64 {
     begun
 }
 
-// Removes the sessions that have ended by `now`, and returns their number.
+/// Removes the sessions that have ended by `now`, and returns their number.
 fn expires(rt: &impl Wait, store: &SessionStore, now: u64) -> u64 {
     let mut gone = 0u64;
     for id in 0..SESSIONS {
@@ -56,8 +56,8 @@ fn two_workers_share_a_session_store(rt: HostRuntime) -> Result<(), Fail> {
 
 const WORDS: u64 = 500;
 
-// Interns each word twice, and returns the number of stored words that this thread brought, or `None` if a result is
-// wrong. Words are equal if their first fields are. The second field tells which thread brought the word.
+/// Interns each word twice, and returns the number of stored words that this thread brought, or `None` if a result is
+/// wrong. Words are equal if their first fields are. The second field tells which thread brought the word.
 fn interned(rt: &impl Wait, words: &SharedInterner<MaybeEqual>, thread: u64) -> Option<u64> {
     let mut brought = 0u64;
     for word in 0..WORDS {
@@ -88,7 +88,7 @@ fn shared_interner_keeps_one_of_equals(rt: HostRuntime) -> Result<(), Fail> {
     Ok(())
 }
 
-// Returns routes of one hop and one metric to fifty destinations.
+/// Returns routes of one hop and one metric to fifty destinations.
 fn offers(
     alloc: Global,
     first: u32,
@@ -103,7 +103,7 @@ fn offers(
     Ok(offers)
 }
 
-// Returns the metric of the route to `destination`, if there is a route.
+/// Returns the metric of the route to `destination`, if there is a route.
 fn metric_to(
     rt: &impl Wait,
     routes: &SharedRoutes,

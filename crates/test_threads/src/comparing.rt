@@ -21,7 +21,7 @@ const FIFTH: u64 = (5 << 57) | 5;
 /// Slots for two stripes.
 const SLOTS: usize = 512;
 
-// Adds a hundred keys in all stripes, and returns whether each was added.
+/// Adds a hundred keys in all stripes, and returns whether each was added.
 fn fills<C: Threaded, R: Wait>(rt: &R, container: &C) -> bool {
     let mut right = true;
     for key in 0..KEYS {
@@ -30,7 +30,7 @@ fn fills<C: Threaded, R: Wait>(rt: &R, container: &C) -> bool {
     right
 }
 
-// Returns a container with these keys, or `None` if memory is refused.
+/// Returns a container with these keys, or `None` if memory is refused.
 fn filled<C: Threaded + Drop, R: Wait>(rt: &R, alloc: Global) -> Option<C> {
     match C::make(alloc, SLOTS) {
         Some(made) if fills(rt, &made) => Some(made),
@@ -56,7 +56,7 @@ fn writes<C: Threaded, R: Wait>(rt: &R, container: &C) -> bool {
     there
 }
 
-// Returns whether a container equals itself each time, also beside a writer.
+/// Returns whether a container equals itself each time, also beside a writer.
 fn is_itself<C: Threaded + Sync, R: Threads + Wait + Sync>(rt: &R, container: &C) -> bool {
     let before = container.equals(rt, container);
     let (compared, wrote) = join(
@@ -88,8 +88,8 @@ fn equals_itself_beside_a_writer(rt: HostRuntime) {
     expect_eq(&rt, right, [true; 4]);
 }
 
-// Compares in both ways at once while keys of both containers come and go. A comparison may return anything, and must
-// end. Returns whether each key came and went.
+/// Compares in both ways at once while keys of both containers come and go. A comparison may return anything, and must
+/// end. Returns whether each key came and went.
 fn compares_and_moves<C: Threaded, R: Wait>(rt: &R, one: &C, other: &C) -> bool {
     let mut moved = true;
     for key in 0..ROUNDS {
@@ -101,7 +101,7 @@ fn compares_and_moves<C: Threaded, R: Wait>(rt: &R, one: &C, other: &C) -> bool 
     moved
 }
 
-// Returns whether two containers that two threads compare with one another come to an end, and are equal then.
+/// Returns whether two containers that two threads compare with one another come to an end, and are equal then.
 fn compare_both_ways<C: Threaded + Sync, R: Threads + Wait + Sync>(
     rt: &R,
     one: &C,
@@ -136,13 +136,13 @@ fn comparisons_in_opposite_ways_end(rt: HostRuntime) {
     expect_eq(&rt, right, [true; 4]);
 }
 
-// Returns whether a container differs from its equal, looked at from either side.
+/// Returns whether a container differs from its equal, looked at from either side.
 fn differ<C: Threaded, R: Wait>(rt: &R, one: &C, other: &C) -> bool {
     !one.equals(rt, other) && !other.equals(rt, one)
 }
 
-// Returns whether a container equals its equal, differs from it while a value is another, and as soon as it lacks a
-// key. Only a set has no values.
+/// Returns whether a container equals its equal, differs from it while a value is another, and as soon as it lacks a
+/// key. Only a set has no values.
 fn differs<C: Threaded, R: Wait>(rt: &R, one: &C, other: &C, has_values: bool) -> bool {
     let same = one.equals(rt, other) && other.equals(rt, one);
     let written = one.rewrite(rt, FIFTH, 8) && differ(rt, one, other) == has_values;
@@ -151,7 +151,7 @@ fn differs<C: Threaded, R: Wait>(rt: &R, one: &C, other: &C, has_values: bool) -
     same && written && again && gone && differ(rt, one, other)
 }
 
-// Returns whether a map's clone has its slots, and equals it only while their values are equal.
+/// Returns whether a map's clone has its slots, and equals it only while their values are equal.
 fn is_clone(rt: &impl Wait, map: &Map, copy: &Map) -> bool {
     let slots = (
         map.capacity(rt),
@@ -191,14 +191,14 @@ fn shared_index_clone_equals(rt: HostRuntime) -> Result<(), Fail> {
     Ok(())
 }
 
-// Gets some keys of a cache, which are then its most recent ones.
+/// Gets some keys of a cache, which are then its most recent ones.
 fn refreshes(rt: &impl Wait, cache: &Cache) {
     for key in 0..KEYS {
         drop(cache.get_sync(rt, &((key % 3) << 57 | key % 3)));
     }
 }
 
-// The order in which pairs were used plays no part in the comparison of caches.
+/// The order in which pairs were used plays no part in the comparison of caches.
 #[test]
 fn shared_cache_equality_ignores_recency(rt: HostRuntime) -> Result<(), Fail> {
     let first: Cache = filled(&rt, rt.alloc()).ok_or("there is memory")?;

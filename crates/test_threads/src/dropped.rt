@@ -30,16 +30,16 @@ enum Insertion {
 
 // A container of which slots can be reserved. A kind without a way to add or to remove a key does it by another way.
 trait Reserving: Threaded {
-    // Reserves slots, and drops the reservation again. Returns the bucket of `key` before and between.
+    /// Reserves slots, and drops the reservation again. Returns the bucket of `key` before and between.
     fn reserve_and_drop<R: Wait>(&self, rt: &R, slots: usize, key: u64) -> Option<(usize, usize)>;
 
-    // Returns the bucket of a key.
+    /// Returns the bucket of a key.
     fn bucket<R: Wait>(&self, rt: &R, key: u64) -> usize;
 
-    // Adds a missing key, and returns whether it was added.
+    /// Adds a missing key, and returns whether it was added.
     fn insert_by<R: Wait>(&self, rt: &R, way: Insertion, key: u64) -> bool;
 
-    // Removes the key, which is the only one, and returns whether none is left.
+    /// Removes the key, which is the only one, and returns whether none is left.
     fn remove_by<R: Wait>(&self, rt: &R, alloc: Global, way: Removal, key: u64) -> bool;
 }
 
@@ -192,7 +192,7 @@ const REMOVALS: [Removal; 7] = [
     Removal::Clear,
 ];
 
-// Returns the buckets of a key at first, under a reservation, after it was dropped, and after the only key was removed.
+/// Returns the buckets of a key at first, under a reservation, after it was dropped, and after the only key was removed.
 fn gives_back<C: Reserving, R: Wait>(
     rt: &R,
     alloc: Global,
@@ -215,7 +215,7 @@ fn gives_back<C: Reserving, R: Wait>(
     }
 }
 
-// Returns what each removal shows of 1000 slots that a container of 64 is to give back.
+/// Returns what each removal shows of 1000 slots that a container of 64 is to give back.
 fn given_back<C: Reserving + Drop, R: Wait>(rt: &R, alloc: Global) -> [Option<[usize; 4]>; 7] {
     let mut found = [None; 7];
     for (way, found) in REMOVALS.iter().zip(found.iter_mut()) {
@@ -251,8 +251,8 @@ const INSERTIONS: [Insertion; 4] = [
     Insertion::Replace,
 ];
 
-// Inserts into the first of 16 stripes after 1024 slots for each were reserved and released. Returns the bucket of the
-// greatest key of this stripe, which is 1 in an array of 64 slots.
+/// Inserts into the first of 16 stripes after 1024 slots for each were reserved and released. Returns the bucket of the
+/// greatest key of this stripe, which is 1 in an array of 64 slots.
 fn first_array<C: Reserving, R: Wait>(rt: &R, container: &C, way: Insertion) -> Option<usize> {
     let greatest = !(15 << 60);
     match container.reserve_and_drop(rt, 16 * 1024, greatest) {
@@ -261,7 +261,7 @@ fn first_array<C: Reserving, R: Wait>(rt: &R, container: &C, way: Insertion) -> 
     }
 }
 
-// Returns the buckets by each way to insert.
+/// Returns the buckets by each way to insert.
 fn first_arrays<C: Reserving + Drop, R: Wait>(rt: &R, alloc: Global) -> [Option<usize>; 4] {
     let mut found = [None; 4];
     for (way, found) in INSERTIONS.iter().zip(found.iter_mut()) {

@@ -9,7 +9,7 @@ use std::test::Fail;
 
 type Map = HashMap<u64, u64, Same>;
 
-// Makes calls that take the lock of the only stripe, and that restore the pair of key 1.
+/// Makes calls that take the lock of the only stripe, and that restore the pair of key 1.
 fn comes_through(rt: &impl Wait, map: &Map) -> bool {
     let _old = map.remove_sync(rt, &2);
     map.upsert_sync(rt, 1, 10).is_ok() && map.len(rt) == 1

@@ -12,7 +12,7 @@ use std::thread::map_indices;
 use test_kit::numbers::next;
 use test_kit::zero::Zero;
 
-// Puts `count` keys from `from` on, and returns whether each went in without an eviction.
+/// Puts `count` keys from `from` on, and returns whether each went in without an eviction.
 fn puts<H: BuildHasher + Drop>(
     rt: &impl Wait,
     cache: &HashCache<u64, u64, H>,
@@ -27,7 +27,7 @@ fn puts<H: BuildHasher + Drop>(
     kept
 }
 
-// Returns the pair that the put of `key` evicts.
+/// Returns the pair that the put of `key` evicts.
 fn evicted<H: BuildHasher + Drop>(
     rt: &impl Wait,
     cache: &HashCache<u64, u64, H>,
@@ -39,7 +39,7 @@ fn evicted<H: BuildHasher + Drop>(
     }
 }
 
-// Each of the four quarters of all hashes has a stripe of its own, which evicts its own least recent pair.
+/// Each of the four quarters of all hashes has a stripe of its own, which evicts its own least recent pair.
 #[test]
 fn shared_cache_evicts_stripe_by_stripe(rt: HostRuntime) -> Result<(), Fail> {
     let cache = HashCache::with_hasher(rt.alloc(), Same)?;
@@ -55,8 +55,8 @@ fn shared_cache_evicts_stripe_by_stripe(rt: HostRuntime) -> Result<(), Fail> {
     Ok(())
 }
 
-// Calls that refresh the first three of 32 keys, and calls that don't refresh the fourth. Returns whether they return
-// what they must.
+/// Calls that refresh the first three of 32 keys, and calls that don't refresh the fourth. Returns whether they return
+/// what they must.
 fn looks(rt: &impl Wait, cache: &HashCache<u64, u64, Zero>) -> bool {
     let got = cache.get_sync(rt, &0).is_some();
     drop(cache.entry_sync(rt, 1));
@@ -119,7 +119,7 @@ impl Balance {
     }
 }
 
-// Puts a pair, and counts the pair and an evicted pair.
+/// Puts a pair, and counts the pair and an evicted pair.
 fn put(rt: &impl Wait, cache: &HashCache<u64, u64>, pair: (u64, u64), balance: &mut Balance) {
     match cache.put_sync(rt, pair.0, pair.1) {
         Ok(evicted) => {
@@ -133,7 +133,7 @@ fn put(rt: &impl Wait, cache: &HashCache<u64, u64>, pair: (u64, u64), balance: &
     }
 }
 
-// Puts pairs into the cache and takes pairs out of it, and returns their balance.
+/// Puts pairs into the cache and takes pairs out of it, and returns their balance.
 fn put_and_take(rt: &impl Wait, cache: &HashCache<u64, u64>, thread: usize) -> Balance {
     let mut balance = EVEN;
     let mut seed = thread as u64;

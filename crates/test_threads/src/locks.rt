@@ -50,7 +50,7 @@ fn make_meeting<'a>(key: u64, mine: &'a AtomicU64, other: &'a AtomicU64) -> Meet
     }
 }
 
-// Returns a container with a key in each of its two stripes, or `None` if memory is refused.
+/// Returns a container with a key in each of its two stripes, or `None` if memory is refused.
 fn two_keys<C: Threaded + Drop, R: Wait>(rt: &R, alloc: Global) -> Option<C> {
     match C::make(alloc, SLOTS) {
         Some(made) if made.add(rt, 1) && made.add(rt, HALF) => Some(made),
@@ -58,7 +58,7 @@ fn two_keys<C: Threaded + Drop, R: Wait>(rt: &R, alloc: Global) -> Option<C> {
     }
 }
 
-// Holds an entry until another thread has told that it is done.
+/// Holds an entry until another thread has told that it is done.
 fn holds<C: Threaded, R: Wait>(
     rt: &R,
     container: &C,
@@ -70,13 +70,13 @@ fn holds<C: Threaded, R: Wait>(
     container.at_entry(rt, key, &mut meeting) && meeting.met
 }
 
-// Reads a key until another thread reads it too.
+/// Reads a key until another thread reads it too.
 fn reads<C: Threaded, R: Wait>(rt: &R, container: &C, mine: &AtomicU64, other: &AtomicU64) -> bool {
     let mut meeting = make_meeting(1, mine, other);
     container.at_read(rt, 1, &mut meeting) && meeting.met
 }
 
-// Adds a key once another thread has told that it holds a lock, and tells that it is done.
+/// Adds a key once another thread has told that it holds a lock, and tells that it is done.
 fn adds_beside<C: Threaded, R: Wait>(
     rt: &R,
     container: &C,
@@ -90,7 +90,7 @@ fn adds_beside<C: Threaded, R: Wait>(
     held && added
 }
 
-// Returns whether a key goes into the second stripe while an entry of the first stripe is held.
+/// Returns whether a key goes into the second stripe while an entry of the first stripe is held.
 fn leaves_other<C: Threaded + Sync, R: Threads + Wait + Sync>(rt: &R, container: &C) -> bool {
     let flags = Flags::new();
     let (held, added) = join(
@@ -122,7 +122,7 @@ fn held_entry_other_stripe(rt: HostRuntime) {
     expect_eq(&rt, right, [true; 4]);
 }
 
-// Returns whether two threads can read one key at once.
+/// Returns whether two threads can read one key at once.
 fn share<C: Threaded + Sync, R: Threads + Wait + Sync>(rt: &R, container: &C) -> bool {
     let flags = Flags::new();
     let (one, other) = join(
@@ -154,7 +154,7 @@ fn two_readers_one_stripe(rt: HostRuntime) {
     expect_eq(&rt, right, [true; 4]);
 }
 
-// Goes over all keys once the second stripe is held, and tells when it is in the first stripe.
+/// Goes over all keys once the second stripe is held, and tells when it is in the first stripe.
 fn goes_over<C: Threaded, R: Wait>(
     rt: &R,
     alloc: Global,
@@ -166,9 +166,9 @@ fn goes_over<C: Threaded, R: Wait>(
     sees(&flags.second) && container.go_over(rt, alloc, way, &mut meeting) && meeting.met
 }
 
-// Plays the part of one of three threads. The first thread goes over all keys. The second thread holds the second
-// stripe until the third thread has added a key to the first stripe, in which the first thread is when the third sets
-// out.
+/// Plays the part of one of three threads. The first thread goes over all keys. The second thread holds the second
+/// stripe until the third thread has added a key to the first stripe, in which the first thread is when the third sets
+/// out.
 fn part<C: Threaded, R: Wait>(
     rt: &R,
     alloc: Global,
@@ -184,8 +184,8 @@ fn part<C: Threaded, R: Wait>(
     }
 }
 
-// Returns whether this way over all keys releases the first stripe before it takes the second. A way that didn't would
-// keep the third thread out for as long as the second thread looks for it.
+/// Returns whether this way over all keys releases the first stripe before it takes the second. A way that didn't would
+/// keep the third thread out for as long as the second thread looks for it.
 fn lets_go<C: Threaded + Sync, R: Threads + Wait + Sync>(
     rt: &R,
     alloc: Global,
@@ -215,7 +215,7 @@ fn lets_go_first<C: Threaded + Sync + Drop, R: Threads + Wait + Sync>(
     }
 }
 
-// Returns whether each of the first `ways` ways releases the first stripe first. Stops at the first way that doesn't.
+/// Returns whether each of the first `ways` ways releases the first stripe first. Stops at the first way that doesn't.
 fn let_go_first<C: Threaded + Sync + Drop, R: Threads + Wait + Sync>(
     rt: &R,
     alloc: Global,

@@ -13,7 +13,7 @@ type Map = HashMap<u64, u64, Same>;
 // The least key of the second of two stripes.
 const HALF: u64 = 1 << 63;
 
-// Returns the stripe and the bucket of the greatest hash, and the capacity, of a map for `slots` slots.
+/// Returns the stripe and the bucket of the greatest hash, and the capacity, of a map for `slots` slots.
 fn greatest(
     rt: &impl Wait,
     alloc: Global,
@@ -55,8 +55,8 @@ fn reserve_drop_under_entry(rt: HostRuntime) -> Result<(), Fail> {
 
 const ROUNDS: u64 = 500;
 
-// Steps from entry to entry, starting at `from` and then at `then`, round after round. Returns whether each walk ends
-// within three steps.
+/// Steps from entry to entry, starting at `from` and then at `then`, round after round. Returns whether each walk ends
+/// within three steps.
 fn walks_round(rt: &impl Wait, map: &Map, from: u64, then: u64) -> bool {
     for _ in 0..ROUNDS {
         for k in [from, then] {

@@ -36,8 +36,8 @@ impl Bucketed for Index {
     }
 }
 
-// Returns the buckets of the least keys of the last stripe whose third bit is 0 and 1. The first two bits of both are
-// 1, and name the stripe alone.
+/// Returns the buckets of the least keys of the last stripe whose third bit is 0 and 1. The first two bits of both are
+/// 1, and name the stripe alone.
 fn buckets_of_last<C: Bucketed + Drop, R: Wait>(rt: &R, alloc: Global) -> Option<[usize; 2]> {
     match C::make(alloc, SLOTS) {
         Some(made) => Some([made.bucket(rt, 6 << 61), made.bucket(rt, 7 << 61)]),
@@ -55,8 +55,8 @@ fn a_stripe_skips_the_bits_that_name_it(rt: HostRuntime) {
     expect_eq(&rt, found, [Some([0, 1]); 3]);
 }
 
-// Puts 64 keys into the last of four stripes, half of them into each of its two buckets. Returns how many are there
-// then.
+/// Puts 64 keys into the last of four stripes, half of them into each of its two buckets. Returns how many are there
+/// then.
 fn fills_last<R: Wait>(rt: &R, alloc: Global) -> Option<usize> {
     let Ok(cache) = Cache::with_capacity_and_hasher(alloc, SLOTS, SLOTS, Same) else {
         return None;
@@ -88,7 +88,7 @@ impl Visit for InOrder {
     }
 }
 
-// Adds the least key of each of 16 stripes, the last first. Returns whether each was added.
+/// Adds the least key of each of 16 stripes, the last first. Returns whether each was added.
 fn fills_each<C: Threaded, R: Wait>(rt: &R, container: &C) -> bool {
     let mut right = true;
     for number in 0..16u64 {
@@ -97,7 +97,7 @@ fn fills_each<C: Threaded, R: Wait>(rt: &R, container: &C) -> bool {
     right
 }
 
-// Returns whether this way over all keys goes from each stripe to the next, from the first to the last.
+/// Returns whether this way over all keys goes from each stripe to the next, from the first to the last.
 fn goes_in_order<C: Threaded + Drop, R: Wait>(rt: &R, alloc: Global, way: Way) -> bool {
     let mut order = InOrder {
         next: 0,
@@ -124,7 +124,7 @@ const WAYS: [Way; 6] = [
     Way::Remove,
 ];
 
-// Returns how many ways go in order, counted up to the first that doesn't.
+/// Returns how many ways go in order, counted up to the first that doesn't.
 fn ways_in_order<C: Threaded + Drop, R: Wait>(rt: &R, alloc: Global) -> usize {
     let mut right = 0usize;
     for way in WAYS {
@@ -149,8 +149,8 @@ fn every_way_goes_from_stripe_to_stripe(rt: HostRuntime) {
 
 // A container whose entries tell their stripe.
 trait Telling: Threaded {
-    // Returns the stripe that the container names for a missing key, the stripe that its vacant entry tells, and after
-    // the key was added the stripe that its occupied entry tells. A set has no vacant entry.
+    /// Returns the stripe that the container names for a missing key, the stripe that its vacant entry tells, and after
+    /// the key was added the stripe that its occupied entry tells. A set has no vacant entry.
     fn told<R: Wait>(&self, rt: &R, key: u64) -> Option<[usize; 3]>;
 }
 
@@ -215,7 +215,7 @@ impl Telling for Cache {
     }
 }
 
-// Returns what is told of a key of the first, the tenth and the last of 16 stripes.
+/// Returns what is told of a key of the first, the tenth and the last of 16 stripes.
 fn told_of_three<C: Telling + Drop, R: Wait>(
     rt: &R,
     alloc: Global,

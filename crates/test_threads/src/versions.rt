@@ -23,7 +23,7 @@ fn shared_index_missing_key(rt: HostRuntime) -> Result<(), Fail> {
     Ok(())
 }
 
-// Publishes version after version of a key. Both halves of a value are equal. Returns whether each was published.
+/// Publishes version after version of a key. Both halves of a value are equal. Returns whether each was published.
 fn publish(rt: &impl Wait, index: &Pairs, k: u64) -> bool {
     for j in 0..ROUNDS {
         match index.get_sync(rt, &k) {
@@ -38,7 +38,7 @@ fn publish(rt: &impl Wait, index: &Pairs, k: u64) -> bool {
     true
 }
 
-// Returns whether each version of a snapshot is whole, and there are as many versions as keys.
+/// Returns whether each version of a snapshot is whole, and there are as many versions as keys.
 fn is_whole(rt: &impl Wait, index: &Pairs) -> bool {
     let Ok(versions) = index.iter(rt) else {
         return false;

@@ -29,13 +29,13 @@ enum Hold {
     Read,
 }
 
-// Returns the processor time in nanoseconds that this thread has had, or `None` if the system doesn't tell.
+/// Returns the processor time in nanoseconds that this thread has had, or `None` if the system doesn't tell.
 fn processor_time<R: Files + Alloc>(rt: &R) -> Option<u64> {
     let text = fs::read_to_string(rt, "/proc/thread-self/schedstat").ok()?;
     text.as_str().split(' ').next()?.parse::<u64>().ok()
 }
 
-// Returns whether the processor time of a thread that works rises.
+/// Returns whether the processor time of a thread that works rises.
 fn rises<R: Files + Alloc>(rt: &R) -> bool {
     let Some(start) = processor_time(rt) else {
         return false;
@@ -48,7 +48,7 @@ fn rises<R: Files + Alloc>(rt: &R) -> bool {
     false
 }
 
-// Returns whether the system tells processor times. If it doesn't, the tests below check only that nobody gets in.
+/// Returns whether the system tells processor times. If it doesn't, the tests below check only that nobody gets in.
 fn is_told<R: Files + Alloc>(rt: &R) -> bool {
     processor_time(rt).unwrap_or(0) > 0
 }
@@ -110,8 +110,8 @@ fn passes<C: Threaded, R: Wait>(rt: &R, container: &C, hold: Hold) -> bool {
     }
 }
 
-// Waits for the stripe once it is held. Returns whether the wait took as long as the stripe was held, and less than a
-// tenth of it in this thread's processor time, or `None` if the system tells no time.
+/// Waits for the stripe once it is held. Returns whether the wait took as long as the stripe was held, and less than a
+/// tenth of it in this thread's processor time, or `None` if the system tells no time.
 fn sleeps<C: Threaded, R: Wait + Clock + Files + Alloc>(
     rt: &R,
     container: &C,

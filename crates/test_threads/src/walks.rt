@@ -50,19 +50,19 @@ impl Visit for Met {
     }
 }
 
-// Returns a key that nobody touches, in the first bucket of one of the stripes.
+/// Returns a key that nobody touches, in the first bucket of one of the stripes.
 fn kept_key(number: u64) -> u64 {
     (number << 60) | number
 }
 
-// Returns a key of a writer, in another bucket of one of the stripes, so that a cache of this size has room for all
-// keys.
+/// Returns a key of a writer, in another bucket of one of the stripes, so that a cache of this size has room for all
+/// keys.
 fn moved_key(writer: u64, number: u64) -> u64 {
     let bucket = (number % 7).wrapping_add(1);
     (number << 60) | (bucket << 57) | (writer << 32) | number
 }
 
-// Adds the keys of a writer in one round and removes them in the next. Returns whether each call did so.
+/// Adds the keys of a writer in one round and removes them in the next. Returns whether each call did so.
 fn come_and_go<C: Threaded, R: Wait>(rt: &R, container: &C, writer: u64, moved: u64) -> bool {
     let mut done = true;
     for round in 0..ROUNDS {
@@ -79,13 +79,13 @@ fn come_and_go<C: Threaded, R: Wait>(rt: &R, container: &C, writer: u64, moved: 
     done
 }
 
-// Returns whether a walk meets each of the kept keys once.
+/// Returns whether a walk meets each of the kept keys once.
 fn meets_each_once<C: Threaded, R: Wait>(rt: &R, alloc: Global, container: &C, way: Way) -> bool {
     let mut met = Met { times: [0; KEPT] };
     container.go_over(rt, alloc, way, &mut met) && met.times == [1; KEPT]
 }
 
-// Walks one way after another until both writers have ended. Returns whether each walk met each kept key once.
+/// Walks one way after another until both writers have ended. Returns whether each walk met each kept key once.
 fn walk_often<C: Threaded, R: Wait>(rt: &R, alloc: Global, container: &C, ended: &Flags) -> bool {
     let mut once = true;
     for walks in 0..MOST {
@@ -99,7 +99,7 @@ fn walk_often<C: Threaded, R: Wait>(rt: &R, alloc: Global, container: &C, ended:
     once
 }
 
-// Plays the part of one of three threads: the first walks, and the others write.
+/// Plays the part of one of three threads: the first walks, and the others write.
 fn work<C: Threaded, R: Wait>(
     rt: &R,
     alloc: Global,
@@ -116,7 +116,7 @@ fn work<C: Threaded, R: Wait>(
     done
 }
 
-// Adds the keys that nobody touches, and returns whether each was added.
+/// Adds the keys that nobody touches, and returns whether each was added.
 fn fills<C: Threaded, R: Wait>(rt: &R, container: &C) -> bool {
     let mut filled = true;
     for number in 0..KEPT {
@@ -125,7 +125,7 @@ fn fills<C: Threaded, R: Wait>(rt: &R, container: &C) -> bool {
     filled
 }
 
-// Returns whether all walks are right beside writers of `moved` keys, and only the kept keys are left.
+/// Returns whether all walks are right beside writers of `moved` keys, and only the kept keys are left.
 fn walk_beside<C: Threaded + Sync, R: Threads + Wait + Sync>(
     rt: &R,
     alloc: Global,
@@ -144,7 +144,7 @@ fn walk_beside<C: Threaded + Sync, R: Threads + Wait + Sync>(
     }
 }
 
-// Returns whether these walks are right in a container for `slots` slots.
+/// Returns whether these walks are right in a container for `slots` slots.
 fn walks<C: Threaded + Sync + Drop, R: Threads + Wait + Sync>(
     rt: &R,
     alloc: Global,

@@ -18,7 +18,7 @@ use std::sync::ledger::{Blank, Ledger};
 use std::sync::{Arc, Wait};
 use std::test::Fail;
 
-// Makes one call on the recorded container, and returns whether its reply is `wanted`.
+/// Makes one call on the recorded container, and returns whether its reply is `wanted`.
 fn answers<C: Streamed, L: Ledger, M: Site<C::Hasher>, R: Wait>(
     rt: &R,
     recorded: &Recorded<C, L, M>,
@@ -41,7 +41,7 @@ fn answers<C: Streamed, L: Ledger, M: Site<C::Hasher>, R: Wait>(
     }
 }
 
-// Makes all calls, and returns whether each reply is as wanted.
+/// Makes all calls, and returns whether each reply is as wanted.
 fn answers_all<C: Streamed, L: Ledger, M: Site<C::Hasher>, R: Wait>(
     rt: &R,
     recorded: &Recorded<C, L, M>,
@@ -56,7 +56,7 @@ fn answers_all<C: Streamed, L: Ledger, M: Site<C::Hasher>, R: Wait>(
     right
 }
 
-// Returns whether there is a receipt for each call, in the order of the calls, with the wanted reply.
+/// Returns whether there is a receipt for each call, in the order of the calls, with the wanted reply.
 fn are_receipts<C: Streamed>(
     receipts: &[Receipt<C::Call, C::Reply>],
     calls: &[C::Call],
@@ -72,7 +72,7 @@ fn are_receipts<C: Streamed>(
     right
 }
 
-// Makes all calls with the only pass, and returns whether each reply and each receipt is as wanted.
+/// Makes all calls with the only pass, and returns whether each reply and each receipt is as wanted.
 fn is_answered<C: Streamed, L: Ledger, M: Site<C::Hasher>, R: Wait>(
     rt: &R,
     recorded: &Recorded<C, L, M>,
@@ -89,7 +89,7 @@ fn is_answered<C: Streamed, L: Ledger, M: Site<C::Hasher>, R: Wait>(
     }
 }
 
-// Returns the finished run of `calls` on one recorded stripe, or `None` if a reply or a receipt is not as wanted.
+/// Returns the finished run of `calls` on one recorded stripe, or `None` if a reply or a receipt is not as wanted.
 fn record<C: Streamed, L: Ledger, M: Site<C::Hasher>, R: Wait>(
     rt: &R,
     alloc: Global,
@@ -123,7 +123,7 @@ where
     }
 }
 
-// Returns whether the resizes of a history have exactly these numbers of buckets.
+/// Returns whether the resizes of a history have exactly these numbers of buckets.
 fn has_sizes<A, B>(history: &[Step<A, B>], sizes: &[usize]) -> bool {
     let mut met = 0usize;
     let mut right = true;
@@ -136,7 +136,7 @@ fn has_sizes<A, B>(history: &[Step<A, B>], sizes: &[usize]) -> bool {
     right && met == sizes.len()
 }
 
-// Returns whether two containers reply to `call` alike.
+/// Returns whether two containers reply to `call` alike.
 fn answer_alike<C: Streamed>(one: &mut C, other: &mut C, call: &C::Call) -> bool {
     match (one.call(C::same_call(call)), other.call(C::same_call(call))) {
         (Ok(first), Ok(second)) => first == second,
@@ -144,7 +144,7 @@ fn answer_alike<C: Streamed>(one: &mut C, other: &mut C, call: &C::Call) -> bool
     }
 }
 
-// Returns whether two containers have equally many buckets, and reply to the looks alike.
+/// Returns whether two containers have equally many buckets, and reply to the looks alike.
 fn are_alike<C: Streamed>(one: &mut C, other: &mut C) -> bool {
     let mut alike = one.buckets() == other.buckets();
     for number in 0..LOOKS {
@@ -153,7 +153,7 @@ fn are_alike<C: Streamed>(one: &mut C, other: &mut C) -> bool {
     alike && one.buckets() == other.buckets()
 }
 
-// Returns whether the one part of a finished run is as `alone`, and had these numbers of buckets.
+/// Returns whether the one part of a finished run is as `alone`, and had these numbers of buckets.
 fn is_as<C: Streamed>(finished: Finished<C>, alone: &mut C, sizes: &[usize]) -> bool {
     let mut finished = finished;
     let had = match finished.histories.as_slice() {
@@ -166,7 +166,7 @@ fn is_as<C: Streamed>(finished: Finished<C>, alone: &mut C, sizes: &[usize]) -> 
     }
 }
 
-// Makes the calls on an owned container, and adds their replies to `replies`. Returns the container.
+/// Makes the calls on an owned container, and adds their replies to `replies`. Returns the container.
 fn run_alone<C: Streamed>(
     alloc: Global,
     hasher: C::Hasher,
@@ -186,7 +186,7 @@ where
     }
 }
 
-// Returns whether a recorded stripe is as a run on an owned container.
+/// Returns whether a recorded stripe is as a run on an owned container.
 fn compare<C: Streamed, R: Wait>(
     rt: &R,
     alloc: Global,
@@ -227,7 +227,7 @@ struct Shown {
     as_run: bool,
 }
 
-// Returns what `calls` show.
+/// Returns what `calls` show.
 fn show_calls<C: Streamed, R: Wait>(
     rt: &R,
     alloc: Global,
@@ -247,7 +247,7 @@ where
     })
 }
 
-// Returns what the stream of a kind shows.
+/// Returns what the stream of a kind shows.
 fn show<C: Streamed, R: Wait>(rt: &R, alloc: Global, hasher: C::Hasher) -> Result<Shown, AllocError>
 where
     C::Hasher: CloneOwner + Drop,

@@ -39,7 +39,7 @@ struct SlowHasher {
     inner: SameHasher,
 }
 
-// Lets other threads go first, again and again.
+/// Lets other threads go first, again and again.
 fn wait_long() {
     for _ in 0..YIELDS {
         yield_now();
@@ -78,7 +78,7 @@ impl BuildHasher for Slow {
 
 type Map = Owned<u64, u64, Shared<Slow>>;
 
-// Stores a key by a recorded call, and returns whether the call was made.
+/// Stores a key by a recorded call, and returns whether the call was made.
 fn stores<L: Ledger, M: Site<Shared<Slow>>, R: Wait>(
     rt: &R,
     recorded: &Recorded<Map, L, M>,
@@ -88,7 +88,7 @@ fn stores<L: Ledger, M: Site<Shared<Slow>>, R: Wait>(
     recorded.call(rt, pass, MapCall::Upsert(key, 10)).is_ok()
 }
 
-// Stores `LONG`, and tells before and after it.
+/// Stores `LONG`, and tells before and after it.
 fn stores_long<L: Ledger, M: Site<Shared<Slow>>, R: Wait>(
     rt: &R,
     recorded: &Recorded<Map, L, M>,
@@ -101,8 +101,8 @@ fn stores_long<L: Ledger, M: Site<Shared<Slow>>, R: Wait>(
     stored
 }
 
-// Stores `OTHER` while `LONG` is hashed in its stripe: its first hash names the stripe, before any lock is taken.
-// Returns whether this call ended first.
+/// Stores `OTHER` while `LONG` is hashed in its stripe: its first hash names the stripe, before any lock is taken.
+/// Returns whether this call ended first.
 fn stores_beside<L: Ledger, M: Site<Shared<Slow>>, R: Wait>(
     rt: &R,
     recorded: &Recorded<Map, L, M>,
@@ -116,8 +116,8 @@ fn stores_beside<L: Ledger, M: Site<Shared<Slow>>, R: Wait>(
     stores(rt, recorded, pass, OTHER) && height(&flags.second) == 0
 }
 
-// Makes a call on each of two stripes by two threads. Returns whether the call of `OTHER` ended while that of `LONG` was
-// made.
+/// Makes a call on each of two stripes by two threads. Returns whether the call of `OTHER` ended while that of
+/// `LONG` was made.
 fn work_at_once<
     L: Ledger + Send + Sync,
     M: Site<Shared<Slow>> + Send + Sync,
@@ -132,7 +132,7 @@ fn work_at_once<
     stored && beside
 }
 
-// Makes the two calls once by the two passes. Returns whether the short call ended first.
+/// Makes the two calls once by the two passes. Returns whether the short call ended first.
 fn is_first<L: Ledger + Send + Sync, M: Site<Shared<Slow>> + Send + Sync, R: Threads + Wait + Sync>(
     rt: &R,
     recorded: &Recorded<Map, L, M>,
@@ -144,7 +144,7 @@ fn is_first<L: Ledger + Send + Sync, M: Site<Shared<Slow>> + Send + Sync, R: Thr
     }
 }
 
-// Makes the two calls side by side until the short call ends first. Returns whether it did.
+/// Makes the two calls side by side until the short call ends first. Returns whether it did.
 fn is_once_first<
     L: Ledger + Send + Sync,
     M: Site<Shared<Slow>> + Send + Sync,
@@ -158,7 +158,7 @@ fn is_once_first<
     false
 }
 
-// Makes the calls on two stripes. Returns whether the short call once ended first.
+/// Makes the calls on two stripes. Returns whether the short call once ended first.
 fn works_at_once<
     L: Ledger + Send + Sync,
     M: Site<Shared<Slow>> + Send + Sync,

@@ -40,7 +40,7 @@ impl Notes {
         Ok(Notes { came, gives_up })
     }
 
-    // Appends `digit` to the number of a turn.
+    /// Appends `digit` to the number of a turn.
     fn note(&self, worker: usize, j: usize, digit: u64) {
         let place = worker.wrapping_mul(TURNS).wrapping_add(j);
         if let Some(came) = self.came.get(place) {
@@ -49,7 +49,7 @@ impl Notes {
         }
     }
 
-    // Returns the number of a turn.
+    /// Returns the number of a turn.
     fn came_to(&self, worker: usize, j: usize) -> Option<u64> {
         let place = worker.wrapping_mul(TURNS).wrapping_add(j);
         self.came.get(place).map(|came| came.load(Ordering::SeqCst))
@@ -86,7 +86,7 @@ impl Work for Noted<'_> {
     }
 }
 
-// Returns `WORKERS` workers. The turn of `stops` returns false.
+/// Returns `WORKERS` workers. The turn of `stops` returns false.
 fn workers_at(
     alloc: Global,
     gate: &Notes,
@@ -100,7 +100,7 @@ fn workers_at(
     Ok(workers)
 }
 
-// Returns the digits of a turn if the gate gives up its workers and the turn of `stops` returns false.
+/// Returns the digits of a turn if the gate gives up its workers and the turn of `stops` returns false.
 fn wanted(gate: &Notes, stops: (usize, usize), worker: usize, j: usize) -> u64 {
     let mut digits = 0x123;
     for place in gate.gives_up {
@@ -115,7 +115,7 @@ fn wanted(gate: &Notes, stops: (usize, usize), worker: usize, j: usize) -> u64 {
     }
 }
 
-// Returns whether exactly the wanted digits came to the gate.
+/// Returns whether exactly the wanted digits came to the gate.
 fn has_noted(gate: &Notes, stops: (usize, usize)) -> bool {
     let mut right = true;
     for worker in 0..WORKERS {
@@ -126,8 +126,8 @@ fn has_noted(gate: &Notes, stops: (usize, usize)) -> bool {
     right
 }
 
-// Returns how a run ends if the gate gives up two workers and one turn returns false, or `None` if the gate wasn't
-// called as wanted.
+/// Returns how a run ends if the gate gives up two workers and one turn returns false, or `None` if the gate wasn't
+/// called as wanted.
 fn end_of<R: Threads + Wait + Sync>(
     rt: &R,
     alloc: Global,

@@ -7,7 +7,7 @@ use std::sync::Wait;
 use std::test::Fail;
 use std::thread::Threads;
 
-// Returns the status of a script, and whether it writes `text`.
+/// Returns the status of a script, and whether it writes `text`.
 fn ends<R: Threads + Wait + Sync>(rt: &R, alloc: Global, script: &[u8], text: &[u8]) -> (u8, bool) {
     let mut output = Vec::new(alloc);
     let mut reader = script;
@@ -57,7 +57,7 @@ fn run_bad_workers_and_stripes(rt: HostRuntime) -> Result<(), Fail> {
     Ok(())
 }
 
-// Adds the insertion and the reading of each of a worker's 8 keys, whose values are the keys.
+/// Adds the insertion and the reading of each of a worker's 8 keys, whose values are the keys.
 fn add_calls(script: &mut String, worker: u64) -> Result<(), AllocError> {
     use std::fmt::Write;
     for j in 0..8u64 {
@@ -69,7 +69,7 @@ fn add_calls(script: &mut String, worker: u64) -> Result<(), AllocError> {
     Ok(())
 }
 
-// Adds the replies that a worker gets to these calls.
+/// Adds the replies that a worker gets to these calls.
 fn add_replies(text: &mut String, worker: u64) -> Result<(), AllocError> {
     use std::fmt::Write;
     if writeln!(text, "worker {worker}").is_err() {
@@ -84,7 +84,7 @@ fn add_replies(text: &mut String, worker: u64) -> Result<(), AllocError> {
     Ok(())
 }
 
-// Adds the pairs that all workers inserted.
+/// Adds the pairs that all workers inserted.
 fn add_contents(text: &mut String) -> Result<(), AllocError> {
     use std::fmt::Write;
     for j in 0..8u64 {
@@ -98,7 +98,7 @@ fn add_contents(text: &mut String) -> Result<(), AllocError> {
     Ok(())
 }
 
-// Returns a script of sixteen workers with keys of their own.
+/// Returns a script of sixteen workers with keys of their own.
 fn script_of_sixteen(alloc: Global) -> Result<String, AllocError> {
     let mut script = String::from_str(alloc, "map 16 16\n")?;
     for worker in 0..16u64 {
@@ -107,7 +107,7 @@ fn script_of_sixteen(alloc: Global) -> Result<String, AllocError> {
     Ok(script)
 }
 
-// Returns the text that this script writes, whatever the order of the workers.
+/// Returns the text that this script writes, whatever the order of the workers.
 fn text_of_sixteen(alloc: Global) -> Result<String, AllocError> {
     let mut text = String::from_str(alloc, "")?;
     for worker in 0..16u64 {

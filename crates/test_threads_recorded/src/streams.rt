@@ -52,12 +52,12 @@ pub trait Streamed: Printed + Drop {
     fn is_eviction(reply: &Self::Reply) -> bool;
 }
 
-// Returns the key of this number. Even keys lie in the first quarter of all hashes, and odd keys in the second.
+/// Returns the key of this number. Even keys lie in the first quarter of all hashes, and odd keys in the second.
 fn key_of(number: u64) -> u64 {
     (number % 2) << 62 | number
 }
 
-// Returns the number of the call at place `j`.
+/// Returns the number of the call at place `j`.
 fn number_at<C: Streamed>(j: u64) -> u64 {
     if j < FIRST {
         0
@@ -72,8 +72,8 @@ fn number_at<C: Streamed>(j: u64) -> u64 {
     }
 }
 
-// Returns the number of the key at place `j`: a new key for a call that inserts keys, or else, in turns, a key that is
-// mostly present and one that is mostly missing.
+/// Returns the number of the key at place `j`: a new key for a call that inserts keys, or else, in turns, a key that is
+/// mostly present and one that is mostly missing.
 fn drawn_at<C: Streamed>(j: u64) -> u64 {
     if j < FIRST || CLEARING < j && j < AGAIN {
         return j % FIRST;
@@ -145,7 +145,7 @@ impl Came {
         grown
     }
 
-    // Counts a call, by whether its key is present.
+    /// Counts a call, by whether its key is present.
     fn note(&mut self, number: usize, there: bool) {
         if let Some(times) = self.times.get_mut(number) {
             let place = usize::from(there);
@@ -154,7 +154,7 @@ impl Came {
     }
 }
 
-// Makes one call, and returns whether it evicted a pair, or `None` if it was refused.
+/// Makes one call, and returns whether it evicted a pair, or `None` if it was refused.
 fn make<C: Streamed>(container: &mut C, call: &C::Call) -> Option<bool> {
     match container.call(C::same_call(call)) {
         Ok(reply) => Some(C::is_eviction(&reply)),
@@ -162,7 +162,7 @@ fn make<C: Streamed>(container: &mut C, call: &C::Call) -> Option<bool> {
     }
 }
 
-// Makes one call, and notes what is seen.
+/// Makes one call, and notes what is seen.
 fn step<C: Streamed>(container: &mut C, call: &C::Call, came: &mut Came) -> Result<(), AllocError> {
     came.note(C::number_of(call), container.has(C::key(call)));
     let before = container.buckets();
@@ -177,7 +177,7 @@ fn step<C: Streamed>(container: &mut C, call: &C::Call, came: &mut Came) -> Resu
     Ok(())
 }
 
-// Makes the calls one after another, and returns what was seen.
+/// Makes the calls one after another, and returns what was seen.
 fn count_on<C: Streamed>(
     alloc: Global,
     container: &mut C,

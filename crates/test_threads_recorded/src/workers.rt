@@ -39,7 +39,7 @@ impl Work for Meeting<'_> {
     }
 }
 
-// Returns how a run of such workers ends, and the number of turns.
+/// Returns how a run of such workers ends, and the number of turns.
 fn meet<R: Threads + Wait + Sync>(
     rt: &R,
     alloc: Global,

@@ -57,7 +57,7 @@ impl<G: Guard<Inner = Owned<K, V, H>>, N, K: Eq + Hash, V, H: BuildHasher> HeldV
     V,
     H,
 > {
-    // Returns the allocator of the container.
+    /// Returns the allocator of the container.
     pub(crate) fn allocator(&self) -> Global {
         self.guard.look().allocator()
     }

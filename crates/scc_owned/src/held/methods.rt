@@ -24,7 +24,7 @@ impl<G: Guard<Inner = Owned<E, H>>, N, E: Keyed, H: BuildHasher> HeldVacant<G, N
 where
     E::Key: Eq + Hash,
 {
-    // Returns the allocator of the container.
+    /// Returns the allocator of the container.
     pub(crate) fn allocator(&self) -> Global {
         self.guard.look().allocator()
     }
@@ -41,7 +41,7 @@ impl<G: Guard<Inner = Owned<E, H>>, N, E: Keyed, H: BuildHasher> HeldEntry<G, N,
 where
     E::Key: Eq + Hash,
 {
-    // Returns the allocator of the container.
+    /// Returns the allocator of the container.
     pub(crate) fn allocator(&self) -> Global {
         match self {
             HeldEntry::Occupied(entry) => entry.guard.look().allocator(),

@@ -133,7 +133,7 @@ impl<'a, K: Eq + Hash, V, R: Rule<K, V>, H: BuildHasher> VacantEntry<'a, K, V, R
 }
 
 impl<'a, K: Eq + Hash, V, R: Rule<K, V>, H: BuildHasher> Entry<'a, K, V, R, H> {
-    // Returns the allocator of the index.
+    /// Returns the allocator of the index.
     pub(crate) fn allocator(&self) -> Global {
         match self {
             Entry::Occupied(entry) => entry.guard.look().allocator(),

@@ -168,7 +168,7 @@ impl<'a, K: Eq + Hash, V, R: Rule<K, V>, H: BuildHasher> VacantEntry<'a, K, V, R
 }
 
 impl<'a, K: Eq + Hash, V, R: Rule<K, V>, H: BuildHasher> Entry<'a, K, V, R, H> {
-    // Returns the allocator of the map.
+    /// Returns the allocator of the map.
     pub(crate) fn allocator(&self) -> Global {
         match self {
             Entry::Occupied(entry) => entry.guard.look().allocator(),

@@ -20,7 +20,7 @@ type Placed<'a> = Result<
     InsertError<Token, Token>,
 >;
 
-// Puts the pair through its entry.
+/// Puts the pair through its entry.
 fn enter<'a>(
     cache: &'a mut Owned<Token, Token, Masked>,
     way: Way,
@@ -37,7 +37,7 @@ fn enter<'a>(
     }
 }
 
-// Returns the answer for a way that returns an entry.
+/// Returns the answer for a way that returns an entry.
 fn entered(cache: &mut Owned<Token, Token, Masked>, way: Way, key: Token, value: Token) -> Answer {
     match enter(cache, way, key, value) {
         Ok(placed) => {
@@ -49,7 +49,7 @@ fn entered(cache: &mut Owned<Token, Token, Masked>, way: Way, key: Token, value:
     }
 }
 
-// Puts the pair through its entry, with a closure that makes the value or fails.
+/// Puts the pair through its entry, with a closure that makes the value or fails.
 fn enter_or_fail<'a>(
     cache: &'a mut Owned<Token, Token, Masked>,
     way: Way,
@@ -70,7 +70,7 @@ fn enter_or_fail<'a>(
     }
 }
 
-// Returns the answer for a way whose closure may fail.
+/// Returns the answer for a way whose closure may fail.
 fn entered_or_failed(
     cache: &mut Owned<Token, Token, Masked>,
     way: Way,
@@ -87,7 +87,7 @@ fn entered_or_failed(
     }
 }
 
-// Puts the pair through its vacant entry.
+/// Puts the pair through its vacant entry.
 fn fill(cache: &mut Owned<Token, Token, Masked>, key: Token, value: Token) -> Answer {
     match cache.entry_sync(key) {
         Entry::Vacant(entry) => match entry.put_entry(value) {
@@ -102,7 +102,7 @@ fn fill(cache: &mut Owned<Token, Token, Masked>, key: Token, value: Token) -> An
     }
 }
 
-// Replaces an equal key by `key`, or puts the pair.
+/// Replaces an equal key by `key`, or puts the pair.
 fn replace_or_fill(cache: &mut Owned<Token, Token, Masked>, key: Token, value: Token) -> Answer {
     match cache.replace_sync(key) {
         ReplaceResult::Replaced(entry, old) => {
@@ -120,7 +120,7 @@ fn replace_or_fill(cache: &mut Owned<Token, Token, Masked>, key: Token, value: T
     }
 }
 
-// Does `act` with the entry of the key, and keeps its pair.
+/// Does `act` with the entry of the key, and keeps its pair.
 fn act_and_keep(
     cache: &mut Owned<Token, Token, Masked>,
     act: Act,
@@ -140,7 +140,7 @@ fn act_and_keep(
     }
 }
 
-// Removes the pair of the entry.
+/// Removes the pair of the entry.
 fn act_and_remove(cache: &mut Owned<Token, Token, Masked>, act: Act, key: &Token) -> Answer {
     match cache.get_sync(key) {
         Some(entry) => match act {

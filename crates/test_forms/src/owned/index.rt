@@ -10,7 +10,7 @@ use scc_owned::index::Owned;
 use scc_owned::index::borrowed::{Entry, OccupiedEntry};
 use test_kit::masked::Masked;
 
-// Adds the pair through its entry.
+/// Adds the pair through its entry.
 fn enter<'a>(
     index: &'a mut Owned<Token, Token, Masked>,
     way: Way,
@@ -26,7 +26,7 @@ fn enter<'a>(
     }
 }
 
-// Returns the answer for a way that returns an entry.
+/// Returns the answer for a way that returns an entry.
 fn entered(index: &mut Owned<Token, Token, Masked>, way: Way, key: Token, value: Token) -> Answer {
     match enter(index, way, key, value) {
         Ok(entry) => Answer::Entry(None, seen(entry.key(), entry.get())),
@@ -34,7 +34,7 @@ fn entered(index: &mut Owned<Token, Token, Masked>, way: Way, key: Token, value:
     }
 }
 
-// Adds the pair through its entry, with a closure that makes the value or fails.
+/// Adds the pair through its entry, with a closure that makes the value or fails.
 fn enter_or_fail<'a>(
     index: &'a mut Owned<Token, Token, Masked>,
     way: Way,
@@ -49,7 +49,7 @@ fn enter_or_fail<'a>(
     }
 }
 
-// Returns the answer for a way whose closure may fail.
+/// Returns the answer for a way whose closure may fail.
 fn entered_or_failed(
     index: &mut Owned<Token, Token, Masked>,
     way: Way,
@@ -62,7 +62,7 @@ fn entered_or_failed(
     }
 }
 
-// Adds the pair through its vacant entry.
+/// Adds the pair through its vacant entry.
 fn fill(index: &mut Owned<Token, Token, Masked>, key: Token, value: Token) -> Answer {
     match index.entry_sync(key) {
         Entry::Vacant(entry) => match entry.insert_entry(value) {
@@ -73,7 +73,7 @@ fn fill(index: &mut Owned<Token, Token, Masked>, key: Token, value: Token) -> An
     }
 }
 
-// Returns the occupied entry that `at` names.
+/// Returns the occupied entry that `at` names.
 fn find<'a>(
     index: &'a mut Owned<Token, Token, Masked>,
     at: At,
@@ -87,7 +87,7 @@ fn find<'a>(
     }
 }
 
-// Reads the entry that `at` names, or removes its pair.
+/// Reads the entry that `at` names, or removes its pair.
 fn act_and_end(index: &mut Owned<Token, Token, Masked>, at: At, act: Act, key: &Token) -> Answer {
     match find(index, at, key) {
         Some(entry) => match act {
@@ -101,7 +101,7 @@ fn act_and_end(index: &mut Owned<Token, Token, Masked>, at: At, act: Act, key: &
     }
 }
 
-// Makes a new version at the entry.
+/// Makes a new version at the entry.
 fn act_and_set(
     index: &mut Owned<Token, Token, Masked>,
     at: At,
@@ -117,7 +117,7 @@ fn act_and_set(
     }
 }
 
-// Steps to the next entry.
+/// Steps to the next entry.
 fn act_and_step(index: &mut Owned<Token, Token, Masked>, at: At, key: &Token) -> Answer {
     match find(index, at, key) {
         Some(entry) => match entry.next_sync() {
@@ -128,7 +128,7 @@ fn act_and_step(index: &mut Owned<Token, Token, Masked>, at: At, key: &Token) ->
     }
 }
 
-// Removes the pair of the entry, and steps to the next entry.
+/// Removes the pair of the entry, and steps to the next entry.
 fn act_and_go_on(index: &mut Owned<Token, Token, Masked>, at: At, key: &Token) -> Answer {
     match find(index, at, key) {
         Some(entry) => {

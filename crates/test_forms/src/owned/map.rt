@@ -11,7 +11,7 @@ use scc_owned::map::borrowed::{Entry, OccupiedEntry, ReplaceResult};
 use std::alloc::Global;
 use test_kit::masked::Masked;
 
-// Adds the pair through its entry.
+/// Adds the pair through its entry.
 fn enter<'a>(
     map: &'a mut Owned<Token, Token, Masked>,
     way: Way,
@@ -28,7 +28,7 @@ fn enter<'a>(
     }
 }
 
-// Returns the answer for a way that returns an entry.
+/// Returns the answer for a way that returns an entry.
 fn entered(map: &mut Owned<Token, Token, Masked>, way: Way, key: Token, value: Token) -> Answer {
     match enter(map, way, key, value) {
         Ok(entry) => Answer::Entry(None, seen(entry.key(), entry.get())),
@@ -36,7 +36,7 @@ fn entered(map: &mut Owned<Token, Token, Masked>, way: Way, key: Token, value: T
     }
 }
 
-// Adds the pair through its entry, with a closure that makes the value or fails.
+/// Adds the pair through its entry, with a closure that makes the value or fails.
 fn enter_or_fail<'a>(
     map: &'a mut Owned<Token, Token, Masked>,
     way: Way,
@@ -51,7 +51,7 @@ fn enter_or_fail<'a>(
     }
 }
 
-// Returns the answer for a way whose closure may fail.
+/// Returns the answer for a way whose closure may fail.
 fn entered_or_failed(
     map: &mut Owned<Token, Token, Masked>,
     way: Way,
@@ -64,7 +64,7 @@ fn entered_or_failed(
     }
 }
 
-// Adds the pair through its vacant entry.
+/// Adds the pair through its vacant entry.
 fn fill(map: &mut Owned<Token, Token, Masked>, key: Token, value: Token) -> Answer {
     match map.entry_sync(key) {
         Entry::Vacant(entry) => match entry.insert_entry(value) {
@@ -75,7 +75,7 @@ fn fill(map: &mut Owned<Token, Token, Masked>, key: Token, value: Token) -> Answ
     }
 }
 
-// Replaces an equal key by `key`, or adds the pair.
+/// Replaces an equal key by `key`, or adds the pair.
 fn replace_or_fill(map: &mut Owned<Token, Token, Masked>, key: Token, value: Token) -> Answer {
     match map.replace_sync(key) {
         ReplaceResult::Replaced(entry, old) => {
@@ -89,7 +89,7 @@ fn replace_or_fill(map: &mut Owned<Token, Token, Masked>, key: Token, value: Tok
     }
 }
 
-// Returns the occupied entry that `at` names.
+/// Returns the occupied entry that `at` names.
 fn find<'a>(
     map: &'a mut Owned<Token, Token, Masked>,
     at: At,
@@ -103,7 +103,7 @@ fn find<'a>(
     }
 }
 
-// Does `act` with the entry that `at` names, and keeps its pair.
+/// Does `act` with the entry that `at` names, and keeps its pair.
 fn act_and_keep(
     map: &mut Owned<Token, Token, Masked>,
     at: At,
@@ -124,7 +124,7 @@ fn act_and_keep(
     }
 }
 
-// Removes the pair of the entry.
+/// Removes the pair of the entry.
 fn act_and_remove(map: &mut Owned<Token, Token, Masked>, at: At, act: Act, key: &Token) -> Answer {
     match find(map, at, key) {
         Some(entry) => match act {
@@ -135,7 +135,7 @@ fn act_and_remove(map: &mut Owned<Token, Token, Masked>, at: At, act: Act, key: 
     }
 }
 
-// Steps to the next entry.
+/// Steps to the next entry.
 fn act_and_step(map: &mut Owned<Token, Token, Masked>, at: At, key: &Token) -> Answer {
     match find(map, at, key) {
         Some(entry) => match entry.next_sync() {
@@ -146,7 +146,7 @@ fn act_and_step(map: &mut Owned<Token, Token, Masked>, at: At, key: &Token) -> A
     }
 }
 
-// Removes the pair of the entry, and steps to the next entry.
+/// Removes the pair of the entry, and steps to the next entry.
 fn act_and_go_on(map: &mut Owned<Token, Token, Masked>, at: At, key: &Token) -> Answer {
     match find(map, at, key) {
         Some(entry) => match entry.remove_and_sync() {

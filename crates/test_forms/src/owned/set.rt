@@ -9,7 +9,7 @@ use scc_set::entry::OccupiedEntry;
 use std::alloc::Global;
 use test_kit::masked::Masked;
 
-// Returns the occupied entry that `at` names: the first whose key has the key's number, or the first of all.
+/// Returns the occupied entry that `at` names: the first whose key has the key's number, or the first of all.
 fn find<'a>(
     set: &'a mut Owned<Token, Masked>,
     at: At,
@@ -22,7 +22,7 @@ fn find<'a>(
     }
 }
 
-// Reads the entry that `at` names, or removes its key.
+/// Reads the entry that `at` names, or removes its key.
 fn act_and_end(set: &mut Owned<Token, Masked>, at: At, act: Act, key: &Token) -> Answer {
     match find(set, at, key) {
         Some(entry) => match act {
@@ -33,7 +33,7 @@ fn act_and_end(set: &mut Owned<Token, Masked>, at: At, act: Act, key: &Token) ->
     }
 }
 
-// Steps to the next entry.
+/// Steps to the next entry.
 fn act_and_step(set: &mut Owned<Token, Masked>, at: At, key: &Token) -> Answer {
     match find(set, at, key) {
         Some(entry) => match entry.next_sync() {
@@ -44,7 +44,7 @@ fn act_and_step(set: &mut Owned<Token, Masked>, at: At, key: &Token) -> Answer {
     }
 }
 
-// Removes the key of the entry, and steps to the next entry.
+/// Removes the key of the entry, and steps to the next entry.
 fn act_and_go_on(set: &mut Owned<Token, Masked>, at: At, key: &Token) -> Answer {
     match find(set, at, key) {
         Some(entry) => match entry.remove_and_sync() {

@@ -14,7 +14,7 @@ use test_forms::numbered::{Seen, note_pairs, raise_to_even, seen, seen_pair, val
 use test_forms::token::Token;
 use test_kit::masked::Masked;
 
-// Returns the answer for a way that returns an entry.
+/// Returns the answer for a way that returns an entry.
 fn entered(
     answer: Result<
         (
@@ -33,7 +33,7 @@ fn entered(
     }
 }
 
-// Puts the pair through its entry.
+/// Puts the pair through its entry.
 fn enter(
     rt: &impl Wait,
     cache: &HashCache<Token, Token, Masked>,
@@ -51,7 +51,7 @@ fn enter(
     })
 }
 
-// Returns the answer for a way whose closure may fail.
+/// Returns the answer for a way whose closure may fail.
 fn entered_or_failed(
     answer: Result<
         (
@@ -70,7 +70,7 @@ fn entered_or_failed(
     }
 }
 
-// Puts the pair through its entry, with a closure that makes the value or fails.
+/// Puts the pair through its entry, with a closure that makes the value or fails.
 fn enter_or_fail(
     rt: &impl Wait,
     cache: &HashCache<Token, Token, Masked>,
@@ -86,7 +86,7 @@ fn enter_or_fail(
     })
 }
 
-// Puts the pair through its vacant entry.
+/// Puts the pair through its vacant entry.
 fn fill(
     rt: &impl Wait,
     cache: &HashCache<Token, Token, Masked>,
@@ -102,7 +102,7 @@ fn fill(
     }
 }
 
-// Replaces an equal key by `key`. A missing key gets `value`, if there is one.
+/// Replaces an equal key by `key`. A missing key gets `value`, if there is one.
 fn swap(
     rt: &impl Wait,
     cache: &HashCache<Token, Token, Masked>,
@@ -121,7 +121,7 @@ fn swap(
     }
 }
 
-// Sets the value of the key's entry, if the key is there.
+/// Sets the value of the key's entry, if the key is there.
 fn modify_in(
     rt: &impl Wait,
     cache: &HashCache<Token, Token, Masked>,
@@ -143,7 +143,7 @@ fn modify_in(
     }
 }
 
-// Writes the value of an entry if `written` is a number, and reads the entry.
+/// Writes the value of an entry if `written` is a number, and reads the entry.
 fn look(entry: OccupiedEntry<'_, Token, Token, Masked>, written: Option<u64>) -> Answer {
     let mut entry = entry;
     if let Some(number) = written {
@@ -153,13 +153,13 @@ fn look(entry: OccupiedEntry<'_, Token, Token, Masked>, written: Option<u64>) ->
     Answer::Found(Some(here))
 }
 
-// Sets the value of an entry.
+/// Sets the value of an entry.
 fn set(entry: OccupiedEntry<'_, Token, Token, Masked>, value: Token) -> Answer {
     let mut entry = entry;
     Answer::Old(Some(entry.put(value).number()))
 }
 
-// Does `act` with an entry.
+/// Does `act` with an entry.
 fn act_on(entry: OccupiedEntry<'_, Token, Token, Masked>, act: Act, number: u64) -> Answer {
     match act {
         Act::Look => look(entry, None),
@@ -170,7 +170,7 @@ fn act_on(entry: OccupiedEntry<'_, Token, Token, Masked>, act: Act, number: u64)
     }
 }
 
-// Does `act` with the entry of the key.
+/// Does `act` with the entry of the key.
 fn act_in(
     rt: &impl Wait,
     cache: &HashCache<Token, Token, Masked>,

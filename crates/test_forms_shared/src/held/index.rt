@@ -12,7 +12,7 @@ use test_forms::numbered::{Seen, keeps, seen, value_of};
 use test_forms::token::Token;
 use test_kit::masked::Masked;
 
-// Returns the answer for a way that returns an entry.
+/// Returns the answer for a way that returns an entry.
 fn entered(
     answer: Result<OccupiedEntry<'_, Token, Token, Masked>, InsertError<Token, Token>>,
 ) -> Answer {
@@ -25,7 +25,7 @@ fn entered(
     }
 }
 
-// Adds the pair through its entry.
+/// Adds the pair through its entry.
 fn enter(
     rt: &impl Wait,
     index: &HashIndex<Token, Token, Masked>,
@@ -42,7 +42,7 @@ fn enter(
     })
 }
 
-// Returns the answer for a way whose closure may fail.
+/// Returns the answer for a way whose closure may fail.
 fn entered_or_failed(
     answer: Result<OccupiedEntry<'_, Token, Token, Masked>, TryInsertError<Token, Token, u64>>,
 ) -> Answer {
@@ -55,7 +55,7 @@ fn entered_or_failed(
     }
 }
 
-// Adds the pair through its entry, with a closure that makes the value or fails.
+/// Adds the pair through its entry, with a closure that makes the value or fails.
 fn enter_or_fail(
     rt: &impl Wait,
     index: &HashIndex<Token, Token, Masked>,
@@ -71,7 +71,7 @@ fn enter_or_fail(
     })
 }
 
-// Adds the pair through its vacant entry.
+/// Adds the pair through its vacant entry.
 fn fill(
     rt: &impl Wait,
     index: &HashIndex<Token, Token, Masked>,
@@ -87,7 +87,7 @@ fn fill(
     }
 }
 
-// Sets the value of the key's entry, if the key is there.
+/// Sets the value of the key's entry, if the key is there.
 fn modify_in(
     rt: &impl Wait,
     index: &HashIndex<Token, Token, Masked>,
@@ -110,7 +110,7 @@ fn modify_in(
     }
 }
 
-// Returns the pair of an entry, if there is one.
+/// Returns the pair of an entry, if there is one.
 fn shown(entry: Option<OccupiedEntry<'_, Token, Token, Masked>>) -> Option<Seen> {
     match entry {
         Some(entry) => {
@@ -121,13 +121,13 @@ fn shown(entry: Option<OccupiedEntry<'_, Token, Token, Masked>>) -> Option<Seen>
     }
 }
 
-// Reads an entry.
+/// Reads an entry.
 fn look(entry: OccupiedEntry<'_, Token, Token, Masked>) -> Answer {
     let here = seen(entry.key(), entry.get());
     Answer::Found(Some(here))
 }
 
-// Makes a new version at an entry.
+/// Makes a new version at an entry.
 fn set(entry: OccupiedEntry<'_, Token, Token, Masked>, value: Token) -> Answer {
     let mut entry = entry;
     match entry.update(value) {
@@ -139,13 +139,13 @@ fn set(entry: OccupiedEntry<'_, Token, Token, Masked>, value: Token) -> Answer {
     }
 }
 
-// Removes the pair of an entry, and steps to the next entry.
+/// Removes the pair of an entry, and steps to the next entry.
 fn go_on(rt: &impl Wait, entry: OccupiedEntry<'_, Token, Token, Masked>) -> Answer {
     let gone = seen(entry.key(), entry.get());
     Answer::Gone(gone, shown(entry.remove_and_sync(rt)))
 }
 
-// Does `act` with an entry.
+/// Does `act` with an entry.
 fn act_on(rt: &impl Wait, entry: OccupiedEntry<'_, Token, Token, Masked>, act: Act) -> Answer {
     match act {
         Act::Look => look(entry),
@@ -159,7 +159,7 @@ fn act_on(rt: &impl Wait, entry: OccupiedEntry<'_, Token, Token, Masked>, act: A
     }
 }
 
-// Does `act` with the entry that `at` names.
+/// Does `act` with the entry that `at` names.
 fn act_in(
     rt: &impl Wait,
     index: &HashIndex<Token, Token, Masked>,
@@ -183,7 +183,7 @@ fn act_in(
     }
 }
 
-// Steps from entry to entry.
+/// Steps from entry to entry.
 fn step_in(
     rt: &impl Wait,
     index: &HashIndex<Token, Token, Masked>,
@@ -202,7 +202,7 @@ fn step_in(
     walked(had_room)
 }
 
-// Removes pairs by steps from entry to entry.
+/// Removes pairs by steps from entry to entry.
 fn drain_in(
     rt: &impl Wait,
     index: &HashIndex<Token, Token, Masked>,
@@ -221,7 +221,7 @@ fn drain_in(
     walked(had_room)
 }
 
-// Reserves `slots` slots and releases them.
+/// Reserves `slots` slots and releases them.
 fn reserve_in(rt: &impl Wait, index: &HashIndex<Token, Token, Masked>, slots: usize) -> Answer {
     match index.reserve(rt, slots) {
         Some(held) => {

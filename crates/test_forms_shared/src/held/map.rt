@@ -13,7 +13,7 @@ use test_forms::numbered::{Seen, note_pairs, raise_to_even, seen, seen_pair, val
 use test_forms::token::Token;
 use test_kit::masked::Masked;
 
-// Returns the answer for a way that returns an entry.
+/// Returns the answer for a way that returns an entry.
 fn entered(
     answer: Result<OccupiedEntry<'_, Token, Token, Masked>, InsertError<Token, Token>>,
 ) -> Answer {
@@ -26,7 +26,7 @@ fn entered(
     }
 }
 
-// Adds the pair through its entry.
+/// Adds the pair through its entry.
 fn enter(
     rt: &impl Wait,
     map: &HashMap<Token, Token, Masked>,
@@ -44,7 +44,7 @@ fn enter(
     })
 }
 
-// Returns the answer for a way whose closure may fail.
+/// Returns the answer for a way whose closure may fail.
 fn entered_or_failed(
     answer: Result<OccupiedEntry<'_, Token, Token, Masked>, TryInsertError<Token, Token, u64>>,
 ) -> Answer {
@@ -57,7 +57,7 @@ fn entered_or_failed(
     }
 }
 
-// Adds the pair through its entry, with a closure that makes the value or fails.
+/// Adds the pair through its entry, with a closure that makes the value or fails.
 fn enter_or_fail(
     rt: &impl Wait,
     map: &HashMap<Token, Token, Masked>,
@@ -73,7 +73,7 @@ fn enter_or_fail(
     })
 }
 
-// Adds the pair through its vacant entry.
+/// Adds the pair through its vacant entry.
 fn fill(rt: &impl Wait, map: &HashMap<Token, Token, Masked>, key: Token, value: Token) -> Answer {
     match map.entry_sync(rt, key) {
         Entry::Vacant(entry) => entered(entry.insert_entry(value)),
@@ -84,7 +84,7 @@ fn fill(rt: &impl Wait, map: &HashMap<Token, Token, Masked>, key: Token, value: 
     }
 }
 
-// Replaces an equal key by `key`. A missing key gets `value`, if there is one.
+/// Replaces an equal key by `key`. A missing key gets `value`, if there is one.
 fn swap(
     rt: &impl Wait,
     map: &HashMap<Token, Token, Masked>,
@@ -103,7 +103,7 @@ fn swap(
     }
 }
 
-// Sets the value of the key's entry, if the key is there.
+/// Sets the value of the key's entry, if the key is there.
 fn modify_in(
     rt: &impl Wait,
     map: &HashMap<Token, Token, Masked>,
@@ -122,7 +122,7 @@ fn modify_in(
     }
 }
 
-// Returns the pair of an entry, if there is one.
+/// Returns the pair of an entry, if there is one.
 fn shown(entry: Option<OccupiedEntry<'_, Token, Token, Masked>>) -> Option<Seen> {
     match entry {
         Some(entry) => {
@@ -133,7 +133,7 @@ fn shown(entry: Option<OccupiedEntry<'_, Token, Token, Masked>>) -> Option<Seen>
     }
 }
 
-// Writes the value of an entry if `written` is a number, and reads the entry.
+/// Writes the value of an entry if `written` is a number, and reads the entry.
 fn look(entry: OccupiedEntry<'_, Token, Token, Masked>, written: Option<u64>) -> Answer {
     let mut entry = entry;
     if let Some(number) = written {
@@ -143,20 +143,20 @@ fn look(entry: OccupiedEntry<'_, Token, Token, Masked>, written: Option<u64>) ->
     Answer::Found(Some(here))
 }
 
-// Sets the value of an entry.
+/// Sets the value of an entry.
 fn set(entry: OccupiedEntry<'_, Token, Token, Masked>, value: Token) -> Answer {
     let mut entry = entry;
     Answer::Old(Some(entry.insert(value).number()))
 }
 
-// Removes the pair of an entry, and steps to the next entry.
+/// Removes the pair of an entry, and steps to the next entry.
 fn go_on(rt: &impl Wait, entry: OccupiedEntry<'_, Token, Token, Masked>) -> Answer {
     let (pair, next) = entry.remove_and_sync(rt);
     let gone = seen(&pair.0, &pair.1);
     Answer::Gone(gone, shown(next))
 }
 
-// Does `act` with an entry.
+/// Does `act` with an entry.
 fn act_on(
     rt: &impl Wait,
     entry: OccupiedEntry<'_, Token, Token, Masked>,
@@ -173,7 +173,7 @@ fn act_on(
     }
 }
 
-// Does `act` with the entry that `at` names.
+/// Does `act` with the entry that `at` names.
 fn act_in(
     rt: &impl Wait,
     map: &HashMap<Token, Token, Masked>,
@@ -197,7 +197,7 @@ fn act_in(
     }
 }
 
-// Steps from entry to entry.
+/// Steps from entry to entry.
 fn step_in(
     rt: &impl Wait,
     map: &HashMap<Token, Token, Masked>,
@@ -216,7 +216,7 @@ fn step_in(
     walked(had_room)
 }
 
-// Removes pairs by steps from entry to entry.
+/// Removes pairs by steps from entry to entry.
 fn drain_in(
     rt: &impl Wait,
     map: &HashMap<Token, Token, Masked>,
@@ -236,7 +236,7 @@ fn drain_in(
     walked(had_room)
 }
 
-// Reserves `slots` slots and releases them.
+/// Reserves `slots` slots and releases them.
 fn reserve_in(rt: &impl Wait, map: &HashMap<Token, Token, Masked>, slots: usize) -> Answer {
     match map.reserve(rt, slots) {
         Some(held) => {

@@ -10,7 +10,7 @@ use test_forms::numbered::{Seen, keeps, note_keys, seen_key};
 use test_forms::token::Token;
 use test_kit::masked::Masked;
 
-// Returns the key of an entry, if there is one.
+/// Returns the key of an entry, if there is one.
 fn shown(entry: Option<OccupiedEntry<'_, Token, Masked>>) -> Option<Seen> {
     match entry {
         Some(entry) => {
@@ -21,7 +21,7 @@ fn shown(entry: Option<OccupiedEntry<'_, Token, Masked>>) -> Option<Seen> {
     }
 }
 
-// Does `act` with an entry.
+/// Does `act` with an entry.
 fn act_on(rt: &impl Wait, entry: OccupiedEntry<'_, Token, Masked>, act: Act) -> Answer {
     match act {
         Act::Look => {
@@ -38,7 +38,7 @@ fn act_on(rt: &impl Wait, entry: OccupiedEntry<'_, Token, Masked>, act: Act) -> 
     }
 }
 
-// Does `act` with the entry that `at` names.
+/// Does `act` with the entry that `at` names.
 fn act_in(rt: &impl Wait, set: &HashSet<Token, Masked>, at: At, act: Act, key: &Token) -> Answer {
     let number = key.number();
     let entry = match at {
@@ -52,7 +52,7 @@ fn act_in(rt: &impl Wait, set: &HashSet<Token, Masked>, at: At, act: Act, key: &
     }
 }
 
-// Steps from entry to entry.
+/// Steps from entry to entry.
 fn step_in(
     rt: &impl Wait,
     set: &HashSet<Token, Masked>,
@@ -71,7 +71,7 @@ fn step_in(
     walked(had_room)
 }
 
-// Removes keys by steps from entry to entry.
+/// Removes keys by steps from entry to entry.
 fn drain_in(
     rt: &impl Wait,
     set: &HashSet<Token, Masked>,
@@ -91,7 +91,7 @@ fn drain_in(
     walked(had_room)
 }
 
-// Reserves `slots` slots and releases them.
+/// Reserves `slots` slots and releases them.
 fn reserve_in(rt: &impl Wait, set: &HashSet<Token, Masked>, slots: usize) -> Answer {
     match set.reserve(rt, slots) {
         Some(held) => {

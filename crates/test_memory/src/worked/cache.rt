@@ -9,8 +9,8 @@ use test_kit::zero::Zero;
 
 type Cache = Owned<u64, u64, Zero>;
 
-// Puts a key with its complement as value. Returns the evicted pair, if any. If memory is refused, returns the pair
-// that was to be put, and `None` if an equal key is present.
+/// Puts a key with its complement as value. Returns the evicted pair, if any. If memory is refused, returns the pair
+/// that was to be put, and `None` if an equal key is present.
 fn put(cache: &mut Cache, key: u64) -> Result<Option<(u64, u64)>, Option<(u64, u64)>> {
     match cache.put_sync(key, !key) {
         Ok(evicted) => Ok(evicted),
@@ -19,8 +19,8 @@ fn put(cache: &mut Cache, key: u64) -> Result<Option<(u64, u64)>, Option<(u64, u
     }
 }
 
-// Returns whether the cache holds the keys from `first` up to, but without, `end`, each with its complement as value,
-// and no other key.
+/// Returns whether the cache holds the keys from `first` up to, but without, `end`, each with its complement as value,
+/// and no other key.
 fn holds(cache: &Cache, first: u64, end: u64) -> bool {
     for key in first..end {
         if cache.read_sync(&key, |_, value| *value) != Some(!key) {
@@ -30,7 +30,7 @@ fn holds(cache: &Cache, first: u64, end: u64) -> bool {
     cache.len() as u64 == end.saturating_sub(first)
 }
 
-// Puts the keys 1 to 31, and returns whether each went in without an eviction.
+/// Puts the keys 1 to 31, and returns whether each went in without an eviction.
 fn put_after_the_first(cache: &mut Cache) -> bool {
     for key in 1..32 {
         if put(cache, key) != Ok(None) {
@@ -40,7 +40,7 @@ fn put_after_the_first(cache: &mut Cache) -> bool {
     true
 }
 
-// Puts the keys 0 to 31. Only the first put allocates, for the array, and it is made again until it succeeds.
+/// Puts the keys 0 to 31. Only the first put allocates, for the array, and it is made again until it succeeds.
 fn fill<R: Abort + Print>(rt: &R, refusal: &mut Refusal, cache: &mut Cache) {
     for _ in 0..TRIES {
         match put(cache, 0) {
@@ -55,8 +55,8 @@ fn fill<R: Abort + Print>(rt: &R, refusal: &mut Refusal, cache: &mut Cache) {
     expect_eq(rt, (cache.capacity(), holds(cache, 0, 32)), (64, true));
 }
 
-// A put whose new array is refused evicts the least recent pair of the old array, and the next put asks for the new
-// array again.
+/// A put whose new array is refused evicts the least recent pair of the old array, and the next put asks for the new
+/// array again.
 #[test]
 fn cache_refused_array_evicts(rt: HostRuntime) {
     let mut refusal = Refusal::new();
@@ -69,8 +69,8 @@ fn cache_refused_array_evicts(rt: HostRuntime) {
     }
 }
 
-// Puts the keys from 32 on until the new array is there, which is at key 33 if one request is refused. Each put must
-// evict the least recent key.
+/// Puts the keys from 32 on until the new array is there, which is at key 33 if one request is refused. Each put must
+/// evict the least recent key.
 fn expect_evictions<R: Abort + Print>(rt: &R, refusal: &mut Refusal, cache: &mut Cache) {
     for least in 0..TRIES as u64 {
         let key = least.saturating_add(32);

@@ -10,8 +10,8 @@ use test_kit::zero::Zero;
 
 type Map = Owned<u64, u64, Zero>;
 
-// Inserts a key with its complement as value. If memory is refused, returns the pair, and `None` if an equal key is
-// present.
+/// Inserts a key with its complement as value. If memory is refused, returns the pair, and `None` if an equal key is
+/// present.
 fn insert(map: &mut Map, key: u64) -> Result<(), Option<(u64, u64)>> {
     match map.insert_sync(key, !key) {
         Ok(()) => Ok(()),
@@ -20,7 +20,7 @@ fn insert(map: &mut Map, key: u64) -> Result<(), Option<(u64, u64)>> {
     }
 }
 
-// Returns whether the map holds the keys below `end`, each with its complement as value, and no other key.
+/// Returns whether the map holds the keys below `end`, each with its complement as value, and no other key.
 fn holds_below(map: &Map, end: u64) -> bool {
     for key in 0..end {
         if map.read_sync(&key, |_, value| *value) != Some(!key) {
@@ -30,7 +30,7 @@ fn holds_below(map: &Map, end: u64) -> bool {
     map.len() as u64 == end
 }
 
-// Inserts the keys 1 to 31, and returns whether each went in.
+/// Inserts the keys 1 to 31, and returns whether each went in.
 fn insert_after_the_first(map: &mut Map) -> bool {
     for key in 1..32 {
         if insert(map, key).is_err() {
@@ -40,7 +40,7 @@ fn insert_after_the_first(map: &mut Map) -> bool {
     true
 }
 
-// Inserts the keys 0 to 31. Only the first insertion allocates, for the array, and it is made again until it succeeds.
+/// Inserts the keys 0 to 31. Only the first insertion allocates, for the array, and it is made again until it succeeds.
 fn fill<R: Abort + Print>(rt: &R, refusal: &mut Refusal, map: &mut Map) {
     for _ in 0..TRIES {
         match insert(map, 0) {
@@ -55,8 +55,8 @@ fn fill<R: Abort + Print>(rt: &R, refusal: &mut Refusal, map: &mut Map) {
     expect_eq(rt, (map.capacity(), holds_below(map, 32)), (64, true));
 }
 
-// Inserts `key` once, after the keys below it, and returns whether it went in. A refused insertion hands its pair back
-// and leaves the other keys as they are.
+/// Inserts `key` once, after the keys below it, and returns whether it went in. A refused insertion hands its pair back
+/// and leaves the other keys as they are.
 fn insert_next<R: Abort + Print>(rt: &R, map: &mut Map, key: u64) -> bool {
     let answer = insert(map, key);
     if answer.is_ok() {
@@ -71,9 +71,9 @@ fn insert_next<R: Abort + Print>(rt: &R, map: &mut Map, key: u64) -> bool {
     false
 }
 
-// A refused array leaves the old array, raises the note, and the key goes to the overflow list. The next insertion asks
-// for the array again, which lowers the note: key 33 makes it if one request is refused. Each delay is told as a
-// refusal, and `tools/refuse_memory` allows as many as there were refused requests.
+/// A refused array leaves the old array, raises the note, and the key goes to the overflow list. The next insertion asks
+/// for the array again, which lowers the note: key 33 makes it if one request is refused. Each delay is told as a
+/// refusal, and `tools/refuse_memory` allows as many as there were refused requests.
 #[test]
 fn map_refused_array_uses_overflow(rt: HostRuntime) {
     let mut refusal = Refusal::new();
@@ -94,7 +94,7 @@ fn map_refused_array_uses_overflow(rt: HostRuntime) {
     expect(&rt, false);
 }
 
-// If the overflow list is refused as well, the pair comes back. The insertion is made again until it succeeds.
+/// If the overflow list is refused as well, the pair comes back. The insertion is made again until it succeeds.
 #[test]
 fn map_refused_array_and_overflow(rt: HostRuntime) {
     let mut refusal = Refusal::new();
@@ -114,7 +114,7 @@ fn map_refused_array_and_overflow(rt: HostRuntime) {
     expect(&rt, false);
 }
 
-// Returns an empty list with room for one pair, or `None` if memory is refused each time.
+/// Returns an empty list with room for one pair, or `None` if memory is refused each time.
 fn listed<R: AllocGlobal + Print>(rt: &R, refusal: &mut Refusal) -> Option<Vec<(u64, u64)>> {
     for _ in 0..TRIES {
         match Vec::with_capacity(rt.alloc(), 1) {
@@ -125,8 +125,8 @@ fn listed<R: AllocGlobal + Print>(rt: &R, refusal: &mut Refusal) -> Option<Vec<(
     None
 }
 
-// Walks with a closure that takes each pair. Returns the number of the closure's calls, and whether the walk came to
-// its end.
+/// Walks with a closure that takes each pair. Returns the number of the closure's calls, and whether the walk came to
+/// its end.
 fn take_all(map: &mut Map, taken: &mut Vec<(u64, u64)>) -> (usize, bool) {
     let mut calls = 0usize;
     let ended = map.iter_mut_sync(
@@ -139,8 +139,8 @@ fn take_all(map: &mut Map, taken: &mut Vec<(u64, u64)>) -> (usize, bool) {
     (calls, ended == Ok(true))
 }
 
-// Takes all three pairs into a list with room for one. A refused walk has called its closure once for each pair that
-// it took.
+/// Takes all three pairs into a list with room for one. A refused walk has called its closure once for each pair that
+/// it took.
 fn expect_taken<R: Abort + Print>(
     rt: &R,
     refusal: &mut Refusal,

@@ -5,7 +5,7 @@ use scc_shared_index::HashIndex;
 use std::alloc::Global;
 use std::sync::Wait;
 
-// Goes from entry to entry.
+/// Goes from entry to entry.
 fn step_on<R: Wait, V: Visit>(rt: &R, index: &Index, visit: &mut V) -> bool {
     let mut entry = index.begin_sync(rt);
     for _ in 0..MOST {
@@ -18,7 +18,7 @@ fn step_on<R: Wait, V: Visit>(rt: &R, index: &Index, visit: &mut V) -> bool {
     false
 }
 
-// Goes from entry to entry, and removes each.
+/// Goes from entry to entry, and removes each.
 fn remove_on<R: Wait, V: Visit>(rt: &R, index: &Index, visit: &mut V) -> bool {
     let mut entry = index.begin_sync(rt);
     for _ in 0..MOST {

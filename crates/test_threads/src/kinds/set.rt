@@ -6,7 +6,7 @@ use scc_shared_set::HashSet;
 use std::alloc::Global;
 use std::sync::Wait;
 
-// Goes from entry to entry.
+/// Goes from entry to entry.
 fn step_on<R: Wait, V: Visit>(rt: &R, set: &Set, visit: &mut V) -> bool {
     let mut entry = set.begin_sync(rt);
     for _ in 0..MOST {
@@ -19,7 +19,7 @@ fn step_on<R: Wait, V: Visit>(rt: &R, set: &Set, visit: &mut V) -> bool {
     false
 }
 
-// Goes from entry to entry, and removes each.
+/// Goes from entry to entry, and removes each.
 fn remove_on<R: Wait, V: Visit>(rt: &R, set: &Set, visit: &mut V) -> bool {
     let mut entry = set.begin_sync(rt);
     for _ in 0..MOST {
