@@ -1,9 +1,9 @@
 //! How a part of a shared container follows its share of the minimum.
-ghost use Rattle.scc_common.specs.Contents.{IsUniqueBy};
+ghost use Rattle.scc_common.specs.Contents.{entries, bucket_count, IsUniqueBy};
 ghost use Rattle.scc_owned.specs.Sizes.{FollowsMinimum};
 ghost use Rattle.scc_table.specs.Making.{MakesEmpty};
 ghost use Rattle.std.specs.Arc.{arc_value};
-ghost use Rattle.std.specs.Prelude.{◌≤◌, ◌^◌, IfOk, Ok};
+ghost use Rattle.std.specs.Prelude.{◌≡◌, ◌≤◌, ◌*◌, ◌^◌, IfOk, Ok, length};
 
 use crate::Owned;
 use scc_common::{Keyed, MakeError, Shared};
@@ -48,11 +48,15 @@ impl<E: Keyed, H: BuildHasher> Follow for Owned<E, H>
 where
     E::Key: Eq + Hash,
 {
-    fn count(&self) -> usize {
+    fn count(&self) -> usize
+        ensures { result ≡ length (entries self.now) }
+    {
         self.len()
     }
 
-    fn slots(&self) -> usize {
+    fn slots(&self) -> usize
+        ensures { result ≡ 32 * bucket_count self.now }
+    {
         self.capacity()
     }
 
