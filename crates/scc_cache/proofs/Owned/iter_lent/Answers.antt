@@ -58,7 +58,7 @@ returns-clause-walks g c =
     calls true c.loop-at.f (rw (drop-all es (length es) refl) ended)
 
 pub returns-then-not-f-clause-unique : goal.returns-then-not-f-clause-unique
-returns-then-not-f-clause-unique g c = rw (ap (λ x. x.contents) c.self.view_is) c.self.invariant.unique
+returns-then-not-f-clause-unique g c = rw (← ap (λ x. x.contents) c.self.view_is) c.self.invariant.unique
 
 pub returns-clause-unique : goal.returns-clause-unique
-returns-clause-unique g c = rw (ap (λ x. x.contents) c.self.view_is) c.self.invariant.unique
+returns-clause-unique g c = rw (← ap (λ x. x.contents) c.self.view_is) c.self.invariant.unique
