@@ -26,6 +26,23 @@ where
     ghost within: { IsPlace (G.inner guard) place },
 }
 
+/// The key of a vacant entry. It is a struct because the borrow checker covers no `match` that takes an entry out of an
+/// enum whose variant has a field of an associated type itself.
+#[derive(Drop)]
+pub struct KeyOf<E: Keyed> {
+    pub(crate) key: E::Key,
+}
+
+impl<E: Keyed> KeyOf<E> {
+    /// Returns the key itself.
+    #[inline(always)]
+    pub(crate) fn take(self) -> E::Key
+        ensures { result ≡ self.key }
+    {
+        self.key
+    }
+}
+
 /// A vacant entry: a key that the container lacks, with its hash.
 #[derive(Drop)]
 pub struct HeldVacant<G: Guard<Inner = Owned<E, H>>, N, E: Keyed, H: BuildHasher>
@@ -33,12 +50,12 @@ where
     E::Key: Eq + Hash,
 {
     pub(crate) guard: G,
-    pub(crate) key: E::Key,
+    pub(crate) key: KeyOf<E>,
     pub(crate) hash: u64,
     pub(crate) rest: N,
     pub(crate) of: PhantomData<(E, H)>,
-    ghost absent: { position (λ e. E.Key.eq key (E.key_of e)) (entries (G.inner guard)) ≡ None },
-    ghost hashed: { hash ≡ key_hash H.BuildHasher H.Hasher.Hasher E.Key.hash_input (G.inner guard) key },
+    ghost absent: { position (λ e. E.Key.eq key.key (E.key_of e)) (entries (G.inner guard)) ≡ None },
+    ghost hashed: { hash ≡ key_hash H.BuildHasher H.Hasher.Hasher E.Key.hash_input (G.inner guard) key.key },
     ghost unique: { IsUniqueBy E.Key.eq E.key_of (G.inner guard) } by { IsDistinct-prop E.Key.eq (map E.key_of (entries (G.inner guard))) },
 }
 
@@ -97,12 +114,12 @@ where
         requires hashed { hash ≡ key_hash H.BuildHasher H.Hasher.Hasher E.Key.hash_input (G.inner guard) key }
         requires unique { IsUniqueBy E.Key.eq E.key_of (G.inner guard) }
         ensures guard { result.guard ≡ guard }
-        ensures key { result.key ≡ key }
+        ensures key { result.key.key ≡ key }
         ensures rest { result.rest ≡ rest }
     {
         HeldVacant {
             guard,
-            key,
+            key: KeyOf { key },
             hash,
             rest,
             of: PhantomData,

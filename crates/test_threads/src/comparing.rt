@@ -1,6 +1,7 @@
 // Whole containers: comparisons beside a writer and in both ways at once, clones, and containers made of items.
 use crate::expect::{expect, expect_eq};
 use crate::kinds::{Cache, Index, Map, Set, Threaded};
+use crate::trials::{Trial, holds_in_each};
 use scc_shared_cache::HashCache;
 use scc_shared_index::HashIndex;
 use scc_shared_map::HashMap;
@@ -8,7 +9,6 @@ use scc_shared_set::HashSet;
 use std::alloc::Global;
 use std::process::Abort;
 use std::sync::Wait;
-use std::test::Fail;
 use std::thread::{Threads, join};
 
 const KEYS: u64 = 100;
@@ -57,8 +57,11 @@ fn writes<C: Threaded, R: Wait>(rt: &R, container: &C) -> bool {
 }
 
 /// Returns whether a container equals itself each time, also beside a writer.
-fn is_itself<C: Threaded + Sync, R: Threads + Wait + Sync>(rt: &R, container: &C) -> bool {
-    let before = container.equals(rt, container);
+pub(crate) fn is_itself<C: Threaded + Sync, R: Threads + Wait + Sync>(
+    rt: &R,
+    container: &C,
+) -> bool {
+    let before = fills(rt, container) && container.equals(rt, container);
     let (compared, wrote) = join(
         rt,
         || compares(rt, container, container),
@@ -67,24 +70,9 @@ fn is_itself<C: Threaded + Sync, R: Threads + Wait + Sync>(rt: &R, container: &C
     before && compared && wrote
 }
 
-fn equals_itself<C: Threaded + Sync + Drop, R: Threads + Wait + Sync>(
-    rt: &R,
-    alloc: Global,
-) -> bool {
-    match filled::<C, R>(rt, alloc) {
-        Some(container) => is_itself(rt, &container),
-        None => false,
-    }
-}
-
 #[test]
 fn equals_itself_beside_a_writer(rt: HostRuntime) {
-    let right = [
-        equals_itself::<Map, _>(&rt, rt.alloc()),
-        equals_itself::<Set, _>(&rt, rt.alloc()),
-        equals_itself::<Index, _>(&rt, rt.alloc()),
-        equals_itself::<Cache, _>(&rt, rt.alloc()),
-    ];
+    let right = holds_in_each(&rt, rt.alloc(), Trial::EqualsItself);
     expect_eq(&rt, right, [true; 4]);
 }
 
@@ -115,24 +103,21 @@ fn compare_both_ways<C: Threaded + Sync, R: Threads + Wait + Sync>(
     first && second && one.equals(rt, other) && other.equals(rt, one)
 }
 
-fn compares_both_ways<C: Threaded + Sync + Drop, R: Threads + Wait + Sync>(
+/// Fills an empty container, and compares it with an equal one.
+pub(crate) fn compares_both_ways<C: Threaded + Sync + Drop, R: Threads + Wait + Sync>(
     rt: &R,
     alloc: Global,
+    container: &C,
 ) -> bool {
-    match (filled::<C, R>(rt, alloc), filled::<C, R>(rt, alloc)) {
-        (Some(one), Some(other)) => compare_both_ways(rt, &one, &other),
-        _ => false,
+    match filled::<C, R>(rt, alloc) {
+        Some(other) => fills(rt, container) && compare_both_ways(rt, container, &other),
+        None => false,
     }
 }
 
 #[test]
 fn comparisons_in_opposite_ways_end(rt: HostRuntime) {
-    let right = [
-        compares_both_ways::<Map, _>(&rt, rt.alloc()),
-        compares_both_ways::<Set, _>(&rt, rt.alloc()),
-        compares_both_ways::<Index, _>(&rt, rt.alloc()),
-        compares_both_ways::<Cache, _>(&rt, rt.alloc()),
-    ];
+    let right = holds_in_each(&rt, rt.alloc(), Trial::BothWays);
     expect_eq(&rt, right, [true; 4]);
 }
 
@@ -164,31 +149,52 @@ fn is_clone(rt: &impl Wait, map: &Map, copy: &Map) -> bool {
     slots == (512, 512, 512) && same && written && again
 }
 
-#[test]
-fn shared_map_clone_equals(rt: HostRuntime) -> Result<(), Fail> {
-    let map: Map = filled(&rt, rt.alloc()).ok_or("there is memory")?;
-    let copy = map.try_clone(&rt)?;
-    expect(
-        &rt,
-        is_clone(&rt, &map, &copy) && differs(&rt, &copy, &map, true),
-    );
-    Ok(())
+/// Returns whether a map equals its clone and differs from it as it must.
+fn map_and_clone(rt: &impl Wait, map: &Map) -> bool {
+    match map.try_clone(rt) {
+        Ok(copy) => is_clone(rt, map, &copy) && differs(rt, &copy, map, true),
+        Err(_) => false,
+    }
 }
 
 #[test]
-fn shared_set_clone_equals(rt: HostRuntime) -> Result<(), Fail> {
-    let set: Set = filled(&rt, rt.alloc()).ok_or("there is memory")?;
-    let copy = set.try_clone(&rt)?;
-    expect(&rt, differs(&rt, &copy, &set, false));
-    Ok(())
+fn shared_map_clone_equals(rt: HostRuntime) {
+    match filled::<Map, _>(&rt, rt.alloc()) {
+        Some(map) => expect(&rt, map_and_clone(&rt, &map)),
+        None => expect(&rt, false),
+    }
+}
+
+/// Returns whether a set equals its clone and differs from it as it must.
+fn set_and_clone(rt: &impl Wait, set: &Set) -> bool {
+    match set.try_clone(rt) {
+        Ok(copy) => differs(rt, &copy, set, false),
+        Err(_) => false,
+    }
 }
 
 #[test]
-fn shared_index_clone_equals(rt: HostRuntime) -> Result<(), Fail> {
-    let index: Index = filled(&rt, rt.alloc()).ok_or("there is memory")?;
-    let copy = index.try_clone(&rt)?;
-    expect(&rt, differs(&rt, &copy, &index, true));
-    Ok(())
+fn shared_set_clone_equals(rt: HostRuntime) {
+    match filled::<Set, _>(&rt, rt.alloc()) {
+        Some(set) => expect(&rt, set_and_clone(&rt, &set)),
+        None => expect(&rt, false),
+    }
+}
+
+/// Returns whether an index equals its clone and differs from it as it must.
+fn index_and_clone(rt: &impl Wait, index: &Index) -> bool {
+    match index.try_clone(rt) {
+        Ok(copy) => differs(rt, &copy, index, true),
+        Err(_) => false,
+    }
+}
+
+#[test]
+fn shared_index_clone_equals(rt: HostRuntime) {
+    match filled::<Index, _>(&rt, rt.alloc()) {
+        Some(index) => expect(&rt, index_and_clone(&rt, &index)),
+        None => expect(&rt, false),
+    }
 }
 
 /// Gets some keys of a cache, which are then its most recent ones.
@@ -198,68 +204,91 @@ fn refreshes(rt: &impl Wait, cache: &Cache) {
     }
 }
 
+/// Returns whether a cache equals another cache with recent keys of its own, and differs from it as it must.
+fn cache_and_refreshed(rt: &impl Wait, alloc: Global, cache: &Cache) -> bool {
+    match filled::<Cache, _>(rt, alloc) {
+        Some(other) => {
+            refreshes(rt, &other);
+            differs(rt, cache, &other, true)
+        }
+        None => false,
+    }
+}
+
 /// The order in which pairs were used plays no part in the comparison of caches.
 #[test]
-fn shared_cache_equality_ignores_recency(rt: HostRuntime) -> Result<(), Fail> {
-    let first: Cache = filled(&rt, rt.alloc()).ok_or("there is memory")?;
-    let second: Cache = filled(&rt, rt.alloc()).ok_or("there is memory")?;
-    refreshes(&rt, &second);
-    expect(&rt, differs(&rt, &first, &second, true));
-    Ok(())
+fn shared_cache_equality_ignores_recency(rt: HostRuntime) {
+    match filled::<Cache, _>(&rt, rt.alloc()) {
+        Some(cache) => expect(&rt, cache_and_refreshed(&rt, rt.alloc(), &cache)),
+        None => expect(&rt, false),
+    }
+}
+
+fn read(rt: &impl Wait, map: &HashMap<u64, u64>, key: u64) -> Option<u64> {
+    map.read_sync(rt, &key, |_, value| *value)
+}
+
+/// Returns the length, the capacity, and the values of the keys 1 and 2.
+fn map_shown(rt: &impl Wait, map: &HashMap<u64, u64>) -> (usize, usize, [Option<u64>; 2]) {
+    let values = [read(rt, map, 1), read(rt, map, 2)];
+    (map.len(rt), map.capacity(rt), values)
 }
 
 #[test]
-fn shared_map_try_from_iter_last_wins(rt: HostRuntime) -> Result<(), Fail> {
-    let items = vec![in rt.alloc(); (1u64, 10u64), (1, 20), (2, 30)]?;
-    let map: HashMap<u64, u64> = HashMap::try_from_iter(&rt, rt.alloc(), items)?;
-    let one = map.read_sync(&rt, &1, |_, value| *value);
-    let two = map.read_sync(&rt, &2, |_, value| *value);
-    expect_eq(
-        &rt,
-        (map.len(&rt), map.capacity(&rt), one, two),
-        (2, 64, Some(20), Some(30)),
-    );
-    Ok(())
+fn shared_map_try_from_iter_last_wins(rt: HostRuntime) {
+    match HashMap::try_from_iter(&rt, rt.alloc(), [(1, 10), (1, 20), (2, 30)]) {
+        Ok(map) => expect_eq(&rt, map_shown(&rt, &map), (2, 64, [Some(20), Some(30)])),
+        Err(_) => expect(&rt, false),
+    }
+}
+
+/// Returns the length, and whether the keys 1 and 2 are there.
+fn set_shown(rt: &impl Wait, set: &HashSet<u64>) -> (usize, bool, bool) {
+    (
+        set.len(rt),
+        set.contains_sync(rt, &1),
+        set.contains_sync(rt, &2),
+    )
 }
 
 #[test]
-fn shared_set_try_from_iter_counts_once(rt: HostRuntime) -> Result<(), Fail> {
-    let items = vec![in rt.alloc(); 1u64, 1, 2]?;
-    let set: HashSet<u64> = HashSet::try_from_iter(&rt, rt.alloc(), items)?;
-    let held = (
-        set.len(&rt),
-        set.contains_sync(&rt, &1),
-        set.contains_sync(&rt, &2),
-    );
-    expect_eq(&rt, held, (2, true, true));
-    Ok(())
+fn shared_set_try_from_iter_counts_once(rt: HostRuntime) {
+    match HashSet::try_from_iter(&rt, rt.alloc(), [1, 1, 2]) {
+        Ok(set) => expect_eq(&rt, set_shown(&rt, &set), (2, true, true)),
+        Err(_) => expect(&rt, false),
+    }
+}
+
+fn peek(rt: &impl Wait, index: &HashIndex<u64, u64>, key: u64) -> Option<u64> {
+    index.peek_with(rt, &key, |_, value| *value)
+}
+
+/// Returns the length, the capacity, and the values of the keys 1 and 2.
+fn index_shown(rt: &impl Wait, index: &HashIndex<u64, u64>) -> (usize, usize, [Option<u64>; 2]) {
+    let values = [peek(rt, index, 1), peek(rt, index, 2)];
+    (index.len(rt), index.capacity(rt), values)
 }
 
 #[test]
-fn shared_index_try_from_iter_first_wins(rt: HostRuntime) -> Result<(), Fail> {
-    let items = vec![in rt.alloc(); (1u64, 10u64), (1, 20), (2, 30)]?;
-    let index: HashIndex<u64, u64> = HashIndex::try_from_iter(&rt, rt.alloc(), items)?;
-    let one = index.peek_with(&rt, &1, |_, value| *value);
-    let two = index.peek_with(&rt, &2, |_, value| *value);
-    expect_eq(
-        &rt,
-        (index.len(&rt), index.capacity(&rt), one, two),
-        (2, 64, Some(10), Some(30)),
-    );
-    Ok(())
+fn shared_index_try_from_iter_first_wins(rt: HostRuntime) {
+    match HashIndex::try_from_iter(&rt, rt.alloc(), [(1, 10), (1, 20), (2, 30)]) {
+        Ok(index) => expect_eq(&rt, index_shown(&rt, &index), (2, 64, [Some(10), Some(30)])),
+        Err(_) => expect(&rt, false),
+    }
 }
 
-#[test]
-fn shared_cache_try_from_iter_first_wins(rt: HostRuntime) -> Result<(), Fail> {
-    let items = vec![in rt.alloc(); (1u64, 10u64), (1, 20)]?;
-    let cache: HashCache<u64, u64> = HashCache::try_from_iter(&rt, rt.alloc(), items)?;
-    let one = cache.read_sync(&rt, &1, |_, value| *value);
+/// Returns the length, the value of the key 1, and the capacity with both ends of its range.
+fn cache_shown(rt: &impl Wait, cache: &HashCache<u64, u64>) -> (usize, Option<u64>, [usize; 3]) {
+    let value = cache.read_sync(rt, &1, |_, value| *value);
     let range = cache.capacity_range();
-    let slots = (cache.capacity(&rt), *range.start(), *range.end());
-    expect_eq(
-        &rt,
-        (cache.len(&rt), one, slots),
-        (1, Some(10), (64, 64, 64)),
-    );
-    Ok(())
+    let slots = [cache.capacity(rt), *range.start(), *range.end()];
+    (cache.len(rt), value, slots)
+}
+
+#[test]
+fn shared_cache_try_from_iter_first_wins(rt: HostRuntime) {
+    match HashCache::try_from_iter(&rt, rt.alloc(), [(1, 10), (1, 20)]) {
+        Ok(cache) => expect_eq(&rt, cache_shown(&rt, &cache), (1, Some(10), [64, 64, 64])),
+        Err(_) => expect(&rt, false),
+    }
 }

@@ -4,11 +4,11 @@ use scc_cache::DEFAULT_MAXIMUM_CAPACITY;
 use scc_common::InsertError;
 use scc_script::same::Same;
 use scc_shared_cache::HashCache;
+use std::alloc::Global;
 use std::hash::BuildHasher;
 use std::process::Abort;
 use std::sync::Wait;
-use std::test::Fail;
-use std::thread::map_indices;
+use std::thread::{Threads, map_indices};
 use test_kit::numbers::next;
 use test_kit::zero::Zero;
 
@@ -39,20 +39,37 @@ fn evicted<H: BuildHasher + Drop>(
     }
 }
 
-/// Each of the four quarters of all hashes has a stripe of its own, which evicts its own least recent pair.
-#[test]
-fn shared_cache_evicts_stripe_by_stripe(rt: HostRuntime) -> Result<(), Fail> {
-    let cache = HashCache::with_hasher(rt.alloc(), Same)?;
+fn puts_in_each_quarter(rt: &impl Wait, cache: &HashCache<u64, u64, Same>) -> bool {
+    let mut kept = true;
     for quarter in 0..4u64 {
-        expect(&rt, puts(&rt, &cache, quarter << 62, 32));
+        kept = puts(rt, cache, quarter << 62, 32) && kept;
     }
-    expect_eq(&rt, (cache.len(&rt), cache.capacity(&rt)), (128, 256));
+    kept
+}
+
+fn evicts_in_each_quarter(rt: &impl Wait, cache: &HashCache<u64, u64, Same>) -> bool {
+    let mut least = true;
     for quarter in 0..4u64 {
         let first = quarter << 62;
-        expect_eq(&rt, evicted(&rt, &cache, first | 32), Some((first, first)));
+        least = evicted(rt, cache, first | 32) == Some((first, first)) && least;
     }
-    expect_eq(&rt, (cache.len(&rt), cache.capacity(&rt)), (128, 256));
-    Ok(())
+    least
+}
+
+/// Each of the four quarters of all hashes has a stripe of its own, which evicts its own least recent pair.
+#[test]
+fn shared_cache_evicts_stripe_by_stripe(rt: HostRuntime) {
+    match HashCache::with_hasher(rt.alloc(), Same) {
+        Ok(cache) => {
+            let kept = puts_in_each_quarter(&rt, &cache);
+            let full = (cache.len(&rt), cache.capacity(&rt));
+            let least = evicts_in_each_quarter(&rt, &cache);
+            let still = (cache.len(&rt), cache.capacity(&rt));
+            let wanted = (true, (128, 256), true, (128, 256));
+            expect_eq(&rt, (kept, full, least, still), wanted);
+        }
+        Err(_) => expect(&rt, false),
+    }
 }
 
 /// Calls that refresh the first three of 32 keys, and calls that don't refresh the fourth. Returns whether they return
@@ -66,15 +83,25 @@ fn looks(rt: &impl Wait, cache: &HashCache<u64, u64, Zero>) -> bool {
     got && read && there && cache.remove_if_sync(rt, &3, |_| false).is_none()
 }
 
-#[test]
-fn shared_cache_which_calls_refresh(rt: HostRuntime) -> Result<(), Fail> {
-    let cache = HashCache::with_capacity_and_hasher(rt.alloc(), 0, 64, Zero)?;
-    expect(&rt, puts(&rt, &cache, 0, 32) && looks(&rt, &cache));
+/// Puts 32 keys more, and returns whether each evicts the least recent one: first 3 to 31, and then 0 to 2.
+fn evicts_from_three(rt: &impl Wait, cache: &HashCache<u64, u64, Zero>) -> bool {
+    let mut right = true;
     for key in 3..35u64 {
         let least = key % 32;
-        expect_eq(&rt, evicted(&rt, &cache, key + 29), Some((least, least)));
+        right = evicted(rt, cache, key + 29) == Some((least, least)) && right;
     }
-    Ok(())
+    right
+}
+
+#[test]
+fn shared_cache_which_calls_refresh(rt: HostRuntime) {
+    match HashCache::with_capacity_and_hasher(rt.alloc(), 0, 64, Zero) {
+        Ok(cache) => {
+            expect(&rt, puts(&rt, &cache, 0, 32) && looks(&rt, &cache));
+            expect(&rt, evicts_from_three(&rt, &cache));
+        }
+        Err(_) => expect(&rt, false),
+    }
 }
 
 const THREADS: usize = 4;
@@ -153,20 +180,49 @@ fn put_and_take(rt: &impl Wait, cache: &HashCache<u64, u64>, thread: usize) -> B
     balance
 }
 
-#[test]
-fn shared_cache_loses_no_pair_unseen(rt: HostRuntime) -> Result<(), Fail> {
-    let cache = HashCache::new(rt.alloc())?;
-    let balances = map_indices(&rt, rt.alloc(), THREADS, &|i| put_and_take(&rt, &cache, i))?;
-    let mut left = EVEN;
-    for balance in balances.iter() {
-        left.join(balance);
+/// Returns the balance of four threads that put and take at once, or `None` if one couldn't start.
+fn balance_of_four<R: Threads + Wait + Sync>(
+    rt: &R,
+    alloc: Global,
+    cache: &HashCache<u64, u64>,
+) -> Option<Balance> {
+    match map_indices(
+        rt,
+        alloc,
+        THREADS,
+        &|thread| put_and_take(rt, cache, thread),
+    ) {
+        Ok(balances) => {
+            let mut left = EVEN;
+            for balance in balances.iter() {
+                left.join(balance);
+            }
+            Some(left)
+        }
+        Err(_) => None,
     }
-    let walked = cache.iter_sync(&rt, |key, value| {
+}
+
+/// Subtracts each pair of the cache. Returns whether nothing is left, the cache was always within its maximum and is
+/// so now, and isn't empty.
+fn comes_out_even(rt: &impl Wait, cache: &HashCache<u64, u64>, balance: Balance) -> bool {
+    let mut left = balance;
+    let walked = cache.iter_sync(rt, |key, value| {
         left.subtract((*key, *value));
         true
     });
-    expect(&rt, walked && left.is_within && !cache.is_empty(&rt));
-    expect_eq(&rt, (left.pairs, left.keys, left.values), (0, 0, 0));
-    expect(&rt, cache.capacity(&rt) <= DEFAULT_MAXIMUM_CAPACITY);
-    Ok(())
+    let is_within = left.is_within && cache.capacity(rt) <= DEFAULT_MAXIMUM_CAPACITY;
+    let is_even = (left.pairs, left.keys, left.values) == (0, 0, 0);
+    walked && is_within && is_even && !cache.is_empty(rt)
+}
+
+#[test]
+fn shared_cache_loses_no_pair_unseen(rt: HostRuntime) {
+    match HashCache::new(rt.alloc()) {
+        Ok(cache) => match balance_of_four(&rt, rt.alloc(), &cache) {
+            Some(balance) => expect(&rt, comes_out_even(&rt, &cache, balance)),
+            None => expect(&rt, false),
+        },
+        Err(_) => expect(&rt, false),
+    }
 }

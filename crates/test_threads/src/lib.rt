@@ -23,6 +23,8 @@ mod map_stripes;
 #[cfg(test)]
 mod stripes;
 #[cfg(test)]
+mod trials;
+#[cfg(test)]
 mod versions;
 #[cfg(test)]
 mod waits;

@@ -3,15 +3,13 @@
 // don't share.
 use crate::expect::{expect, expect_eq};
 use crate::kinds::{Cache, HALF, Index, Map, Set, Threaded, Visit, Way};
+use crate::trials::{Trial, holds_in, holds_in_each};
 use std::alloc::Global;
 use std::process::Abort;
 use std::sync::Wait;
 use std::sync::atomic::AtomicU64;
 use std::thread::{Threads, join, map_indices};
 use test_kit::flags::{Flags, raise, sees};
-
-/// Slots for two stripes.
-const SLOTS: usize = 128;
 
 /// The ways over all keys. A cache has the first three.
 const WAYS: [Way; 6] = [
@@ -50,12 +48,9 @@ fn make_meeting<'a>(key: u64, mine: &'a AtomicU64, other: &'a AtomicU64) -> Meet
     }
 }
 
-/// Returns a container with a key in each of its two stripes, or `None` if memory is refused.
-fn two_keys<C: Threaded + Drop, R: Wait>(rt: &R, alloc: Global) -> Option<C> {
-    match C::make(alloc, SLOTS) {
-        Some(made) if made.add(rt, 1) && made.add(rt, HALF) => Some(made),
-        _ => None,
-    }
+/// Adds a key to each of two stripes. Returns whether both were added.
+fn adds_both<C: Threaded, R: Wait>(rt: &R, container: &C) -> bool {
+    container.add(rt, 1) && container.add(rt, HALF)
 }
 
 /// Holds an entry until another thread has told that it is done.
@@ -91,66 +86,41 @@ fn adds_beside<C: Threaded, R: Wait>(
 }
 
 /// Returns whether a key goes into the second stripe while an entry of the first stripe is held.
-fn leaves_other<C: Threaded + Sync, R: Threads + Wait + Sync>(rt: &R, container: &C) -> bool {
+pub(crate) fn leaves_other<C: Threaded + Sync, R: Threads + Wait + Sync>(
+    rt: &R,
+    container: &C,
+) -> bool {
     let flags = Flags::new();
+    let added_both = adds_both(rt, container);
     let (held, added) = join(
         rt,
         || holds(rt, container, 1, &flags.first, &flags.second),
         || { adds_beside(rt, container, HALF + 1, &flags.first, &flags.second) },
     );
-    held && added && container.count(rt) == 3
-}
-
-fn leaves_other_stripe<C: Threaded + Sync + Drop, R: Threads + Wait + Sync>(
-    rt: &R,
-    alloc: Global,
-) -> bool {
-    match two_keys::<C, R>(rt, alloc) {
-        Some(container) => leaves_other(rt, &container),
-        None => false,
-    }
+    added_both && held && added && container.count(rt) == 3
 }
 
 #[test]
 fn held_entry_other_stripe(rt: HostRuntime) {
-    let right = [
-        leaves_other_stripe::<Map, _>(&rt, rt.alloc()),
-        leaves_other_stripe::<Set, _>(&rt, rt.alloc()),
-        leaves_other_stripe::<Index, _>(&rt, rt.alloc()),
-        leaves_other_stripe::<Cache, _>(&rt, rt.alloc()),
-    ];
+    let right = holds_in_each(&rt, rt.alloc(), Trial::OtherStripe);
     expect_eq(&rt, right, [true; 4]);
 }
 
 /// Returns whether two threads can read one key at once.
-fn share<C: Threaded + Sync, R: Threads + Wait + Sync>(rt: &R, container: &C) -> bool {
+pub(crate) fn share<C: Threaded + Sync, R: Threads + Wait + Sync>(rt: &R, container: &C) -> bool {
     let flags = Flags::new();
+    let added_both = adds_both(rt, container);
     let (one, other) = join(
         rt,
         || reads(rt, container, &flags.first, &flags.second),
         || reads(rt, container, &flags.second, &flags.first),
     );
-    one && other
-}
-
-fn readers_share<C: Threaded + Sync + Drop, R: Threads + Wait + Sync>(
-    rt: &R,
-    alloc: Global,
-) -> bool {
-    match two_keys::<C, R>(rt, alloc) {
-        Some(container) => share(rt, &container),
-        None => false,
-    }
+    added_both && one && other
 }
 
 #[test]
 fn two_readers_one_stripe(rt: HostRuntime) {
-    let right = [
-        readers_share::<Map, _>(&rt, rt.alloc()),
-        readers_share::<Set, _>(&rt, rt.alloc()),
-        readers_share::<Index, _>(&rt, rt.alloc()),
-        readers_share::<Cache, _>(&rt, rt.alloc()),
-    ];
+    let right = holds_in_each(&rt, rt.alloc(), Trial::Readers);
     expect_eq(&rt, right, [true; 4]);
 }
 
@@ -186,12 +156,15 @@ fn part<C: Threaded, R: Wait>(
 
 /// Returns whether this way over all keys releases the first stripe before it takes the second. A way that didn't would
 /// keep the third thread out for as long as the second thread looks for it.
-fn lets_go<C: Threaded + Sync, R: Threads + Wait + Sync>(
+pub(crate) fn lets_go<C: Threaded + Sync, R: Threads + Wait + Sync>(
     rt: &R,
     alloc: Global,
     container: &C,
     way: Way,
 ) -> bool {
+    if !adds_both(rt, container) {
+        return false;
+    }
     let flags = Flags::new();
     match map_indices(
         rt,
@@ -204,17 +177,6 @@ fn lets_go<C: Threaded + Sync, R: Threads + Wait + Sync>(
     }
 }
 
-fn lets_go_first<C: Threaded + Sync + Drop, R: Threads + Wait + Sync>(
-    rt: &R,
-    alloc: Global,
-    way: Way,
-) -> bool {
-    match two_keys::<C, R>(rt, alloc) {
-        Some(container) => lets_go(rt, alloc, &container, way),
-        None => false,
-    }
-}
-
 /// Returns whether each of the first `ways` ways releases the first stripe first. Stops at the first way that doesn't.
 fn let_go_first<C: Threaded + Sync + Drop, R: Threads + Wait + Sync>(
     rt: &R,
@@ -222,7 +184,7 @@ fn let_go_first<C: Threaded + Sync + Drop, R: Threads + Wait + Sync>(
     ways: usize,
 ) -> bool {
     for way in WAYS.iter().take(ways) {
-        if !lets_go_first::<C, R>(rt, alloc, *way) {
+        if !holds_in::<C, R>(rt, alloc, Trial::LetsGo(*way)) {
             return false;
         }
     }

@@ -2,11 +2,10 @@
 use crate::expect::{expect, expect_eq};
 use scc_script::same::Same;
 use scc_shared_map::HashMap;
-use std::alloc::{AllocError, Global};
+use std::alloc::Global;
 use std::process::Abort;
 use std::sync::Wait;
-use std::test::Fail;
-use std::thread::join;
+use std::thread::{Threads, join};
 
 type Map = HashMap<u64, u64, Same>;
 
@@ -14,43 +13,48 @@ type Map = HashMap<u64, u64, Same>;
 const HALF: u64 = 1 << 63;
 
 /// Returns the stripe and the bucket of the greatest hash, and the capacity, of a map for `slots` slots.
-fn greatest(
-    rt: &impl Wait,
-    alloc: Global,
-    slots: usize,
-) -> Result<(usize, usize, usize), AllocError> {
-    let made: Result<Map, _> = HashMap::with_capacity_and_hasher(alloc, slots, Same);
-    match made {
-        Ok(map) => Ok((
+fn greatest(rt: &impl Wait, alloc: Global, slots: usize) -> Option<(usize, usize, usize)> {
+    match Map::with_capacity_and_hasher(alloc, slots, Same) {
+        Ok(map) => Some((
             map.stripe_of(&u64::MAX),
             map.bucket_index(rt, &u64::MAX),
             map.capacity(rt),
         )),
-        Err(_) => Err(AllocError),
+        Err(_) => None,
     }
 }
 
 #[test]
-fn shared_map_of_sixteen_stripes(rt: HostRuntime) -> Result<(), Fail> {
-    let alloc = rt.alloc();
-    expect_eq(&rt, greatest(&rt, alloc, 0)?, (15, 0, 0));
-    expect_eq(&rt, greatest(&rt, alloc, 256)?, (3, 1, 256));
-    expect_eq(&rt, greatest(&rt, alloc, 10_000)?, (15, 31, 16_384));
-    Ok(())
+fn shared_map_of_sixteen_stripes(rt: HostRuntime) {
+    for (slots, wanted) in [
+        (0, (15, 0, 0)),
+        (256, (3, 1, 256)),
+        (10_000, (15, 31, 16_384)),
+    ] {
+        expect_eq(&rt, greatest(&rt, rt.alloc(), slots), Some(wanted));
+    }
+}
+
+/// Ends a reservation while the entry of key 1 is held. Returns the old and the new value of the key.
+fn reserve_under_entry(rt: &impl Wait, map: &Map) -> Option<(u64, u64)> {
+    let reserve = map.reserve(rt, 1000)?;
+    let mut entry = map.get_sync(rt, &1)?;
+    drop(reserve);
+    let old = entry.insert(11);
+    Some((old, *entry.get()))
 }
 
 #[test]
-fn reserve_drop_under_entry(rt: HostRuntime) -> Result<(), Fail> {
-    let map: Map = HashMap::with_capacity_and_hasher(rt.alloc(), 64, Same)?;
-    expect(&rt, map.insert_sync(&rt, 1, 10).is_ok());
-    let reserve = map.reserve(&rt, 1000).ok_or("so many can be reserved")?;
-    let mut entry = map.get_sync(&rt, &1).ok_or("it is there")?;
-    drop(reserve);
-    let old = entry.insert(11);
-    expect_eq(&rt, (old, *entry.get()), (10, 11));
-    drop(entry);
-    expect_eq(&rt, map.capacity(&rt), 64);
-    Ok(())
+fn reserve_drop_under_entry(rt: HostRuntime) {
+    match Map::with_capacity_and_hasher(rt.alloc(), 64, Same) {
+        Ok(map) => {
+            let inserted = map.insert_sync(&rt, 1, 10).is_ok();
+            let values = reserve_under_entry(&rt, &map);
+            let wanted = (true, Some((10, 11)), 64);
+            expect_eq(&rt, (inserted, values, map.capacity(&rt)), wanted);
+        }
+        Err(_) => expect(&rt, false),
+    }
 }
 
 const ROUNDS: u64 = 500;
@@ -75,16 +79,24 @@ fn walks_round(rt: &impl Wait, map: &Map, from: u64, then: u64) -> bool {
     true
 }
 
+/// Two threads walk over the keys 1 and `HALF` in opposite ways. Returns whether all walks end.
+fn walk_in_both<R: Threads + Wait + Sync>(rt: &R, map: &Map) -> (bool, bool) {
+    join(
+        rt,
+        || walks_round(rt, map, 1, HALF),
+        || walks_round(rt, map, HALF, 1),
+    )
+}
+
 #[test]
-fn walks_in_opposite_ways_end(rt: HostRuntime) -> Result<(), Fail> {
-    let map: Map = HashMap::with_capacity_and_hasher(rt.alloc(), 128, Same)?;
-    expect(&rt, map.insert_sync(&rt, 1, 10).is_ok());
-    expect(&rt, map.insert_sync(&rt, HALF, 20).is_ok());
-    let told = join(
-        &rt,
-        || walks_round(&rt, &map, 1, HALF),
-        || walks_round(&rt, &map, HALF, 1),
-    );
-    expect_eq(&rt, told, (true, true));
-    Ok(())
+fn walks_in_opposite_ways_end(rt: HostRuntime) {
+    match Map::with_capacity_and_hasher(rt.alloc(), 128, Same) {
+        Ok(map) => {
+            let first = map.insert_sync(&rt, 1, 10).is_ok();
+            let second = map.insert_sync(&rt, HALF, 20).is_ok();
+            expect(&rt, first && second);
+            expect_eq(&rt, walk_in_both(&rt, &map), (true, true));
+        }
+        Err(_) => expect(&rt, false),
+    }
 }

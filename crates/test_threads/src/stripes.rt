@@ -2,6 +2,7 @@
 // `Same` the highest bits of a key name its stripe, and the bits after them its bucket.
 use crate::expect::expect_eq;
 use crate::kinds::{Cache, Index, Map, Set, Threaded, Visit, Way};
+use crate::trials::{Trial, holds_in_each};
 use scc_cache::locked::Entry as CacheEntry;
 use scc_owned::index::locked::Entry as IndexEntry;
 use scc_owned::map::locked::Entry as MapEntry;
@@ -98,20 +99,20 @@ fn fills_each<C: Threaded, R: Wait>(rt: &R, container: &C) -> bool {
 }
 
 /// Returns whether this way over all keys goes from each stripe to the next, from the first to the last.
-fn goes_in_order<C: Threaded + Drop, R: Wait>(rt: &R, alloc: Global, way: Way) -> bool {
+pub(crate) fn goes_in_order<C: Threaded, R: Wait>(
+    rt: &R,
+    alloc: Global,
+    container: &C,
+    way: Way,
+) -> bool {
     let mut order = InOrder {
         next: 0,
         right: true,
     };
-    match C::make(alloc, 1024) {
-        Some(made) => {
-            fills_each(rt, &made)
-                && made.go_over(rt, alloc, way, &mut order)
-                && order.right
-                && order.next == 16
-        }
-        None => false,
-    }
+    fills_each(rt, container)
+        && container.go_over(rt, alloc, way, &mut order)
+        && order.right
+        && order.next == 16
 }
 
 /// The ways over all keys that go from stripe to stripe. A kind without entries walks instead of the last two.
@@ -124,27 +125,12 @@ const WAYS: [Way; 6] = [
     Way::Remove,
 ];
 
-/// Returns how many ways go in order, counted up to the first that doesn't.
-fn ways_in_order<C: Threaded + Drop, R: Wait>(rt: &R, alloc: Global) -> usize {
-    let mut right = 0usize;
-    for way in WAYS {
-        if !goes_in_order::<C, R>(rt, alloc, way) {
-            return right;
-        }
-        right = right.saturating_add(1);
-    }
-    right
-}
-
 #[test]
 fn every_way_goes_from_stripe_to_stripe(rt: HostRuntime) {
-    let right = [
-        ways_in_order::<Map, _>(&rt, rt.alloc()),
-        ways_in_order::<Set, _>(&rt, rt.alloc()),
-        ways_in_order::<Index, _>(&rt, rt.alloc()),
-        ways_in_order::<Cache, _>(&rt, rt.alloc()),
-    ];
-    expect_eq(&rt, right, [6; 4]);
+    for way in WAYS {
+        let right = holds_in_each(&rt, rt.alloc(), Trial::InOrder(way));
+        expect_eq(&rt, right, [true; 4]);
+    }
 }
 
 // A container whose entries tell their stripe.

@@ -1,26 +1,36 @@
 // Versions of a shared index: snapshots beside threads that publish new versions, and what an empty index hands out.
-use crate::expect::expect_eq;
+use crate::expect::{expect, expect_eq};
 use scc_shared_index::HashIndex;
 use std::process::Abort;
 use std::sync::Wait;
-use std::test::Fail;
-use std::thread::join;
+use std::thread::{Threads, join};
 
 type Pairs = HashIndex<u64, (u64, u64)>;
 
 const ROUNDS: u64 = 200;
 
+/// Returns whether a snapshot has no version.
+fn shows_nothing(rt: &impl Wait, index: &HashIndex<u64, u64>) -> bool {
+    match index.iter(rt) {
+        Ok(mut versions) => versions.next().is_none(),
+        Err(_) => false,
+    }
+}
+
 #[test]
-fn shared_index_missing_key(rt: HostRuntime) -> Result<(), Fail> {
-    let index: HashIndex<u64, u64> = HashIndex::new(rt.alloc())?;
-    let missing = (
-        index.peek(&rt, &1)?.is_none(),
-        index.get_sync(&rt, &1).is_none(),
-        index.begin_sync(&rt).is_none(),
-        index.iter(&rt)?.next().is_none(),
-    );
-    expect_eq(&rt, missing, (true, true, true, true));
-    Ok(())
+fn shared_index_missing_key(rt: HostRuntime) {
+    match HashIndex::new(rt.alloc()) {
+        Ok(index) => {
+            let missing = [
+                matches!(index.peek(&rt, &1), Ok(None)),
+                index.get_sync(&rt, &1).is_none(),
+                index.begin_sync(&rt).is_none(),
+                shows_nothing(&rt, &index),
+            ];
+            expect_eq(&rt, missing, [true; 4]);
+        }
+        Err(_) => expect(&rt, false),
+    }
 }
 
 /// Publishes version after version of a key. Both halves of a value are equal. Returns whether each was published.
@@ -63,17 +73,25 @@ fn look_often(rt: &impl Wait, index: &Pairs) -> bool {
     true
 }
 
+/// Two threads publish versions of a key each.
+fn publish_both<R: Threads + Wait + Sync>(rt: &R, index: &Pairs) -> (bool, bool) {
+    join(rt, || publish(rt, index, 0), || publish(rt, index, 1))
+}
+
+/// Two threads publish while a third takes snapshots.
+fn look_beside<R: Threads + Wait + Sync>(rt: &R, index: &Pairs) -> ((bool, bool), bool) {
+    join(rt, || publish_both(rt, index), || look_often(rt, index))
+}
+
 #[test]
-fn snapshot_versions_are_whole(rt: HostRuntime) -> Result<(), Fail> {
-    let index: Pairs = HashIndex::new(rt.alloc())?;
-    let first = index.insert_sync(&rt, 0, (0, 0)).is_ok();
-    let second = index.insert_sync(&rt, 1, (0, 0)).is_ok();
-    expect_eq(&rt, (first, second), (true, true));
-    let told = join(
-        &rt,
-        || join(&rt, || publish(&rt, &index, 0), || publish(&rt, &index, 1)),
-        || look_often(&rt, &index),
-    );
-    expect_eq(&rt, told, ((true, true), true));
-    Ok(())
+fn snapshot_versions_are_whole(rt: HostRuntime) {
+    match Pairs::new(rt.alloc()) {
+        Ok(index) => {
+            let first = index.insert_sync(&rt, 0, (0, 0)).is_ok();
+            let second = index.insert_sync(&rt, 1, (0, 0)).is_ok();
+            expect(&rt, first && second);
+            expect_eq(&rt, look_beside(&rt, &index), ((true, true), true));
+        }
+        Err(_) => expect(&rt, false),
+    }
 }

@@ -1,7 +1,8 @@
 // Walks of every way beside two threads that write: each of a hundred keys that nobody touches is met once, while
 // other keys come and go, and arrays grow and shrink.
 use crate::expect::expect_eq;
-use crate::kinds::{Cache, Index, Map, Set, Threaded, Visit, Way};
+use crate::kinds::{Index, Map, Set, Threaded, Visit, Way};
+use crate::trials::{Trial, holds_in, holds_in_each};
 use std::alloc::Global;
 use std::process::Abort;
 use std::sync::Wait;
@@ -126,12 +127,15 @@ fn fills<C: Threaded, R: Wait>(rt: &R, container: &C) -> bool {
 }
 
 /// Returns whether all walks are right beside writers of `moved` keys, and only the kept keys are left.
-fn walk_beside<C: Threaded + Sync, R: Threads + Wait + Sync>(
+pub(crate) fn walks_beside<C: Threaded + Sync, R: Threads + Wait + Sync>(
     rt: &R,
     alloc: Global,
     container: &C,
     moved: u64,
 ) -> bool {
+    if !fills(rt, container) {
+        return false;
+    }
     let ended = Flags::new();
     match map_indices(
         rt,
@@ -144,36 +148,19 @@ fn walk_beside<C: Threaded + Sync, R: Threads + Wait + Sync>(
     }
 }
 
-/// Returns whether these walks are right in a container for `slots` slots.
-fn walks<C: Threaded + Sync + Drop, R: Threads + Wait + Sync>(
-    rt: &R,
-    alloc: Global,
-    slots: usize,
-    moved: u64,
-) -> bool {
-    match C::make(alloc, slots) {
-        Some(container) => fills(rt, &container) && walk_beside(rt, alloc, &container, moved),
-        None => false,
-    }
-}
-
 #[test]
 fn walks_meet_untouched_keys_once(rt: HostRuntime) {
-    let right = [
-        walks::<Map, _>(&rt, rt.alloc(), SLOTS, 100),
-        walks::<Set, _>(&rt, rt.alloc(), SLOTS, 100),
-        walks::<Index, _>(&rt, rt.alloc(), SLOTS, 100),
-        walks::<Cache, _>(&rt, rt.alloc(), SLOTS, 100),
-    ];
+    let right = holds_in_each(&rt, rt.alloc(), Trial::Walks(100, SLOTS));
     expect_eq(&rt, right, [true; 4]);
 }
 
 #[test]
 fn walks_meet_untouched_keys_once_beside_growth(rt: HostRuntime) {
+    let growth = Trial::Walks(400, 0);
     let right = [
-        walks::<Map, _>(&rt, rt.alloc(), 0, 400),
-        walks::<Set, _>(&rt, rt.alloc(), 0, 400),
-        walks::<Index, _>(&rt, rt.alloc(), 0, 400),
+        holds_in::<Map, _>(&rt, rt.alloc(), growth),
+        holds_in::<Set, _>(&rt, rt.alloc(), growth),
+        holds_in::<Index, _>(&rt, rt.alloc(), growth),
     ];
     expect_eq(&rt, right, [true; 3]);
 }

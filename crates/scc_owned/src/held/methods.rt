@@ -33,7 +33,7 @@ where
     pub fn key(&self) -> &E::Key
         ensures { result.now ≡ vacant_key self.now }
     {
-        &self.key
+        &self.key.key
     }
 }
 
