@@ -417,7 +417,7 @@ fn marked(map: &Marked, number: u64) -> Option<(u64, u64, u64)> {
 fn replace(map: &mut Marked, number: u64, mark: u64) -> Option<(u64, u64, u64)> {
     match map.replace_sync(MaybeEqual(number, mark)) {
         ReplaceResult::Replaced(entry, old) => Some((old.1, entry.key().1, *entry.get())),
-        ReplaceResult::NotReplaced(_) => None,
+        ReplaceResult::NotReplaced(_entry) => None,
     }
 }
 

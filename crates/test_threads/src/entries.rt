@@ -90,7 +90,7 @@ fn drops_entered(rt: &impl Wait, map: &Map, dropped: Dropped) {
 fn takes_key(rt: &impl Wait, map: &Map) -> bool {
     match map.entry_sync(rt, 2) {
         HeldEntry::Vacant(entry) => entry.into_key() == 2,
-        HeldEntry::Occupied(_) => false,
+        HeldEntry::Occupied(_entry) => false,
     }
 }
 
@@ -112,10 +112,20 @@ fn leaves(rt: &impl Wait, map: &Map, dropped: Dropped) -> bool {
 /// Replaces a key, and looks at the entry. Returns whether the key was there.
 fn replaces(rt: &impl Wait, map: &Map, key: u64) -> Option<bool> {
     match map.replace_sync(rt, key) {
-        HeldReplace::Replaced(entry, old) if old == key && *entry.get() == 10 => Some(true),
-        HeldReplace::Replaced(_, _) => None,
-        HeldReplace::NotReplaced(entry) if *entry.key() == key => Some(false),
-        HeldReplace::NotReplaced(_) => None,
+        HeldReplace::Replaced(entry, old) => {
+            if old == key && *entry.get() == 10 {
+                Some(true)
+            } else {
+                None
+            }
+        }
+        HeldReplace::NotReplaced(entry) => {
+            if *entry.key() == key {
+                Some(false)
+            } else {
+                None
+            }
+        }
     }
 }
 

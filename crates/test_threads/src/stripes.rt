@@ -144,7 +144,7 @@ impl Telling for Map {
     fn told<R: Wait>(&self, rt: &R, key: u64) -> Option<[usize; 3]> {
         let vacant = match self.entry_sync(rt, key) {
             MapEntry::Vacant(entry) => entry.stripe(),
-            MapEntry::Occupied(_) => return None,
+            MapEntry::Occupied(_entry) => return None,
         };
         if !self.add(rt, key) {
             return None;
@@ -173,7 +173,7 @@ impl Telling for Index {
     fn told<R: Wait>(&self, rt: &R, key: u64) -> Option<[usize; 3]> {
         let vacant = match self.entry_sync(rt, key) {
             IndexEntry::Vacant(entry) => entry.stripe(),
-            IndexEntry::Occupied(_) => return None,
+            IndexEntry::Occupied(_entry) => return None,
         };
         if !self.add(rt, key) {
             return None;
@@ -189,7 +189,7 @@ impl Telling for Cache {
     fn told<R: Wait>(&self, rt: &R, key: u64) -> Option<[usize; 3]> {
         let vacant = match self.entry_sync(rt, key) {
             CacheEntry::Vacant(entry) => entry.stripe(),
-            CacheEntry::Occupied(_) => return None,
+            CacheEntry::Occupied(_entry) => return None,
         };
         if !self.add(rt, key) {
             return None;

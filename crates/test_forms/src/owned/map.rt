@@ -190,7 +190,7 @@ impl Form for Owned<Token, Token, Masked> {
             ReplaceResult::Replaced(entry, old) => {
                 Answer::Swapped(Some(old.mark()), Some(seen(entry.key(), entry.get())))
             }
-            ReplaceResult::NotReplaced(_) => Answer::Swapped(None, None),
+            ReplaceResult::NotReplaced(_entry) => Answer::Swapped(None, None),
         }
     }
 
