@@ -17,7 +17,7 @@ use Rattle.scc_common.specs.declared.errors.InsertError.{InsertError}
 use Rattle.scc_common.specs.declared.errors.InsertError.TheVariants.{Exists, Memory}
 use Rattle.scc_table.proofs.places.Replies.{find-key}
 use Rattle.scc_owned.specs.IndexSteps.{RemovesIf, Inserts, Removes}
-use Rattle.scc_stripes.specs.Minimums.{FollowsMinimum}
+use Rattle.scc_owned.specs.Sizes.{FollowsMinimum}
 use Rattle.scc_rules.specs.Rules.{AllKeep, IsKeptAt, KeepsAll, ReadsKept}
 use Rattle.scc_rules.proofs.Lists.{all-moved, all-removed, all-found}
 use Rattle.scc_ruled_index.specs.Replies.{PassesKept}
@@ -103,8 +103,8 @@ module _ {K V S : Type 0} (holds : K → V → Type 0) (c : Contents (K × V) S)
   pub kept-none : entries c ≡ [] → KeepsAll holds c
   kept-none none = subst (AllByRecursion (λ (p : K × V). holds p.0 p.1)) (sym none) tt
 
-  pub kept-followed : (eq : K → K → Bool) (share : ℕ) (d : Contents (K × V) S) → FollowsMinimum eq c share d → KeepsAll holds c → KeepsAll holds d
-  kept-followed eq share d s h =
+  pub kept-followed : {Distinct : Contents (K × V) S → Type 0} (share : ℕ) (d : Contents (K × V) S) → FollowsMinimum Distinct c share d → KeepsAll holds c → KeepsAll holds d
+  kept-followed share d s h =
       let whole : IsPermutation (entries c) (entries d) → KeepsAll holds d = λ m. all-moved (λ (p : K × V). holds p.0 p.1) (entries c) (entries d) m h in
       let same : IsUnchanged c d → KeepsAll holds d = λ x. subst (AllByRecursion (λ (p : K × V). holds p.0 p.1)) (sym x.exact) h in
       elim (cases_lt share (settings_of c).asked) [

@@ -1,5 +1,6 @@
 //! How a stripe of an index under a rule is made, and follows its share of the minimum.
-ghost use Rattle.scc_stripes.specs.Minimums.{FollowsMinimum};
+ghost use Rattle.scc_common.specs.Pairs.{IsUnique};
+ghost use Rattle.scc_owned.specs.Sizes.{FollowsMinimum};
 ghost use Rattle.scc_table.specs.Making.{MakesEmpty};
 ghost use Rattle.std.specs.Arc.{arc_value};
 ghost use Rattle.std.specs.Prelude.{◌≤◌, ◌^◌, IfOk, Ok};
@@ -26,7 +27,7 @@ impl<K: Eq + Hash, V, R: Rule<K, V>, H: BuildHasher> Follow for Kept<K, V, R, H>
     #[inline(always)]
     fn follow(&mut self, share: usize)
         requires { share ≤ 2 ^ 63 }
-        ensures { FollowsMinimum K.eq self.old share self.new }
+        ensures { FollowsMinimum (IsUnique K.eq) self.old share self.new }
     {
         self.index.follow_minimum(share);
     }
