@@ -8,7 +8,7 @@ ghost use Rattle.scc_play.specs.Ended.{IfPlayed};
 ghost use Rattle.scc_play.specs.Kinds.{MapPlayed, SetPlayed, IndexPlayed, CachePlayed, MapPlayedFor, SetPlayedFor, IndexPlayedFor, CachePlayedFor};
 
 use crate::ends::End;
-use crate::stripes::{calls_of_workers, finish_run};
+use crate::finishing::{calls_of_workers, finish_run};
 use crate::worker::{passes_of, workers_of};
 use scc_cache::Owned as OwnedCache;
 use scc_calls::{CacheCall, IndexCall, MapCall, SetCall};
