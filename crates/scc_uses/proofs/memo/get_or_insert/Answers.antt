@@ -16,7 +16,7 @@ returns-clause-stored c =
     let h : FindsInstead nat_eq (entries c.args.values.now) c.args.key (Some (occupied_pair o)) (entries o.guard.now) =
     finds-or_insert nat_eq_equiv c.args.values.now c.args.key c.entry_sync.result c.args.default o c.entry_sync.ensures.entry c.in_ok-entry.ensures.inserts.entry c.in_ok-entry.ensures.inserts.unique in
     let key : (occupied_pair o).0 ≡ c.args.key = (elim c.entry_sync.result as (λ e. IsEntryOf nat_eq c.args.values.now c.args.key e → OrInserts e c.args.default o → (occupied_pair o).0 ≡ c.args.key) [
-      | Occupied p ↦ λ at is. ap (λ q. (occupied_pair q).0) is ∙ sym (eqb-true c.args.key (occupied_pair p).0 at.equal)
+      | Occupied p ↦ λ at is. rw is (sym (eqb-true c.args.key (occupied_pair p).0 at.equal))
       | Vacant d ↦ λ at is. ap (λ x. x.0) is.at.here ∙ at.key
     ]) c.entry_sync.ensures.entry c.in_ok-entry.ensures.inserts.entry in
     let pair : occupied_pair o ≡ (c.args.key, c.get.result.now) = ap (λ k. (k, (occupied_pair o).1)) key ∙ ap (λ v. (c.args.key, v)) (sym c.get.ensures) in
