@@ -4,7 +4,7 @@ use crate::request::Request;
 use bench_kit::arguments::out_of_memory;
 use bench_kit::report::{crew_check, crew_line};
 use bench_kit::streams::{Streams, value};
-use scc_shared_index::HashIndex;
+use scc_shared::index::HashIndex;
 use std::alloc::Global;
 use std::io;
 use std::rt::Clock;

@@ -5,7 +5,7 @@ use bench_kit::arguments::out_of_memory;
 use bench_kit::report::{check, line};
 use bench_kit::resident::{most_resident, resident};
 use bench_kit::streams::{Streams, value};
-use scc_shared_map::HashMap;
+use scc_shared::map::HashMap;
 use std::alloc::Global;
 use std::io;
 use std::rt::Files;

@@ -6,7 +6,7 @@ use bench_kit::arguments::out_of_memory;
 use bench_kit::report::{crew_check, crew_line};
 use bench_kit::steps::{Spread, Step, crew_steps};
 use bench_kit::streams::{Streams, value};
-use scc_shared_map::HashMap;
+use scc_shared::map::HashMap;
 use std::alloc::Global;
 use std::io;
 use std::rt::Clock;

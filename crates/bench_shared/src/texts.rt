@@ -5,7 +5,7 @@ use crate::request::Request;
 use bench_kit::arguments::out_of_memory;
 use bench_kit::report::{crew_check, crew_line};
 use bench_kit::streams::value;
-use scc_shared_map::HashMap;
+use scc_shared::map::HashMap;
 use std::alloc::{AllocError, Global};
 use std::hash::RandomState;
 use std::io;

@@ -6,4 +6,4 @@ pub use scc_common::Version;
 pub use scc_owned::index::locked::{Entry, OccupiedEntry, VacantEntry};
 pub use scc_owned::index::{Iter, Owned, borrowed as owned};
 pub use scc_ruled_index::RuledIndex;
-pub use scc_shared_index::{HashIndex, Reserve};
+pub use scc_shared::index::{HashIndex, Reserve};

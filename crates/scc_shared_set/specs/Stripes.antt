@@ -1,7 +1,7 @@
 -- The stripes and the hasher of a set, which are those of its map.
 use Rattle.scc_common.specs.Contents.{Contents}
 use Rattle.scc_stripes.specs.declared.Striped.{Striped}
-use Rattle.scc_shared_map.specs.Stripes as map
+use Rattle.scc_shared.specs.Stripes as map
 use Rattle.scc_shared_set.specs.declared.HashSet.{HashSet}
 
 module _ {K H T : Type 0} where

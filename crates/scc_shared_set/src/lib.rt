@@ -14,12 +14,17 @@ mod whole;
 
 pub use entries::{HeldKey, OccupiedEntry};
 use scc_common::MakeError;
-use scc_shared_map::HashMap;
+use scc_shared::map::HashMap;
 use std::alloc::Global;
 use std::hash::{BuildHasher, BuildHasherDefault, FoldHasher, Hash};
 
 /// Slots that are reserved in a set until this token is dropped. The drop waits for no lock.
-pub type Reserve<'h, K, H = BuildHasherDefault<FoldHasher>> = scc_shared_map::Reserve<'h, K, (), H>;
+pub type Reserve<'h, K, H = BuildHasherDefault<FoldHasher>> = scc_shared::map::Reserve<
+    'h,
+    K,
+    (),
+    H,
+>;
 
 /// A set of keys that threads share by reference. It is a map with unit values: each of its stripes is an owned map
 /// behind a lock, and a call takes the lock of the stripe of its key.

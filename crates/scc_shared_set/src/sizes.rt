@@ -3,7 +3,7 @@ ghost use Rattle.std.specs.Prelude.{◌≡◌, ◌<◌, ◌≤◌, ◌^◌, IfSo
 ghost use Rattle.scc_common.specs.Routing.{stripe_of};
 ghost use Rattle.scc_stripes.specs.Stripes.{stripe_count};
 ghost use Rattle.scc_shared_set.specs.Stripes.{hasher_of, stripes_of};
-ghost use Rattle.scc_shared_map.specs.Reserves.{reserved_slots};
+ghost use Rattle.scc_shared.specs.Reserves.{reserved_slots};
 
 use super::{HashSet, Reserve};
 use std::hash::{BuildHasher, Hash};

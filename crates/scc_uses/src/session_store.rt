@@ -3,7 +3,7 @@ ghost use Rattle.std.specs.Prelude.{◌≡◌, ◌≤◌, ◌⊎◌, IfErr, IfSo
 ghost use Rattle.scc_owned.specs.Entries.{Exists, Memory};
 
 use scc_common::{InsertError, MakeError};
-use scc_shared_map::HashMap;
+use scc_shared::map::HashMap;
 use std::alloc::Global;
 use std::sync::Wait;
 

@@ -7,7 +7,7 @@ ghost use Rattle.scc_owned.specs.Entries.{Memory};
 use crate::routing::Route;
 use scc_common::{InsertError, MakeError, Version};
 use scc_owned::index::locked::Entry;
-use scc_shared_index::HashIndex;
+use scc_shared::index::HashIndex;
 use std::alloc::Global;
 use std::sync::{Arc, Wait};
 use std::thread::{Threads, join};

@@ -1,9 +1,9 @@
 //! A case, tried in every kind and form of container.
 
 use crate::held::Held;
+use scc_shared::index::HashIndex;
+use scc_shared::map::HashMap;
 use scc_shared_cache::HashCache;
-use scc_shared_index::HashIndex;
-use scc_shared_map::HashMap;
 use scc_shared_set::HashSet;
 use std::alloc::{AllocError, Global};
 use std::sync::Wait;

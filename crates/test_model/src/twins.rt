@@ -3,9 +3,9 @@
 
 use crate::draws::{Call, Draws};
 use crate::tally::Tally;
+use scc_shared::index::HashIndex;
+use scc_shared::map::HashMap;
 use scc_shared_cache::HashCache;
-use scc_shared_index::HashIndex;
-use scc_shared_map::HashMap;
 use scc_shared_set::HashSet;
 use std::alloc::{AllocError, Global};
 use std::sync::Wait;

@@ -1,6 +1,6 @@
 //! Versions that a reader keeps: they live as long as they have an owner, and are dropped once.
 
-use scc_shared_index::HashIndex;
+use scc_shared::index::HashIndex;
 use std::alloc::{AllocError, Global};
 use std::rc::Rc;
 use std::sync::Wait;

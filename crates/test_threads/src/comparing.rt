@@ -2,9 +2,9 @@
 use crate::expect::{expect, expect_eq};
 use crate::kinds::{Cache, Index, Map, Set, Threaded};
 use crate::trials::{Trial, holds_in_each};
+use scc_shared::index::HashIndex;
+use scc_shared::map::HashMap;
 use scc_shared_cache::HashCache;
-use scc_shared_index::HashIndex;
-use scc_shared_map::HashMap;
 use scc_shared_set::HashSet;
 use std::alloc::Global;
 use std::process::Abort;

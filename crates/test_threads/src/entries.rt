@@ -2,7 +2,7 @@
 use crate::expect::{expect, expect_eq};
 use scc_owned::held::{HeldEntry, HeldReplace};
 use scc_script::same::Same;
-use scc_shared_map::HashMap;
+use scc_shared::map::HashMap;
 use std::process::Abort;
 use std::sync::Wait;
 

@@ -5,9 +5,9 @@ mod map;
 mod set;
 
 use scc_script::same::Same;
+use scc_shared::index::HashIndex;
+use scc_shared::map::HashMap;
 use scc_shared_cache::HashCache;
-use scc_shared_index::HashIndex;
-use scc_shared_map::HashMap;
 use scc_shared_set::HashSet;
 use std::alloc::Global;
 use std::sync::Wait;

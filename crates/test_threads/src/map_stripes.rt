@@ -1,7 +1,7 @@
 // Stripes of a shared map: which key lies in which stripe, what a reservation that ends does beside a held entry.
 use crate::expect::{expect, expect_eq};
 use scc_script::same::Same;
-use scc_shared_map::HashMap;
+use scc_shared::map::HashMap;
 use std::alloc::Global;
 use std::process::Abort;
 use std::sync::Wait;

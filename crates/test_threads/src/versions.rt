@@ -1,6 +1,6 @@
 // Versions of a shared index: snapshots beside threads that publish new versions, and what an empty index hands out.
 use crate::expect::{expect, expect_eq};
-use scc_shared_index::HashIndex;
+use scc_shared::index::HashIndex;
 use std::process::Abort;
 use std::sync::Wait;
 use std::thread::{Threads, join};

@@ -4,7 +4,7 @@ use crate::held::{Held, walked};
 use scc_common::InsertError;
 use scc_fallible::TryInsertError;
 use scc_owned::index::locked::{Entry, OccupiedEntry};
-use scc_shared_index::HashIndex;
+use scc_shared::index::HashIndex;
 use std::sync::Wait;
 use test_forms::answers::{Answer, Kind, refused, untried};
 use test_forms::form::{Act, At, Form, Sizes, Way};

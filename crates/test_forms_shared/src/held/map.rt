@@ -4,7 +4,7 @@ use crate::held::{Held, walked};
 use scc_common::InsertError;
 use scc_fallible::TryInsertError;
 use scc_owned::map::locked::{Entry, OccupiedEntry, ReplaceResult};
-use scc_shared_map::HashMap;
+use scc_shared::map::HashMap;
 use std::alloc::Global;
 use std::sync::Wait;
 use test_forms::answers::{Answer, Kind, Rule, raise_and_keep, refused, untried, verdict};

@@ -1,7 +1,7 @@
 // The index.
 use super::{Index, MOST, Threaded, Visit, Way};
 use scc_script::same::Same;
-use scc_shared_index::HashIndex;
+use scc_shared::index::HashIndex;
 use std::alloc::Global;
 use std::sync::Wait;
 

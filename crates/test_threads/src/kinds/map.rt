@@ -2,7 +2,7 @@
 use super::{MOST, Map, Threaded, Visit, Way};
 use scc_common::Verdict;
 use scc_script::same::Same;
-use scc_shared_map::HashMap;
+use scc_shared::map::HashMap;
 use std::alloc::Global;
 use std::sync::Wait;
 

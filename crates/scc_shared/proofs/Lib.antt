@@ -1,0 +1,2 @@
+mod IndexJoined
+mod IndexReplies

@@ -1,0 +1,11 @@
+use Rattle.std.proofs.Common.{List}
+use Rattle.scc_common.specs.Walks.{CalledOn}
+use Rattle.scc_common.specs.PairWalks.{Declines}
+use Rattle.scc_stripes.specs.Walks.{AreOfStripes}
+use Rattle.scc_shared.proofs.map.walks.HashMap+K+V+H.any_sync.Given as goal
+
+abbrev pub invariant-loop-stripe : goal.invariant-loop-stripe
+invariant-loop-stripe g l = record {
+  always : goal.P-IsAlwaysCallable g l.p;
+  seen : (es : List (g.row.K.Denot × g.row.V.Denot)) × Declines (CalledOn g.P.FnMut) l.fn.p es l.p × AreOfStripes g.K.PartialEq.eq (λ p. p.0) l.stripe es;
+}

@@ -1,0 +1,10 @@
+use Rattle.std.proofs.Common.{List}
+use Rattle.scc_common.specs.PairWalks.{CalledToWrite, Retains}
+use Rattle.scc_stripes.specs.Walks.{AreOfStripes}
+use Rattle.scc_shared.proofs.map.walks.HashMap+K+V+H.retain_sync.Given as goal
+
+abbrev pub invariant-loop-stripe : goal.invariant-loop-stripe
+invariant-loop-stripe g l = record {
+  always : goal.F-IsAlwaysCallable g l.f;
+  seen : (es : List (g.row.K.Denot × g.row.V.Denot)) × (stay : List (g.row.K.Denot × g.row.V.Denot)) × Retains (CalledToWrite g.F.FnMut) l.fn.f es stay l.f × AreOfStripes g.K.PartialEq.eq (λ p. p.0) l.stripe es;
+}

@@ -1,0 +1,3 @@
+pub mod IndexReplies
+pub mod Reserves
+pub mod Stripes

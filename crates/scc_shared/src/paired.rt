@@ -1,0 +1,64 @@
+//! `Paired`: an entry that is read as a key and a value.
+ghost use Rattle.scc_table.specs.Places.{IsPlace};
+
+use scc_buckets::Place;
+use scc_common::SharedVersion;
+use scc_owned::{Owned, Stored};
+use std::hash::{BuildHasher, Hash};
+
+/// An entry that is read as a key and a value: a pair, or a version.
+pub trait Paired: Stored {
+    /// Returns the key and the value of the entry at `place`.
+    fn pair_at<H: BuildHasher>(owned: &Owned<Self, H>, place: Place) -> (&Self::Key, &Self::Value)
+    where
+        Self::Key: Eq + Hash,
+        requires { IsPlace owned.now place };
+
+    /// Returns whether `f` returns true on each pair. Stops at the first pair on which it returns false.
+    fn all<H: BuildHasher, F: FnMut(&Self::Key, &Self::Value) -> bool>(
+        owned: &Owned<Self, H>,
+        f: F,
+    ) -> bool
+    where
+        Self::Key: Eq + Hash,
+        requires { F.IsAlwaysCallable f };
+}
+
+impl<K, V> Paired for (K, V) {
+    #[inline(always)]
+    fn pair_at<H: BuildHasher>(owned: &Owned<(K, V), H>, place: Place) -> (&K, &V)
+    where
+        K: Eq + Hash,
+    {
+        owned.pair_at(place)
+    }
+
+    #[inline(always)]
+    fn all<H: BuildHasher, F: FnMut(&K, &V) -> bool>(owned: &Owned<(K, V), H>, f: F) -> bool
+    where
+        K: Eq + Hash,
+    {
+        owned.iter_sync(f)
+    }
+}
+
+impl<K, V> Paired for SharedVersion<K, V> {
+    #[inline(always)]
+    fn pair_at<H: BuildHasher>(owned: &Owned<SharedVersion<K, V>, H>, place: Place) -> (&K, &V)
+    where
+        K: Eq + Hash,
+    {
+        owned.pair_at(place)
+    }
+
+    #[inline(always)]
+    fn all<H: BuildHasher, F: FnMut(&K, &V) -> bool>(
+        owned: &Owned<SharedVersion<K, V>, H>,
+        f: F,
+    ) -> bool
+    where
+        K: Eq + Hash,
+    {
+        owned.iter_sync(f)
+    }
+}

@@ -1,5 +1,0 @@
-use Rattle.scc_shared_index.proofs.Replies.{removes-passed}
-use Rattle.scc_shared_index.proofs.HashIndex.remove_if_sync.Goals as goal
-
-pub returns : goal.returns
-returns g c = record { answer = removes-passed g.K.PartialEq.eq g.F.FnOnce c.args.f c.deref_mut.result.now c.args.k.now c.remove_if_sync-removed.result _ c.remove_if_sync-removed.ensures.step }

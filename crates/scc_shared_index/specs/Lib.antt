@@ -1,3 +1,0 @@
-pub mod Replies
-pub mod Reserves
-pub mod Stripes

@@ -1,5 +1,0 @@
-use Rattle.scc_owned.proofs.Replies.{inserts-back}
-use Rattle.scc_shared_map.proofs.HashMap.insert_sync.Goals as goal
-
-pub returns : goal.returns
-returns g c = record { back = inserts-back g.K.PartialEq.eq _ c.deref_mut.result.now (c.args.k, c.args.v) c.insert_sync.result _ c.insert_sync.ensures.step }
