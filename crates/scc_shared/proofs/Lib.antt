@@ -1,2 +1,3 @@
 mod IndexJoined
 mod IndexReplies
+mod Missing

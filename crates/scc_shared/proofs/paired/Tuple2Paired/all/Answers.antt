@@ -1,0 +1,5 @@
+use Rattle.scc_common.proofs.WalkLemmas.{CallableWhile-always}
+use Rattle.scc_shared.proofs.paired.Tuple2Paired.all.Goals as goal
+
+pub iter_sync-requires : goal.iter_sync-requires
+iter_sync-requires g c = λ es same. CallableWhile-always g.F.FnMut _ c.args.f es c.requires
