@@ -58,8 +58,6 @@ where
         ensures spilled { overflow_of result ≡ overflow_of current }
         ensures waiting { waiting_of result ≡ [] }
     {
-        current.list_facts();
-        let _overflow = current.overflow_len();
         let alloc = current.allocator();
         Table {
             current,

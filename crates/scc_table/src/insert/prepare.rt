@@ -28,7 +28,6 @@ where
         ensures unique { IsUniqueBy E.Key.eq E.key_of self.new }
     {
         let bucket = self.bucket_for_new(hash)?;
-        self.list_facts();
         if self.pending() > 0 {
             return Ok(());
         }

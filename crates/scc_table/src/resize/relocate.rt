@@ -1,6 +1,6 @@
 //! Relocations: waiting buckets get their entries out of the old array.
 ghost use Rattle.scc_buckets.specs.Bounded.{IsBounded};
-ghost use Rattle.scc_common.specs.Contents.{entries, list_of, pending_of, IsUniqueBy};
+ghost use Rattle.scc_common.specs.Contents.{entries, key_hash, list_of, pending_of, IsRouted, IsUniqueBy};
 ghost use Rattle.scc_table.specs.Relocates.{AreShort};
 ghost use Rattle.scc_table.specs.Relocations.{RelocatesUpTo, RelocatesAll, TriesSecond};
 ghost use Rattle.scc_table.specs.TwoArrays.{IsWaiting, IsFirstWaiting, IsLoneWaiting, IsRelocated, IsSecondWaiting};
@@ -64,6 +64,8 @@ where
         ensures err { OnErr result (self.new ≡ self.old) }
         ensures refused { OnErr result (32 < length (list_of self.old bucket)) }
         ensures bounded { IsBounded self.old → length (list_of self.old bucket) ≤ 32 → IsBounded self.new }
+        ensures routed { IsRouted (λ e. key_hash H.BuildHasher H.Hasher.Hasher E.Key.hash_input self.old (E.key_of e))
+            self.old }
         ensures unique { IsUniqueBy E.Key.eq E.key_of self.new }
     {
         let aside = self.draining.left_overflow;

@@ -43,7 +43,6 @@ where
         ensures within { result < bucket_count self.now }
         ensures small { place.slot + 1 < 2 ^ 64 }
     {
-        let _ = self.current.len();
         let count = self.current.bucket_count();
         if place.bucket < count {
             return place.bucket;

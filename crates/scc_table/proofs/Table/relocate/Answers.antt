@@ -10,7 +10,7 @@ use Rattle.scc_table.proofs.relocations.Fields.{others, last, bare-after, fields
 use Rattle.scc_table.proofs.relocations.Contents.{up-within, one-down}
 use Rattle.scc_table.proofs.arrays.SameParts.{unique-same}
 use Rattle.scc_table.proofs.arrays.Views.{spilled-seen}
-use Rattle.scc_table.proofs.arrays.OneBucket.{flag-up, flags-whole, list-coming, moved-within, old-multiples, old-sized, some-pending, target-within, unique-coming}
+use Rattle.scc_table.proofs.arrays.OneBucket.{flag-up, flags-whole, list-coming, moved-within, old-multiples, old-sized, routed-seen, some-pending, target-within, unique-coming}
 use Rattle.scc_table.proofs.Table.relocate.Goals as goal
 
 pub move_target-requires-clause-target : goal.move_target-requires-clause-target
@@ -224,3 +224,12 @@ pub returns-in-Err-clause-unique : goal.returns-in-Err-clause-unique
 returns-in-Err-clause-unique g c =
     let unique = subst (λ (z : Contents g.row.E.Denot g.row.H.Denot). IsUniqueBy g.E.Key.PartialEq.eq g.E.Keyed.key_of z) c.self.view_is c.self.invariant.unique in
     subst (λ (z : Contents g.row.E.Denot g.row.H.Denot). IsUniqueBy g.E.Key.PartialEq.eq g.E.Keyed.key_of z) (sym (returns-in-Err-clause-err g c)) unique
+
+pub returns-then-self-eq0-clause-routed : goal.returns-then-self-eq0-clause-routed
+returns-then-self-eq0-clause-routed g c = routed-seen g.H.BuildHasher g.H.Hasher.Hasher g.E.Key.Hash.hash_input g.E.Keyed.key_of c.self.invariant c.self.view_is c.move_target.ensures.routed
+
+pub returns-else-self-eq0-clause-routed : goal.returns-else-self-eq0-clause-routed
+returns-else-self-eq0-clause-routed g c = routed-seen g.H.BuildHasher g.H.Hasher.Hasher g.E.Key.Hash.hash_input g.E.Keyed.key_of c.self.invariant c.self.view_is c.move_target.ensures.routed
+
+pub returns-in-Err-clause-routed : goal.returns-in-Err-clause-routed
+returns-in-Err-clause-routed g c = routed-seen g.H.BuildHasher g.H.Hasher.Hasher g.E.Key.Hash.hash_input g.E.Keyed.key_of c.self.invariant c.self.view_is c.move_target.ensures.routed
