@@ -27,7 +27,8 @@ where
     #[inline(always)]
     pub fn entry_at(&self, place: Place) -> &E
         requires { IsPlace self.now place }
-        ensures { slice_get (entries self.now) (index_of self.now place) ≡ Some result.now }
+        ensures entry { slice_get (entries self.now) (index_of self.now place) ≡ Some result.now }
+        ensures unique { IsUniqueBy E.Key.eq E.key_of self.now }
     {
         let count = self.current.bucket_count();
         if place.bucket < count {
