@@ -52,9 +52,9 @@ where
         E.Key.hash_input table.now (E.key_of e)) == task.target) }
 {
     let slots = old.slot_count(source);
-    for place in 0..slots {
-        let hash = table.hash(old.entry_of(source, place, slots).key());
-        flags[place] = (bucket_index(hash, task.skipped, count) == task.target) as u8;
+    for slot in 0..slots {
+        let hash = table.hash(old.entry_of(source, slot, slots).key());
+        flags[slot] = (bucket_index(hash, task.skipped, count) == task.target) as u8;
     }
 }
 
@@ -79,14 +79,14 @@ where
     ensures others { into.new ≡ slice_set into.old task.target (shelf_of into.new task.target) }
 {
     let entry_count = old.bucket_len(source);
-    let mut place = 0;
+    let mut slot = 0;
     for seen in 0..entry_count {
-        let hash = table.hash(old.entry_at(source, place).key());
+        let hash = table.hash(old.entry_at(source, slot).key());
         if bucket_index(hash, task.skipped, count) == task.target {
-            let entry = old.remove_at(source, place);
+            let entry = old.remove_at(source, slot);
             into.insert_in_room(task.target, entry, tag(hash));
         } else {
-            place += 1;
+            slot += 1;
         }
     }
 }
@@ -330,8 +330,8 @@ where
 {
     let entry_count = old.bucket_len(source);
     let mut found = 0;
-    for place in 0..entry_count {
-        let hash = table.hash(old.entry_at(source, place).key());
+    for slot in 0..entry_count {
+        let hash = table.hash(old.entry_at(source, slot).key());
         if bucket_index(hash, skipped, count) == target {
             found += 1;
         }
