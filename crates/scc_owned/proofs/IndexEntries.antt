@@ -8,6 +8,7 @@ use Rattle.std.specs.declared.hash.Hash as hash
 use Rattle.std.specs.declared.hash.Hasher as hasher
 use Rattle.std.specs.declared.hash.BuildHasher as builder
 use Rattle.scc_common.specs.Contents.{Contents, entries, waiting_of}
+use Rattle.scc_common.specs.Pairs.{IsUnique}
 use Rattle.scc_common.specs.declared.guard.Guard as guard
 use Rattle.scc_array.specs.ShelfWrites.{put_whole}
 use Rattle.scc_table.specs.Placed.{front_of, back_of, IsPlace-with_write_at}
@@ -29,8 +30,8 @@ module _ {G N K V S T : Type 0} {d : guard.Ghosts G (Contents (K × V) S)} {b : 
 
   -- if a version is written through the guard, the entry is updated to that version
   pub updated-after : (C : K → K → Type 0) {same : K → K → Bool} (laws : IsEquivalence same) (o : HeldOccupied G N (K × V) S K T d pair_keys b w g h) (m n : Contents (K × V) S) (e : K × V) → m ≡ d.inner o.guard → n ≡ with_write_at put_whole m o.place e → C (occupied_pair o).0 e.0 → same e.0 (occupied_pair o).0 ≡ true
-      → IsDistinct same (keys_of (entries m)) → (p : IsPlace (d.inner (d.with_inner o.guard n)) o.place) → IsUpdated C same o e.1 (record { guard = d.with_inner o.guard n; place = o.place; rest = o.rest; of = o.of; within = p })
-  updated-after C laws o m n e is made cloned equal u p =
+      → IsDistinct same (keys_of (entries m)) → (p : IsPlace (d.inner (d.with_inner o.guard n)) o.place) (v : IsUnique g.eq (d.inner (d.with_inner o.guard n))) → IsUpdated C same o e.1 (record { guard = d.with_inner o.guard n; place = o.place; rest = o.rest; of = o.of; within = p; unique = v })
+  updated-after C laws o m n e is made cloned equal u p v =
       let at = written-there put_whole (d.inner o.guard) o.place o.within e (d.inner (d.with_inner o.guard n)) p (d.inner_law o.guard n ∙ made ∙ ap (λ c. with_write_at put_whole c o.place e) is) in
       let split = splits-there (d.inner o.guard) o.place o.within in
       record {

@@ -16,8 +16,8 @@ replace_key_at-old-requires-clause-same g c =
     let f = place-found g.K.PartialEq.eq c.args.self.now c.args.k c.in-Some.place (rw c.self.view_is at c.in-Some.ensures.place) in
     λ p got. let s : Some f.0 ≡ Some p = sym f.1 ∙ got in let w : f.0 ≡ p = cc in rw (← w) f.3
 
-pub at-requires : goal.at-requires
-at-requires g c =
+pub at-requires-clause-within : goal.at-requires-clause-within
+at-requires-clause-within g c =
     let found = rw c.self.view_is at c.in-Some.ensures.place in
     rw c.replace_key_at-old.ensures.new (IsPlace-with_write_at with_pair_key c.args.self.now c.in-Some.place c.args.k found.within)
 
@@ -44,14 +44,16 @@ returns-in-Some-clause-step g c =
       ),
     )
 
-pub returns-in-Some-clause-unique : goal.returns-in-Some-clause-unique
-returns-in-Some-clause-unique g c =
-    let laws = g.met.K.Eq.laws in
+pub at-requires-clause-unique : goal.at-requires-clause-unique
+at-requires-clause-unique g c =
     let m = c.args.self.now in
     let found = rw c.self.view_is at c.in-Some.ensures.place in
     let unique = rw c.self.view_is at c.in-Some.ensures.unique in
     let f = place-found g.K.PartialEq.eq m c.args.k c.in-Some.place found in
-    rw (ap (λ x. x.now) c.at.ensures.guard ∙ c.replace_key_at-old.ensures.new) (key-unique laws m c.in-Some.place found.within c.args.k unique f c.args.k f.3)
+    rw c.replace_key_at-old.ensures.new (key-unique g.met.K.Eq.laws m c.in-Some.place found.within c.args.k unique f c.args.k f.3)
+
+pub returns-in-Some-clause-unique : goal.returns-in-Some-clause-unique
+returns-in-Some-clause-unique g c = c.at.result.unique
 
 pub returns-in-Some-clause-noted : goal.returns-in-Some-clause-noted
 returns-in-Some-clause-noted g c = ap (λ x. refused_of x.now) c.at.ensures.guard ∙ ap refused_of c.replace_key_at-old.ensures.new ∙ noted-write with_pair_key c.args.self.now c.in-Some.place c.args.k

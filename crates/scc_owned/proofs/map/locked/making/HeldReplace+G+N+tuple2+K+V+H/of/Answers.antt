@@ -19,8 +19,8 @@ replace_key_at-old-requires-clause-same g c =
     let f = place-found g.K.PartialEq.eq (g.G.Guard.inner c.args.guard) c.args.k c.in-Some.place found in
     rw c.lend.ensures.value (λ p got. let s : Some f.0 ≡ Some p = sym f.1 ∙ got in let w : f.0 ≡ p = cc in rw (← w) f.3)
 
-pub at-requires : goal.at-requires
-at-requires g c =
+pub at-requires-clause-within : goal.at-requires-clause-within
+at-requires-clause-within g c =
     let found = rw c.look-2.ensures at c.in-Some.ensures.place in
     subst (λ m. IsPlace m c.in-Some.place) (sym (g.G.Guard.inner_law c.args.guard c.replace_key_at-old.new.self ∙ c.replace_key_at-old.ensures.new ∙ ap (λ m. with_write_at with_pair_key m c.in-Some.place c.args.k) c.lend.ensures.value)) (IsPlace-with_write_at with_pair_key (g.G.Guard.inner c.args.guard) c.in-Some.place c.args.k found.within)
 
@@ -55,15 +55,17 @@ returns-in-Some-clause-waiting g c =
     let made = ap g.G.Guard.inner c.at.ensures.guard ∙ g.G.Guard.inner_law c.args.guard c.replace_key_at-old.new.self ∙ c.replace_key_at-old.ensures.new ∙ ap (λ m. with_write_at with_pair_key m c.in-Some.place c.args.k) c.lend.ensures.value in
     ap waiting_of made ∙ waiting-write with_pair_key (g.G.Guard.inner c.args.guard) c.in-Some.place c.args.k
 
-pub returns-in-Some-clause-unique : goal.returns-in-Some-clause-unique
-returns-in-Some-clause-unique g c =
-    let laws = g.met.K.Eq.laws in
+pub at-requires-clause-unique : goal.at-requires-clause-unique
+at-requires-clause-unique g c =
     let m = g.G.Guard.inner c.args.guard in
     let found = rw c.look-2.ensures at c.in-Some.ensures.place in
     let unique = rw c.look-2.ensures at c.search.ensures.unique in
     let f = place-found g.K.PartialEq.eq m c.args.k c.in-Some.place found in
-    let made = ap g.G.Guard.inner c.at.ensures.guard ∙ g.G.Guard.inner_law c.args.guard c.replace_key_at-old.new.self ∙ c.replace_key_at-old.ensures.new ∙ ap (λ m. with_write_at with_pair_key m c.in-Some.place c.args.k) c.lend.ensures.value in
-    rw made (key-unique laws m c.in-Some.place found.within c.args.k unique f c.args.k f.3)
+    let is = g.G.Guard.inner_law c.args.guard c.replace_key_at-old.new.self ∙ c.replace_key_at-old.ensures.new ∙ ap (λ m. with_write_at with_pair_key m c.in-Some.place c.args.k) c.lend.ensures.value in
+    rw is (key-unique g.met.K.Eq.laws m c.in-Some.place found.within c.args.k unique f c.args.k f.3)
+
+pub returns-in-Some-clause-unique : goal.returns-in-Some-clause-unique
+returns-in-Some-clause-unique g c = c.at.result.unique
 
 pub returns-in-None-clause-step : goal.returns-in-None-clause-step
 returns-in-None-clause-step g c = record {
