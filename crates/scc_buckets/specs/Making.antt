@@ -1,5 +1,5 @@
 -- What the calls do that make buckets or their array, or replace the array.
-use Rattle.std.specs.Prelude.{◌≡◌, ◌<◌, ◌*◌, ℕ, [], List, false, map, Result, IsOk, IfOk}
+use Rattle.std.specs.Prelude.{◌≡◌, ◌<◌, ◌*◌, ◌^◌, ℕ, [], List, false, map, Result, IsOk, IfOk}
 use Rattle.std.specs.Result.{OnOk, OnErr}
 use Rattle.scc_array.specs.Shelf.{Shelf, shelf_entries}
 use Rattle.scc_common.specs.Contents.{Contents, entries, bucket_count, lists_of, minimum_of, owed_of, refused_of, settings_of, overflow_of, waiting_of}
@@ -65,6 +65,8 @@ module _ {E S : Type 0} where
       pub resized : OnOk result (IsResized hash c d)
       -- on failure, all stays
       pub same : OnErr result (d ≡ c)
+      -- fewer entries stand in overflow lists than their limit
+      pub few : overflow_of d < 2 ^ 62
 
     -- the array is replaced by `buckets`, with `over` entries in overflow lists; the result is the replaced array with
     -- its two numbers

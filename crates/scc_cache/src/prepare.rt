@@ -48,7 +48,7 @@ impl<K: Eq + Hash, V, H: BuildHasher> Owned<K, V, H> {
         ensures maximum { self.new.maximum ≡ self.old.maximum }
         ensures state { IsCacheState K.eq (hash_in ⟦<H as Hashes<K>>⟧.hash_of self.new.contents) self.new }
     {
-        self.table.drop_room_within();
+        self.table.drop_mark();
     }
 
     /// Returns the pair that a put of `k` without a resize would evict: the least recent of its bucket. Returns `None`

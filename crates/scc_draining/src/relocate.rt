@@ -241,7 +241,6 @@ where
     ensures { MovesTarget (λ e. key_hash H.BuildHasher H.Hasher.Hasher E.Key.hash_input current.old (E.key_of e))
         task.target coming aside current.old old.old result current.new old.new }
 {
-    current.list_facts();
     let alloc = current.allocator();
     let (mut fresh, count, overflowing) = current.install(Array::none(alloc), 0, 0);
     let buckets = fresh.len();

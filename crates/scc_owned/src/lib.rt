@@ -119,7 +119,7 @@ where
         ensures noted { refused_of self.new ≡ (note_of self.old, false) }
         ensures unique { IsUniqueBy E.Key.eq E.key_of self.new }
     {
-        self.table.drop_room();
+        self.table.drop_mark();
     }
 
     /// States that no two keys are equal. It does nothing, and is there for its contract.

@@ -237,18 +237,3 @@ module _ {E K S : Type 0} (eq : K → K → Bool) (key : E → K) where
       pub all : 0 < bucket_count c → bucket_count d ≢ bucket_count c → pending_of d ≡ bucket_count d
       -- no two keys are equal
       pub unique : IsUniqueBy eq key d
-
-    -- the mark is taken away, and nothing else changes
-    pub record DropsMarkWithin (c d : Contents E S) : Type 0 where
-      -- each list stays
-      pub lists : lists_of d ≡ lists_of c
-      -- the settings stay
-      pub settings : settings_of d ≡ settings_of c
-      -- the note stays, and no growth is marked
-      pub noted : refused_of d ≡ (note_of c, false)
-      -- the waiting buckets stay
-      pub waiting : waiting_of d ≡ waiting_of c
-      -- each entry stands in the bucket of its hash, and no list has more than 32
-      pub listed : IsListed (λ e. hash_in d (key e)) d
-      -- no two keys are equal
-      pub unique : IsUniqueBy eq key d

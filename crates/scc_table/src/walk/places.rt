@@ -1,6 +1,6 @@
 //! Steps from place to place, in the order of the entries.
 ghost use Rattle.scc_buckets.specs.Places as spots;
-ghost use Rattle.scc_common.specs.Contents.{entries, bucket_count, owed_of, list_of};
+ghost use Rattle.scc_common.specs.Contents.{entries, bucket_count, owed_of, list_of, IsUniqueBy};
 ghost use Rattle.scc_table.specs.Places.{IsPlace, index_of, spot_of, StandsAt};
 ghost use Rattle.scc_table.specs.NextPlaces.{index_on, rank_on, IsStart};
 ghost use Rattle.scc_table.specs.TwoArrays.{IsWaiting};
@@ -19,7 +19,8 @@ where
 {
     /// Returns the place of the first entry, or `None` if the table is empty.
     pub fn first_place(&self) -> Option<Place>
-        ensures { MatchOption result (entries self.now ≡ []) (StandsAt self.now 0) }
+        ensures place { MatchOption result (entries self.now ≡ []) (StandsAt self.now 0) }
+        ensures unique { IsUniqueBy E.Key.eq E.key_of self.now }
     {
         self.place_past(0)
     }
@@ -43,7 +44,6 @@ where
         ensures within { result < bucket_count self.now }
         ensures small { place.slot + 1 < 2 ^ 64 }
     {
-        let _ = self.current.len();
         let count = self.current.bucket_count();
         if place.bucket < count {
             return place.bucket;
@@ -79,9 +79,10 @@ where
     /// Returns the place of the first entry of `bucket` or of a later bucket, or `None`.
     fn place_past(&self, bucket: usize) -> Option<Place>
         requires { bucket ≤ bucket_count self.now }
-        ensures { MatchOption result (spots.index_of_spot self.now (record { bucket = bucket; slot = 0 })
+        ensures place { MatchOption result (spots.index_of_spot self.now (record { bucket = bucket; slot = 0 })
             ≡ length (entries self.now))
             (StandsAt self.now (spots.index_of_spot self.now (record { bucket = bucket; slot = 0 }))) }
+        ensures unique { IsUniqueBy E.Key.eq E.key_of self.now }
     {
         for next in bucket..self.current.bucket_count() {
             if let Some(place) = self.first_in(next) {

@@ -9,7 +9,7 @@ use Rattle.scc_table.proofs.walk.pairs.Table+tuple2+K+V+H.walk_places.Goals as g
 
 pub loop-at-init : goal.loop-at-init
 loop-at-init g c =
-    let start = reached-first c.args.self.now c.first_place-at.result c.first_place-at.ensures in
+    let start = reached-first c.args.self.now c.first_place-at.result c.first_place-at.ensures.place in
     record { callable = rw start.0 c.requires; within = start.1; walked = rw start.0 ended }
 
 pub f-requires : goal.f-requires
