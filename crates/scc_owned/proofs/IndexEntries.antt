@@ -1,18 +1,21 @@
 -- Lemmas about an entry of an index, whatever its guard is.
-use Rattle.std.proofs.Common.{◌≡◌, Bool, true, refl, sym, ap, subst, ◌∙◌}
+use Rattle.std.proofs.Common.{◌≡◌, Bool, true, Some, refl, sym, ap, subst, ◌∙◌}
 use Rattle.std.specs.Cmp.{IsEquivalence}
-use Rattle.std.specs.List.{IsDistinct}
+use Rattle.std.specs.List.{IsDistinct, slice_get}
 use Rattle.std.specs.Map.{keys_of}
 use Rattle.std.specs.declared.cmp.PartialEq as eq
 use Rattle.std.specs.declared.hash.Hash as hash
 use Rattle.std.specs.declared.hash.Hasher as hasher
 use Rattle.std.specs.declared.hash.BuildHasher as builder
-use Rattle.scc_common.specs.Contents.{Contents, entries, waiting_of}
+use Rattle.scc_common.specs.Contents.{Contents, entries, list_of, waiting_of}
 use Rattle.scc_common.specs.Pairs.{IsUnique}
 use Rattle.scc_common.specs.declared.guard.Guard as guard
 use Rattle.scc_array.specs.ShelfWrites.{put_whole}
 use Rattle.scc_table.specs.Placed.{front_of, back_of, IsPlace-with_write_at}
-use Rattle.scc_table.specs.Places.{IsPlace, with_write_at}
+use Rattle.scc_buckets.specs.Placed.{at, at-get}
+use Rattle.scc_buckets.specs.declared.place.Place.{Place}
+use Rattle.scc_buckets.proofs.WritingTables.{distinct-write, exactly-write}
+use Rattle.scc_table.specs.Places.{IsPlace, index_of, spot_of, with_write_at}
 use Rattle.scc_table.proofs.places.Entries.{splits-there, written-there}
 use Rattle.scc_table.proofs.relocations.AfterWrites.{waiting-write}
 use Rattle.scc_owned.specs.Held.{occupied_pair}
@@ -20,6 +23,13 @@ use Rattle.scc_owned.specs.IndexEntries.{IsUpdated}
 use Rattle.scc_owned.specs.Lends.{pair_keys}
 use Rattle.scc_owned.specs.declared.held.HeldOccupied.{HeldOccupied}
 use Rattle.scc_owned.proofs.Updates.{finds-replaced}
+
+-- keys stay distinct if an entry with an equal key is put in the place of one
+pub version-apart : {K V S : Type 0} {eq : K → K → Bool} (laws : IsEquivalence eq) (m : Contents (K × V) S) (p : Place) (within : IsPlace m p) (e x : K × V) → slice_get (entries m) (index_of m p) ≡ Some e → eq x.0 e.0 ≡ true → IsUnique eq m → IsUnique eq (with_write_at put_whole m p x)
+version-apart laws m p within e x got same u =
+    let s = spot_of m p in
+    let h = exactly-write put_whole m s within (at (list_of m s.bucket) s.slot within.slot) (at-get (list_of m s.bucket) s.slot within.slot) x in
+    rw h.exact (distinct-write laws (λ y. y.0) put_whole (entries m) (index_of m p) e x got same u)
 
 module _ {G N K V S T : Type 0} {d : guard.Ghosts G (Contents (K × V) S)} {b : builder.Ghosts S T} {w : hasher.Ghosts T} {g : eq.Ghosts K} {h : hash.Ghosts K} where
   -- after a version is written at a place through the guard, the place is still a place
