@@ -121,12 +121,4 @@ where
     {
         self.table.drop_mark();
     }
-
-    /// States that no two keys are equal. It does nothing, and is there for its contract.
-    #[inline(always)]
-    pub(crate) fn key_facts(&self)
-        ensures { IsUniqueBy E.Key.eq E.key_of self.now }
-    {
-        self.table.list_facts();
-    }
 }

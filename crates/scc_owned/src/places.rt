@@ -38,7 +38,6 @@ where
         ensures place { MatchOption result (entries self.now ≡ []) (StandsAt self.now 0) }
         ensures unique { IsUniqueBy E.Key.eq E.key_of self.now }
     {
-        self.key_facts();
         self.table.first_place()
     }
 
@@ -58,7 +57,6 @@ where
         ensures entry { slice_get (entries self.now) (index_of self.now place) ≡ Some result.now }
         ensures unique { IsUniqueBy E.Key.eq E.key_of self.now }
     {
-        self.key_facts();
         self.table.entry_at(place)
     }
 

@@ -84,7 +84,6 @@ impl<K: Eq + Hash, V, H: BuildHasher> Index<K, V, H> {
         ensures unique { IsUnique K.eq self.new }
     {
         let _old = self.table.replace_at(place, version);
-        self.key_facts();
     }
 
     /// Removes the version at `place` without a resize, and returns the place of the version that followed.

@@ -23,7 +23,7 @@ loop-at-smaller g c =
 pub loop-at-preserved : goal.loop-at-preserved
 loop-at-preserved g c =
     let m = c.args.self.now in
-    let got = rw c.self.view_is at c.entry_at.ensures in
+    let got = rw c.self.view_is at c.entry_at.ensures.entry in
     let next = reached-at m (suc (index_of m c.in-Some.place)) c.next_place-at.result c.next_place-at.ensures in
     let listed = rw c.in-Some.is at c.loop-at.invariant.listed in
     record {

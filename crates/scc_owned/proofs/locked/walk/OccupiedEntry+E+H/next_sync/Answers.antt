@@ -6,8 +6,8 @@ use Rattle.scc_owned.proofs.locked.walk.OccupiedEntry+E+H.next_sync.Goals as goa
 pub next_place-requires : goal.next_place-requires
 next_place-requires g c = rw c.deref.ensures c.args.self.within
 
-pub at-requires : goal.at-requires
-at-requires g c = let at = rw c.deref.ensures at c.in-Some.ensures in at.within
+pub at-requires-clause-within : goal.at-requires-clause-within
+at-requires-clause-within g c = let at = rw c.deref.ensures at c.in-Some.ensures in at.within
 
 pub returns-in-Some-clause-next : goal.returns-in-Some-clause-next
 returns-in-Some-clause-next g c = λ some. let at = rw c.deref.ensures at c.in-Some.ensures in next-at c.args.self c.at.result _ _ c.at.ensures.guard c.at.ensures.place refl refl at.index

@@ -14,7 +14,7 @@ use Rattle.scc_owned.proofs.map.walk.take.Map+K+V+H.take_walk.Goals as goal
 
 pub loop-at-init : goal.loop-at-init
 loop-at-init g c =
-    let start = first-spot c.args.self.now c.first_place-at.result (rw c.self.view_is at c.first_place-at.ensures) in
+    let start = first-spot c.args.self.now c.first_place-at.result (rw c.self.view_is at c.first_place-at.ensures.place) in
     record { callable = rw start.0 c.requires; within = start.1; buckets = refl; settings = refl; noted = refl; waiting = refl; room = omega arith; calls = ([], sym (append-nil _), λ stay next r last run. rw start.0 (rw start.0 at run)) }
 
 pub returns-in-Err-clause-step : goal.returns-in-Err-clause-step
