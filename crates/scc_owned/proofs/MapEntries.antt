@@ -35,7 +35,7 @@ module _ {G N K V S T : Type 0} {d : guard.Ghosts G (Contents (K × V) S)} {b : 
       (u : IsUnique g.eq (d.inner (d.with_inner o.guard (with_write_at with_pair_value m o.place v)))) → record { guard = d.with_inner o.guard (with_write_at with_pair_value m o.place v); place = o.place; rest = o.rest; of = o.of; within = p; unique = u } ≡ with_value o v
   written-same o m v is =
       let Written : Contents (K × V) S → Type 0 = λ c. (p : IsPlace (d.inner (d.with_inner o.guard (with_write_at with_pair_value c o.place v))) o.place) (u : IsUnique g.eq (d.inner (d.with_inner o.guard (with_write_at with_pair_value c o.place v))))
-          → record { guard = d.with_inner o.guard (with_write_at with_pair_value c o.place v); place = o.place; rest = o.rest; of = o.of; within = p; unique = u } ≡ with_value o v in
+      → record { guard = d.with_inner o.guard (with_write_at with_pair_value c o.place v); place = o.place; rest = o.rest; of = o.of; within = p; unique = u } ≡ with_value o v in
       subst Written (sym is) (λ p u. same-entry (with_value o v) p u)
 
   pub within-after : (o : HeldOccupied G N (K × V) S K T d pair_keys b w g h) (m n : Contents (K × V) S) (v : V) → m ≡ d.inner o.guard → n ≡ with_write_at with_pair_value m o.place v → IsPlace (d.inner (d.with_inner o.guard n)) o.place

@@ -25,4 +25,10 @@ pub type Entry<'a, E, H> = HeldEntry<Lock<'a, E, H>, StripeSeat<'a, E, H>, E, Sh
 pub type OccupiedEntry<'a, E, H> = HeldOccupied<Lock<'a, E, H>, StripeSeat<'a, E, H>, E, Shared<H>>;
 
 /// A vacant entry: a key that its stripe lacks. It holds the lock of the stripe.
-pub type VacantEntry<'a, E, H> = HeldVacant<Lock<'a, E, H>, StripeSeat<'a, E, H>, E, Shared<H>, <E as Keyed>::Key>;
+pub type VacantEntry<'a, E, H> = HeldVacant<
+    Lock<'a, E, H>,
+    StripeSeat<'a, E, H>,
+    E,
+    Shared<H>,
+    <E as Keyed>::Key,
+>;

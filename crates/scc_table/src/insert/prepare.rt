@@ -54,8 +54,7 @@ where
         ensures settings { settings_of self.new ≡ settings_of self.old }
         ensures waiting { waiting_of self.new ≡ waiting_of self.old }
         ensures noted { notes_of self.new ≡ (note_of self.old, false) }
-        ensures listed {
-            IsListed (λ e. key_hash H.BuildHasher H.Hasher.Hasher E.Key.hash_input self.old (E.key_of e)) self.old
+        ensures listed { IsListed (λ e. key_hash H.BuildHasher H.Hasher.Hasher E.Key.hash_input self.old (E.key_of e)) self.old
             → IsListed (λ e. key_hash H.BuildHasher H.Hasher.Hasher E.Key.hash_input self.new (E.key_of e)) self.new }
         ensures unique { IsUniqueBy E.Key.eq E.key_of self.new }
     {
