@@ -44,8 +44,9 @@ where
     /// Returns the place after `place`, or `None` if `place` is the last.
     pub fn next_place(&self, place: Place) -> Option<Place>
         requires { IsPlace self.now place }
-        ensures { MatchOption result (suc (index_of self.now place) ≡ length (entries self.now))
+        ensures place { MatchOption result (suc (index_of self.now place) ≡ length (entries self.now))
             (StandsAt self.now (suc (index_of self.now place))) }
+        ensures unique { IsUniqueBy E.Key.eq E.key_of self.now }
     {
         self.table.next_place(place)
     }

@@ -81,6 +81,7 @@ where
         ensures old { (e : E) × (slice_get (entries self.old) (index_of self.old place) ≡ Some e)
             × (result ≡ E.Keyed.key_of e) }
         ensures new { self.new ≡ with_write_at E.with_key self.old place key }
+        ensures unique { IsUniqueBy E.Key.eq E.Keyed.key_of self.new }
     {
         let count = self.current.bucket_count();
         if place.bucket < count {

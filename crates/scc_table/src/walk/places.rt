@@ -28,8 +28,9 @@ where
     /// Returns the place of the entry after the entry at `place`, or `None` if that is the last.
     pub fn next_place(&self, place: Place) -> Option<Place>
         requires { IsPlace self.now place }
-        ensures { MatchOption result (suc (index_of self.now place) ≡ length (entries self.now))
+        ensures place { MatchOption result (suc (index_of self.now place) ≡ length (entries self.now))
             (StandsAt self.now (suc (index_of self.now place))) }
+        ensures unique { IsUniqueBy E.Key.eq E.key_of self.now }
     {
         let target = self.target_of(place);
         self.place_on(target, place.bucket, place.slot + 1)
@@ -43,6 +44,7 @@ where
         ensures index { index_on self.now result place.bucket (place.slot + 1) ≡ suc (index_of self.now place) }
         ensures within { result < bucket_count self.now }
         ensures small { place.slot + 1 < 2 ^ 64 }
+        ensures unique { IsUniqueBy E.Key.eq E.key_of self.now }
     {
         let count = self.current.bucket_count();
         if place.bucket < count {
