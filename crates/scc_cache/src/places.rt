@@ -210,8 +210,6 @@ impl<K: Eq + Hash, V, H: BuildHasher> Owned<K, V, H> {
             (spot_of self.new.contents place).slot ≡ Some p → K.eq result p.0 ≡ true }
         ensures state { IsCacheState K.eq (hash_in ⟦<H as Hashes<K>>⟧.hash_of self.new.contents) self.new }
     {
-        let old = self.table.replace_key_at(place, key);
-        let _ = self.table.len();
-        old
+        self.table.replace_key_at(place, key)
     }
 }

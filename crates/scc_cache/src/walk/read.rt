@@ -55,14 +55,12 @@ impl<K: Eq + Hash, V, H: BuildHasher> Owned<K, V, H> {
         ensures refused { notes_of self.new.contents ≡ notes_of self.old.contents }
         ensures maximum { self.new.maximum ≡ self.old.maximum }
         ensures waiting { waiting_of self.new.contents ≡ waiting_of self.old.contents }
-        ensures state { IsCacheState K.eq (hash_in ⟦<H as Hashes<K>>⟧.hash_of self.new.contents) self.new }
     {
         let mut at = self.table.first_place();
         while let Some(place) = at {
             let (_pair, next) = self.take_with_next(place);
             at = next;
         }
-        let _ = self.len();
     }
 
     /// Returns the place after `place`, or `None` if `place` is the last.

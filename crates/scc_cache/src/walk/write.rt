@@ -58,7 +58,6 @@ impl<K: Eq + Hash, V, H: BuildHasher> Owned<K, V, H> {
         ensures relocates { RelocatesNoneWithin (λ p. hash_in ⟦<H as Hashes<K>>⟧.hash_of self.old.contents p.0)
             self.old.contents self.new.contents }
     {
-        let _ = self.len();
         self.retain_all(f);
         self.table.shrink_within();
     }
@@ -74,6 +73,7 @@ impl<K: Eq + Hash, V, H: BuildHasher> Owned<K, V, H> {
         ensures refused { notes_of self.new.contents ≡ notes_of self.old.contents }
         ensures maximum { self.new.maximum ≡ self.old.maximum }
         ensures waiting { waiting_of self.new.contents ≡ waiting_of self.old.contents }
+        ensures state { IsCacheState K.eq (hash_in ⟦<H as Hashes<K>>⟧.hash_of self.old.contents) self.old }
     {
         let mut at = self.table.first_place();
         while let Some(place) = at {
