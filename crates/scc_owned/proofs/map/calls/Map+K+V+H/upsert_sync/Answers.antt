@@ -15,7 +15,7 @@ pub returns-in-Some-clause-step : goal.returns-in-Some-clause-step
 returns-in-Some-clause-step g c =
     let at = rw c.self.view_is at c.in-Some.ensures in
     let v = c.value_mut_at.ensures.value in
-    let here = found-here c.args.self.now c.args.k c.in-Some.place at.place v.0 v.1 ∙ ap (λ x. Some (v.0.0, x)) (sym (c.replace.ensures.value ∙ v.2)) in
+    let here = found-here g.K.PartialEq.eq c.args.self.now c.args.k c.in-Some.place at.place v.0 v.1 ∙ ap (λ x. Some (v.0.0, x)) (sym (c.replace.ensures.value ∙ v.2)) in
     (v.0.0, here, rw c.replace.ensures.after (found-written g.K.PartialEq.eq _ _ _ at.place g.met.K.Eq.laws at.unique c.args.v))
 
 pub returns-in-Some-clause-finds : goal.returns-in-Some-clause-finds
