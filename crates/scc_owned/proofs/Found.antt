@@ -11,7 +11,7 @@ use Rattle.scc_buckets.proofs.PairWrites.{IsPlaceOf}
 use Rattle.scc_table.specs.Places.{IsFoundAt, index_of, with_write_at}
 use Rattle.scc_table.proofs.places.Entries.{place-found, key-unique, key-written, value-written, written-pair, written-taken_out}
 
-module _ {K V S : Type 0} {eq : K → K → Bool} (m : Contents (K × V) S) (k : K) (p : Place) (found : IsFoundAt (λ (e : K × V). eq k e.0) m p) where
+module _ {K V S : Type 0} (eq : K → K → Bool) (m : Contents (K × V) S) (k : K) (p : Place) (found : IsFoundAt (λ (e : K × V). eq k e.0) m p) where
   -- the pair at the place, as a look-up finds it
   abbrev place : IsPlaceOf eq (entries m) k (index_of m p)
   place = place-found eq m k p found

@@ -27,26 +27,26 @@ pub returns-then-f-clause-step : goal.returns-then-f-clause-step
 returns-then-f-clause-step g c =
     let at = rw c.self.view_is at c.in_ok-place.ensures in
     let v = c.value_mut_at.ensures.value in
-    rw (found-here c.args.self.now c.args.k.now c.in_ok-place.place at.place v.0 v.1) (
+    rw (found-here g.K.PartialEq.eq c.args.self.now c.args.k.now c.in_ok-place.place at.place v.0 v.1) (
       true,
       c.f.new.arg2,
       record { shown = c.value_mut_at.result; shows = v.2; left = _; met = c.if-f.ensures; leaves = refl },
       (
-        ap Some (found-pair _ _ _ at.place g.met.K.Eq.laws at.unique v.0 v.1 c.f.new.arg2 c.remove_at.result c.remove_at.ensures.pair),
-        found-taken _ _ _ at.place g.met.K.Eq.laws at.unique c.f.new.arg2 c.remove_at.new.self c.remove_at.ensures.others,
+        ap Some (found-pair g.K.PartialEq.eq _ _ _ at.place g.met.K.Eq.laws at.unique v.0 v.1 c.f.new.arg2 c.remove_at.result c.remove_at.ensures.pair),
+        found-taken g.K.PartialEq.eq _ _ _ at.place g.met.K.Eq.laws at.unique c.f.new.arg2 c.remove_at.new.self c.remove_at.ensures.others,
       ),
     )
 
 pub returns-then-f-clause-finds : goal.returns-then-f-clause-finds
 returns-then-f-clause-finds g c =
     let at = rw c.self.view_is at c.in_ok-place.ensures in
-    finds-without g.met.K.Eq.laws _ _ _ (found-taken _ _ _ at.place g.met.K.Eq.laws at.unique c.f.new.arg2 c.remove_at.new.self c.remove_at.ensures.others) at.unique c.remove_at.ensures.unique
+    finds-without g.met.K.Eq.laws _ _ _ (found-taken g.K.PartialEq.eq _ _ _ at.place g.met.K.Eq.laws at.unique c.f.new.arg2 c.remove_at.new.self c.remove_at.ensures.others) at.unique c.remove_at.ensures.unique
 
 pub returns-then-f-clause-array : goal.returns-then-f-clause-array
 returns-then-f-clause-array g c =
     let at = rw c.self.view_is at c.in_ok-place.ensures in
     let m = c.args.self.now in
-    let x = found-written m c.args.k.now c.in_ok-place.place at.place g.met.K.Eq.laws at.unique c.f.new.arg2 in
+    let x = found-written g.K.PartialEq.eq m c.args.k.now c.in_ok-place.place at.place g.met.K.Eq.laws at.unique c.f.new.arg2 in
     record {
       smaller = rw (x.buckets, x.settings) at c.remove_at.ensures.array.smaller;
       due = λ _. shrinks-after m _ c.remove_at.new.self x.buckets (noted-write with_pair_value m c.in_ok-place.place c.f.new.arg2) (c.remove_at.ensures.array.due tt);
@@ -59,7 +59,7 @@ pub returns-else-f-clause-step : goal.returns-else-f-clause-step
 returns-else-f-clause-step g c =
     let at = rw c.self.view_is at c.in_ok-place.ensures in
     let v = c.value_mut_at.ensures.value in
-    rw (found-here c.args.self.now c.args.k.now c.in_ok-place.place at.place v.0 v.1) (false, c.f.new.arg2, record { shown = c.value_mut_at.result; shows = v.2; left = _; met = c.if-f.ensures; leaves = refl }, (refl, found-written _ _ _ at.place g.met.K.Eq.laws at.unique c.f.new.arg2))
+    rw (found-here g.K.PartialEq.eq c.args.self.now c.args.k.now c.in_ok-place.place at.place v.0 v.1) (false, c.f.new.arg2, record { shown = c.value_mut_at.result; shows = v.2; left = _; met = c.if-f.ensures; leaves = refl }, (refl, found-written g.K.PartialEq.eq _ _ _ at.place g.met.K.Eq.laws at.unique c.f.new.arg2))
 
 pub returns-else-f-clause-unique : goal.returns-else-f-clause-unique
 returns-else-f-clause-unique g c = c.value_mut_at.ensures.unique c.f.new.arg2
@@ -68,7 +68,7 @@ pub returns-else-f-clause-array : goal.returns-else-f-clause-array
 returns-else-f-clause-array g c =
     let at = rw c.self.view_is at c.in_ok-place.ensures in
     record {
-      smaller = λ n. absurd (n (found-written c.args.self.now c.args.k.now c.in_ok-place.place at.place g.met.K.Eq.laws at.unique c.f.new.arg2).buckets);
+      smaller = λ n. absurd (n (found-written g.K.PartialEq.eq c.args.self.now c.args.k.now c.in_ok-place.place at.place g.met.K.Eq.laws at.unique c.f.new.arg2).buckets);
       due = (search rules);
       noted = λ _. noted-write with_pair_value c.args.self.now c.in_ok-place.place c.f.new.arg2;
       relocates = (search rules);
@@ -79,7 +79,7 @@ pub f-requires : goal.f-requires
 f-requires g c =
     let at = rw c.self.view_is at c.in_ok-place.ensures in
     let v = c.value_mut_at.ensures.value in
-    c.requires v.0 (found-here c.args.self.now c.args.k.now c.in_ok-place.place at.place v.0 v.1) c.value_mut_at.result v.2
+    c.requires v.0 (found-here g.K.PartialEq.eq c.args.self.now c.args.k.now c.in_ok-place.place at.place v.0 v.1) c.value_mut_at.result v.2
 
 pub remove_at-requires : goal.remove_at-requires
 remove_at-requires g c =

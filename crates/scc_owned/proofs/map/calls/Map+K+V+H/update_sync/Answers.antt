@@ -21,4 +21,4 @@ pub returns-clause-waiting : goal.returns-clause-waiting
 returns-clause-waiting g c = rw (← c.self.view_is) (updated-waiting g.U.FnOnce c.args.u g.met.K.Eq.laws c.self.inside.table c.update.new.self c.args.k.now c.update.ensures.unique c.update.result c.update.ensures.step)
 
 pub returns-clause-unique : goal.returns-clause-unique
-returns-clause-unique g c = rw (← c.self.view_is) (updated-unique g.U.FnOnce c.args.u g.met.K.Eq.laws c.self.inside.table c.update.new.self c.args.k.now c.update.ensures.unique c.update.result c.update.ensures.step)
+returns-clause-unique g c = updated-unique g.U.FnOnce c.args.u g.met.K.Eq.laws c.self.inside.table c.update.new.self c.args.k.now c.update.ensures.unique c.update.result c.update.ensures.step

@@ -15,16 +15,16 @@ pub returns-in-Some-clause-step : goal.returns-in-Some-clause-step
 returns-in-Some-clause-step g c =
     let at = rw c.self.view_is at c.in-Some.ensures in
     let v = c.value_mut_at.ensures.value in
-    let here = found-here c.args.self.now c.args.k c.in-Some.place at.place v.0 v.1 ∙ ap (λ x. Some (v.0.0, x)) (sym (c.replace.ensures.value ∙ v.2)) in
-    (v.0.0, here, rw c.replace.ensures.after (found-written _ _ _ at.place g.met.K.Eq.laws at.unique c.args.v))
+    let here = found-here g.K.PartialEq.eq c.args.self.now c.args.k c.in-Some.place at.place v.0 v.1 ∙ ap (λ x. Some (v.0.0, x)) (sym (c.replace.ensures.value ∙ v.2)) in
+    (v.0.0, here, rw c.replace.ensures.after (found-written g.K.PartialEq.eq _ _ _ at.place g.met.K.Eq.laws at.unique c.args.v))
 
 pub returns-in-Some-clause-finds : goal.returns-in-Some-clause-finds
 returns-in-Some-clause-finds g c =
     let at = rw c.self.view_is at c.in-Some.ensures in
     let v = c.value_mut_at.ensures.value in (
       v.0.0,
-      found-equal _ _ _ at.place v.0 v.1,
-      finds-set_value g.met.K.Eq.laws _ _ _ v.0 c.args.v (found-here _ _ _ at.place v.0 v.1) (rw c.replace.ensures.after (found-written _ _ _ at.place g.met.K.Eq.laws at.unique c.args.v)),
+      found-equal g.K.PartialEq.eq _ _ _ at.place v.0 v.1,
+      finds-set_value g.met.K.Eq.laws _ _ _ v.0 c.args.v (found-here g.K.PartialEq.eq _ _ _ at.place v.0 v.1) (rw c.replace.ensures.after (found-written g.K.PartialEq.eq _ _ _ at.place g.met.K.Eq.laws at.unique c.args.v)),
     )
 
 pub returns-in-Some-clause-unique : goal.returns-in-Some-clause-unique
@@ -35,8 +35,8 @@ returns-in-Some-clause-array g c =
     let m = c.args.self.now in
     let at = rw c.self.view_is at c.in-Some.ensures in
     let v = c.value_mut_at.ensures.value in
-    let here = found-here m c.args.k c.in-Some.place at.place v.0 v.1 in
-    let same = (found-written m c.args.k c.in-Some.place at.place g.met.K.Eq.laws at.unique c.replace.new.dest).buckets in
+    let here = found-here g.K.PartialEq.eq m c.args.k c.in-Some.place at.place v.0 v.1 in
+    let same = (found-written g.K.PartialEq.eq m c.args.k c.in-Some.place at.place g.met.K.Eq.laws at.unique c.replace.new.dest).buckets in
     record {
       growth = grows-same m _ same;
       kept = λ none. let found = rw here at none in cc;

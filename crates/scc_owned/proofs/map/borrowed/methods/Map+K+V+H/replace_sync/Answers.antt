@@ -12,7 +12,7 @@ use Rattle.scc_table.proofs.relocations.AfterWrites.{waiting-write}
 use Rattle.scc_owned.proofs.map.borrowed.methods.Map+K+V+H.replace_sync.Goals as goal
 
 pub replace_key_at-old-requires-clause-same : goal.replace_key_at-old-requires-clause-same
-replace_key_at-old-requires-clause-same g c = let found = rw c.self.view_is at c.in-Some.ensures.place in λ p got. found-equal _ _ _ found p got
+replace_key_at-old-requires-clause-same g c = let found = rw c.self.view_is at c.in-Some.ensures.place in λ p got. found-equal g.K.PartialEq.eq _ _ _ found p got
 
 pub at-requires-clause-within : goal.at-requires-clause-within
 at-requires-clause-within g c =
@@ -22,7 +22,7 @@ at-requires-clause-within g c =
 pub at-requires-clause-unique : goal.at-requires-clause-unique
 at-requires-clause-unique g c =
     let at = rw c.self.view_is at c.in-Some.ensures in
-    rw c.replace_key_at-old.ensures.new (swapped-unique _ _ _ at.place g.met.K.Eq.laws at.unique)
+    rw c.replace_key_at-old.ensures.new (swapped-unique g.K.PartialEq.eq _ _ _ at.place g.met.K.Eq.laws at.unique)
 
 pub of_key-requires : goal.of_key-requires
 of_key-requires g c = rw (← c.self.view_is) record { absent = c.in-None.ensures.place; hashed = c.hash-hash.ensures; unique = c.search.ensures.unique }
@@ -33,10 +33,10 @@ returns-in-Some-clause-step g c =
     let at = rw c.self.view_is at c.in-Some.ensures in
     let old = c.replace_key_at-old.ensures.old in (
       old.0.1,
-      found-here m c.args.k c.in-Some.place at.place old.0 old.1 ∙ ap (λ x. Some (x, old.0.1)) (sym old.2),
+      found-here g.K.PartialEq.eq m c.args.k c.in-Some.place at.place old.0 old.1 ∙ ap (λ x. Some (x, old.0.1)) (sym old.2),
       (
         pair-at c.at.result _ _ c.at.ensures.guard c.at.ensures.place (c.args.k, old.0.1) (ap (λ n. slice_get (entries n) (index_of n c.in-Some.place)) c.replace_key_at-old.ensures.new ∙ key-got m c.in-Some.place at.place.within c.args.k old.0 old.1),
-        rw (ap (λ x. x.now) c.at.ensures.guard ∙ c.replace_key_at-old.ensures.new) (found-swapped _ _ _ at.place g.met.K.Eq.laws at.unique),
+        rw (ap (λ x. x.now) c.at.ensures.guard ∙ c.replace_key_at-old.ensures.new) (found-swapped g.K.PartialEq.eq _ _ _ at.place g.met.K.Eq.laws at.unique),
       ),
     )
 

@@ -17,7 +17,7 @@ replace_key_at-old-requires-clause-within g c = let found = rw c.look-2.ensures 
 pub replace_key_at-old-requires-clause-same : goal.replace_key_at-old-requires-clause-same
 replace_key_at-old-requires-clause-same g c =
     let found = rw c.look-2.ensures at c.in-Some.ensures.place in
-    rw c.lend.ensures.value (λ p got. found-equal _ _ _ found p got)
+    rw c.lend.ensures.value (λ p got. found-equal g.K.PartialEq.eq _ _ _ found p got)
 
 pub at-requires-clause-within : goal.at-requires-clause-within
 at-requires-clause-within g c =
@@ -29,7 +29,7 @@ at-requires-clause-unique g c =
     let found = rw c.look-2.ensures at c.in-Some.ensures.place in
     let unique = rw c.look-2.ensures at c.search.ensures.unique in
     let is = g.G.Guard.inner_law c.args.guard c.replace_key_at-old.new.self ∙ c.replace_key_at-old.ensures.new ∙ ap (λ m. with_write_at with_pair_key m c.in-Some.place c.args.k) c.lend.ensures.value in
-    rw is (swapped-unique _ _ _ found g.met.K.Eq.laws unique)
+    rw is (swapped-unique g.K.PartialEq.eq _ _ _ found g.met.K.Eq.laws unique)
 
 pub returns-in-Some-clause-step : goal.returns-in-Some-clause-step
 returns-in-Some-clause-step g c =
@@ -39,10 +39,10 @@ returns-in-Some-clause-step g c =
     let is = g.G.Guard.inner_law c.args.guard c.replace_key_at-old.new.self ∙ c.replace_key_at-old.ensures.new ∙ ap (λ m. with_write_at with_pair_key m c.in-Some.place c.args.k) c.lend.ensures.value in
     let old = rw c.lend.ensures.value at c.replace_key_at-old.ensures.old in (
       old.0.1,
-      found-here m c.args.k c.in-Some.place found old.0 old.1 ∙ ap (λ x. Some (x, old.0.1)) (sym old.2),
+      found-here g.K.PartialEq.eq m c.args.k c.in-Some.place found old.0 old.1 ∙ ap (λ x. Some (x, old.0.1)) (sym old.2),
       (
         pair-at c.at.result _ _ c.at.ensures.guard c.at.ensures.place (c.args.k, old.0.1) (ap (λ n. slice_get (entries n) (index_of n c.in-Some.place)) is ∙ key-got m c.in-Some.place found.within c.args.k old.0 old.1),
-        rw (ap g.G.Guard.inner c.at.ensures.guard ∙ is) (found-swapped _ _ _ found g.met.K.Eq.laws unique),
+        rw (ap g.G.Guard.inner c.at.ensures.guard ∙ is) (found-swapped g.K.PartialEq.eq _ _ _ found g.met.K.Eq.laws unique),
       ),
     )
 
