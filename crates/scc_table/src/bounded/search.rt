@@ -39,6 +39,8 @@ where
             (IsListedAt (λ e. E.Key.eq key.now (E.key_of e)) self.now
             (bucket_number (settings_of self.now).skipped (bucket_count self.now) hash)) }
     {
+        // The bucket is computed before the search branches, so that a put after it doesn't compute it again.
+        let _bucket = self.bucket_at(hash);
         self.search(hash, key)
     }
 
