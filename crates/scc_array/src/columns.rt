@@ -31,7 +31,7 @@ where
         requires tagged { IsTagged (λ e. E.Key.eq key.now (E.key_of e)) tag (window_of self.old bucket) }
         ensures { TakesFirstOf (λ e. E.Key.eq key.now (E.key_of e)) self.old bucket self.new result }
     {
-        match self.find(bucket, key, tag) {
+        match self.search(bucket, key, tag) {
             Some(slot) => Some(self.swap_remove(bucket, slot)),
             None => None,
         }
@@ -40,7 +40,7 @@ where
     /// Returns the slot of the first entry of the bucket whose key equals `key`. Only entries whose tag is `tag` are
     /// compared, in the order of their slots.
     #[inline(always)]
-    pub fn find(&self, bucket: usize, key: &E::Key, tag: u8) -> Option<usize>
+    pub fn search(&self, bucket: usize, key: &E::Key, tag: u8) -> Option<usize>
         requires bucket { bucket < length self.now }
         requires tag { 0 < tag }
         requires tagged { IsTagged (λ e. E.Key.eq key.now (E.key_of e)) tag (window_of self.now bucket) }

@@ -244,7 +244,7 @@ where
         requires tagged { HasTag (λ e. E.Key.eq key.now (E.key_of e)) tag (shelf_of self.now bucket) }
         ensures { result ≡ position (λ e. E.Key.eq key.now (E.key_of e)) (shelf_entries (shelf_of self.now bucket)) }
     {
-        match self.columns.find(bucket, key, tag) {
+        match self.columns.search(bucket, key, tag) {
             Some(slot) => Some(slot),
             None => {
                 if !self.may_overflow(bucket) {

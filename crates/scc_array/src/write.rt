@@ -37,7 +37,7 @@ where
         ensures { UpdatesShelf U.FnOnce u E.Keyed.key_of E.value_of E.with_value
             (λ e. E.Key.eq key.now (E.Keyed.key_of e)) self.old bucket self.new result }
     {
-        match self.columns.find(bucket, key, tag) {
+        match self.columns.search(bucket, key, tag) {
             Some(slot) => {
                 let (own, value) = self.parts_mut_in(bucket, slot);
                 Some(u(own, value))

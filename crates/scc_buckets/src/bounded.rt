@@ -27,8 +27,7 @@ where
             self.new }
         ensures unique { IsUniqueBy E.Key.eq E.key_of self.new }
     {
-        let _ = self.insert_with_room(bucket, hash, entry);
-        self.list_facts();
+        let _place = self.insert_with_room(bucket, hash, entry);
     }
 
     /// Puts `entry`, whose key is new, at the end of the list of `bucket`, and returns its slot. If the bucket holds 32
@@ -72,7 +71,6 @@ where
         ensures unique { IsUniqueBy E.Key.eq E.key_of self.new }
     {
         if self.list_len(bucket) - slot == 1 {
-            self.list_facts();
             return;
         }
         let entry = self.take_in(Place { bucket, slot });

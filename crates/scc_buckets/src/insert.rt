@@ -1,4 +1,5 @@
 //! Insertions into buckets: of an entry, and of an entry that the insertion makes of its parts.
+ghost use Rattle.scc_buckets.specs.Bounded.{IsBounded, IsListed};
 ghost use Rattle.scc_buckets.specs.Insertions.{InsertsInBucket, InsertsMadeInBucket, InsertsMadeInFirstArray, InsertsWithRoom, IsNewIn};
 ghost use Rattle.scc_common.specs.Contents.{entries, bucket_count, list_of, key_hash};
 ghost use Rattle.std.specs.List.{position};
@@ -41,7 +42,9 @@ where
         requires new { IsNewIn E.Key.eq E.key_of (key_hash H.BuildHasher H.Hasher.Hasher E.Key.hash_input self.old) self.old
             bucket hash (E.key_of entry) }
         requires short { length (list_of self.old bucket) < 32 }
-        ensures { InsertsWithRoom E.Key.eq E.key_of self.old bucket entry result self.new }
+        ensures inserts { InsertsWithRoom E.Key.eq E.key_of self.old bucket entry result self.new }
+        ensures listed { IsBounded self.new → IsListed
+            (λ e. key_hash H.BuildHasher H.Hasher.Hasher E.Key.hash_input self.new (E.key_of e)) self.new }
     {
         let slot = self.buckets.insert_reserved(bucket, entry, tag(hash));
         self.length += 1;

@@ -5,7 +5,7 @@
 ghost use Rattle.scc_array.specs.Shelf.{shelf_entries};
 ghost use Rattle.scc_array.specs.Shelves.{shelf_of};
 ghost use Rattle.scc_buckets.specs.Places.{IsFoundAtSpot};
-ghost use Rattle.scc_common.specs.Contents.{entries, bucket_count, overflow_of, key_hash, bucket_of, IsUniqueBy, note_of};
+ghost use Rattle.scc_common.specs.Contents.{entries, bucket_count, overflow_of, key_hash, bucket_of, IsRouted, IsUniqueBy, note_of};
 ghost use Rattle.scc_common.specs.Sizes.{IsLawful};
 ghost use Rattle.std.specs.List.{flat_map, position};
 ghost use Rattle.std.specs.Prelude.{◌≡◌, ◌≤◌, ◌<◌, ◌+◌, ◌*◌, ◌^◌, ℕ, [], length, Some, None, MatchOption};
@@ -85,6 +85,7 @@ where
     pub fn len(&self) -> usize
         ensures len { result ≡ length (entries self.now) }
         ensures most { result ≤ 32 * bucket_count self.now + overflow_of self.now }
+        ensures wide { bucket_count self.now ≤ 2 ^ 58 }
         ensures unique { IsUniqueBy E.Key.eq E.key_of self.now }
     {
         self.length
@@ -105,6 +106,10 @@ where
         ensures count { result ≡ bucket_count self.now }
         ensures most { result ≤ 2 ^ 58 }
         ensures lawful { IsLawful result }
+        ensures few { length (entries self.now) ≤ 32 * bucket_count self.now + overflow_of self.now }
+        ensures routed { IsRouted (λ e. key_hash H.BuildHasher H.Hasher.Hasher E.Key.hash_input self.now (E.key_of e))
+            self.now }
+        ensures unique { IsUniqueBy E.Key.eq E.key_of self.now }
     {
         self.buckets.len()
     }
@@ -139,6 +144,8 @@ where
         requires { hash ≡ key_hash H.BuildHasher H.Hasher.Hasher E.Key.hash_input self.now key.now }
         ensures place { MatchOption result (position (λ e. E.Key.eq key.now (E.key_of e)) (entries self.now) ≡ None)
             (IsFoundAtSpot (λ e. E.Key.eq key.now (E.key_of e)) self.now) }
+        ensures routed { IsRouted (λ e. key_hash H.BuildHasher H.Hasher.Hasher E.Key.hash_input self.now (E.key_of e))
+            self.now }
         ensures unique { IsUniqueBy E.Key.eq E.key_of self.now }
     {
         let count = self.buckets.len();

@@ -85,6 +85,8 @@ where
         requires hashed { hash ≡ key_hash H.BuildHasher H.Hasher.Hasher E.Key.hash_input self.now key.now }
         ensures place { result ≡ position (λ e. E.Key.eq key.now (E.key_of e)) (list_of self.now bucket) }
         ensures missed { result ≡ None → position (λ e. E.Key.eq key.now (E.key_of e)) (entries self.now) ≡ None }
+        ensures routed { IsRouted (λ e. key_hash H.BuildHasher H.Hasher.Hasher E.Key.hash_input self.now (E.key_of e))
+            self.now }
     {
         self.buckets.search(bucket, key, tag(hash))
     }
@@ -108,19 +110,6 @@ where
         }
     }
 
-    /// States what always holds of the lists: each entry stands in the bucket of its hash, and no two keys are equal.
-    /// It does nothing, and is there for its contract.
-    #[inline(always)]
-    pub fn list_facts(&self)
-        ensures routed { IsRouted (λ e. key_hash H.BuildHasher H.Hasher.Hasher E.Key.hash_input self.now (E.key_of e))
-            self.now }
-        ensures listed { IsBounded self.now → IsListed
-            (λ e. key_hash H.BuildHasher H.Hasher.Hasher E.Key.hash_input self.now (E.key_of e)) self.now }
-        ensures unique { IsUniqueBy E.Key.eq E.key_of self.now }
-    {
-        let _ = self.buckets.len();
-    }
-
     /// Returns the entry at `place`. The contract speaks of the list of the bucket.
     #[inline(always)]
     pub fn entry_in(&self, place: Place) -> &E
@@ -134,7 +123,12 @@ where
     #[inline(always)]
     pub fn list_len(&self, bucket: usize) -> usize
         requires { bucket < bucket_count self.now }
-        ensures { result ≡ length (list_of self.now bucket) }
+        ensures len { result ≡ length (list_of self.now bucket) }
+        ensures listed { IsBounded self.now → IsListed
+            (λ e. key_hash H.BuildHasher H.Hasher.Hasher E.Key.hash_input self.now (E.key_of e)) self.now }
+        ensures routed { IsRouted (λ e. key_hash H.BuildHasher H.Hasher.Hasher E.Key.hash_input self.now (E.key_of e))
+            self.now }
+        ensures unique { IsUniqueBy E.Key.eq E.key_of self.now }
     {
         self.buckets.bucket_len(bucket)
     }

@@ -2,7 +2,7 @@
 ghost use Rattle.scc_array.specs.Shelf.{shelf_entries};
 ghost use Rattle.scc_buckets.specs.Making.{AreNewBuckets, MakesBuckets, InstallsFirstArray, InstallsBuckets};
 ghost use Rattle.scc_buckets.specs.Tables.{AllEmpty, IsBuckets};
-ghost use Rattle.scc_common.specs.Contents.{entries, bucket_count, settings_of, key_hash, refused_of};
+ghost use Rattle.scc_common.specs.Contents.{entries, bucket_count, settings_of, key_hash, overflow_of, notes_of, IsRouted, IsUniqueBy};
 ghost use Rattle.std.specs.List.{flat_map, IsDistinct};
 ghost use Rattle.std.specs.Prelude.{◌≡◌, ◌<◌, ◌≤◌, ◌+◌, ◌*◌, ◌^◌, [], false, length, IfOk, map};
 
@@ -18,7 +18,12 @@ where
     E::Key: Eq + Hash,
 {
     /// Returns the allocator of the buckets.
-    pub fn allocator(&self) -> Global {
+    pub fn allocator(&self) -> Global
+        ensures few { overflow_of self.now < 2 ^ 62 }
+        ensures routed { IsRouted (λ e. key_hash H.BuildHasher H.Hasher.Hasher E.Key.hash_input self.now (E.key_of e))
+            self.now }
+        ensures unique { IsUniqueBy E.Key.eq E.key_of self.now }
+    {
         self.buckets.allocator()
     }
 
@@ -96,7 +101,8 @@ where
         ensures still { entries self.new ≡ [] }
         ensures buckets { bucket_count self.new ≡ 0 }
         ensures settings { settings_of self.new ≡ settings_of self.old }
-        ensures noted { refused_of self.new ≡ refused_of self.old }
+        ensures noted { notes_of self.new ≡ notes_of self.old }
+        ensures few { overflow_of self.new < 2 ^ 62 }
     {
         self.length = 0;
         self.overflowing = 0;

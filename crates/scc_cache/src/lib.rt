@@ -194,7 +194,6 @@ impl<K: Eq + Hash, V, H: BuildHasher> Owned<K, V, H> {
         if f(self.value_mut_at(place)) {
             Some(self.remove_at(place))
         } else {
-            let _ = self.len();
             None
         }
     }

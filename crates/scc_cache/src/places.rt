@@ -71,7 +71,7 @@ impl<K: Eq + Hash, V, H: BuildHasher> Owned<K, V, H> {
     {
         match self.table.bucket_within(hash, self.maximum) {
             Ok(bucket) => {
-                self.table.drop_room_within();
+                self.table.drop_mark();
                 let (evicted, slot) = self.table.put_within(bucket, hash, (k, v));
                 Ok((evicted, Place { bucket, slot }))
             }
@@ -117,8 +117,10 @@ impl<K: Eq + Hash, V, H: BuildHasher> Owned<K, V, H> {
             self.old.contents self.new.contents) }
     {
         self.table.search_place(hash, k)?;
-        self.table.relocate_within(bucket);
-        self.refresh_in_bucket(bucket, hash, k)
+        match self.table.relocate(bucket) {
+            Ok(()) => self.refresh_in_bucket(bucket, hash, k),
+            Err(_) => unreachable!(),
+        }
     }
 
     /// Does what `refresh` does if `bucket`, the bucket of `hash`, doesn't wait.
@@ -208,8 +210,6 @@ impl<K: Eq + Hash, V, H: BuildHasher> Owned<K, V, H> {
             (spot_of self.new.contents place).slot ≡ Some p → K.eq result p.0 ≡ true }
         ensures state { IsCacheState K.eq (hash_in ⟦<H as Hashes<K>>⟧.hash_of self.new.contents) self.new }
     {
-        let old = self.table.replace_key_at(place, key);
-        let _ = self.table.len();
-        old
+        self.table.replace_key_at(place, key)
     }
 }

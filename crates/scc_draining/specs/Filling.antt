@@ -3,7 +3,7 @@ use Rattle.std.specs.Prelude.{◌≡◌, ℕ, ◌+◌, ◌<◌, ◌≤◌, ◌^�
 use Rattle.std.specs.Result.{OnOk, OnErr}
 use Rattle.scc_array.specs.Shelves.{shelf_of}
 use Rattle.scc_array.specs.Shelf.{Shelf, empty_shelf}
-use Rattle.scc_common.specs.Contents.{Contents, overflow_of}
+use Rattle.scc_common.specs.Contents.{Contents, overflow_of, IsRouted}
 use Rattle.scc_draining.specs.Moves.{Drains, TakesOver}
 
 module _ {E X : Type 0} (hash : E → ℕ) where
@@ -38,3 +38,5 @@ module _ {E X : Type 0} (hash : E → ℕ) where
     pub stays : OnErr result (news ≡ olds)
     -- the call fails only if more than 32 entries come
     pub refused : OnErr result (32 < coming)
+    -- each entry of the table stands in the list of the bucket of its hash
+    pub routed : IsRouted hash c

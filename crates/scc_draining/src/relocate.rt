@@ -52,9 +52,9 @@ where
         E.Key.hash_input table.now (E.key_of e)) == task.target) }
 {
     let slots = old.slot_count(source);
-    for place in 0..slots {
-        let hash = table.hash(old.entry_of(source, place, slots).key());
-        flags[place] = (bucket_index(hash, task.skipped, count) == task.target) as u8;
+    for slot in 0..slots {
+        let hash = table.hash(old.entry_of(source, slot, slots).key());
+        flags[slot] = (bucket_index(hash, task.skipped, count) == task.target) as u8;
     }
 }
 
@@ -79,14 +79,14 @@ where
     ensures others { into.new ≡ slice_set into.old task.target (shelf_of into.new task.target) }
 {
     let entry_count = old.bucket_len(source);
-    let mut place = 0;
+    let mut slot = 0;
     for seen in 0..entry_count {
-        let hash = table.hash(old.entry_at(source, place).key());
+        let hash = table.hash(old.entry_at(source, slot).key());
         if bucket_index(hash, task.skipped, count) == task.target {
-            let entry = old.remove_at(source, place);
+            let entry = old.remove_at(source, slot);
             into.insert_in_room(task.target, entry, tag(hash));
         } else {
-            place += 1;
+            slot += 1;
         }
     }
 }
@@ -241,7 +241,6 @@ where
     ensures { MovesTarget (λ e. key_hash H.BuildHasher H.Hasher.Hasher E.Key.hash_input current.old (E.key_of e))
         task.target coming aside current.old old.old result current.new old.new }
 {
-    current.list_facts();
     let alloc = current.allocator();
     let (mut fresh, count, overflowing) = current.install(Array::none(alloc), 0, 0);
     let buckets = fresh.len();
@@ -331,8 +330,8 @@ where
 {
     let entry_count = old.bucket_len(source);
     let mut found = 0;
-    for place in 0..entry_count {
-        let hash = table.hash(old.entry_at(source, place).key());
+    for slot in 0..entry_count {
+        let hash = table.hash(old.entry_at(source, slot).key());
         if bucket_index(hash, skipped, count) == target {
             found += 1;
         }

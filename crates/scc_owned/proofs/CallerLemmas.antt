@@ -80,7 +80,7 @@ module _ {G N K V S T : Type 0} {keep : guard.Ghosts G (Contents (K × V) S)} {b
   pub finds-put : (e : HeldVacant G N (K × V) S K T keep pair_keys b w g h) (o : HeldOccupied G N (K × V) S K T keep pair_keys b w g h) (v : V) → IsVacantAt eq c k e → IsInserted e v o → IsUnique eq (keep.inner o.guard) → FindsInstead eq (entries c) k (Some (k, v)) (entries (keep.inner o.guard))
   finds-put e o v at put u = record {
     finds = λ q.
-        (finds-inserted laws (keep.inner e.guard) (keep.inner o.guard) (e.key.key, v) put.at.contents u).finds q
+        (finds-inserted laws (keep.inner e.guard) (keep.inner o.guard) (e.key, v) put.at.contents u).finds q
         ∙ (λ i. cond (eq q (at.key i)) (Some (at.key i, v)) (find eq (entries (at.contents i)) q));
   }
 

@@ -4,13 +4,13 @@ use Rattle.std.specs.Cmp.{IsEquivalence}
 use Rattle.std.specs.Prelude.{map}
 use mathlib.Core.Option.{some}
 use Rattle.std.specs.Borrow.{MutBor}
-use Rattle.std.specs.List.{IsDistinct, position, slice_get}
+use Rattle.std.specs.List.{IsDistinct, IsDistinct-prop, position, slice_get}
 use Rattle.std.specs.declared.cmp.PartialEq as eq
 use Rattle.std.specs.declared.hash.Hash as hash
 use Rattle.std.specs.declared.hash.Hasher as hasher
 use Rattle.std.specs.declared.hash.BuildHasher as builder
 use Rattle.scc_buckets.specs.declared.place.Place.{Place}
-use Rattle.scc_common.specs.Contents.{Contents, entries}
+use Rattle.scc_common.specs.Contents.{Contents, entries, IsUniqueBy}
 use Rattle.scc_common.specs.declared.entry.Keyed as keyed
 use Rattle.scc_common.specs.declared.guard.Guard as guard
 use Rattle.scc_buckets.specs.Placed as spots
@@ -34,14 +34,14 @@ module _ {G N E S K T : Type 0} {d : guard.Ghosts G (Contents E S)} {y : keyed.G
   pair-at o x q guarded placed p got = entry_of-is (d.inner o.guard) o.place o.within p (rw (guarded, placed) got)
 
   -- an entry that is made again from its parts is equal to the entry
-  pub same-entry : (o : HeldOccupied G N E S K T d y b w g h) (p : IsPlace (d.inner o.guard) o.place) → record o { within = p } ≡ o
-  same-entry o p = ap (λ r. record o { within = r }) (place-prop (d.inner o.guard) o.place p o.within)
+  pub same-entry : (o : HeldOccupied G N E S K T d y b w g h) (p : IsPlace (d.inner o.guard) o.place) (u : IsUniqueBy g.eq y.key_of (d.inner o.guard)) → record o { within = p; unique = u } ≡ o
+  same-entry o p u = ap (λ r. record o { within = r; unique = u }) (place-prop (d.inner o.guard) o.place p o.within) ∙ ap (λ r. record o { unique = r }) (IsDistinct-prop g.eq (map y.key_of (entries (d.inner o.guard))) u o.unique)
 
   -- an entry with the guard, the place and the rest of another is equal to it
   pub same-made : (o r : HeldOccupied G N E S K T d y b w g h) → r.guard ≡ o.guard → r.place ≡ o.place → r.rest ≡ o.rest → r ≡ o
   same-made o r guarded placed rests =
-      let Made : G → Place → N → Type 0 = λ x p n. (i : IsPlace (d.inner x) p) → record { guard = x; place = p; rest = n; of = o.of; within = i } ≡ o in
-      subst (λ n. Made r.guard r.place n) (sym rests) (subst (λ p. Made r.guard p o.rest) (sym placed) (subst (λ x. Made x o.place o.rest) (sym guarded) (λ i. same-entry o i))) r.within
+      let Made : G → Place → N → Type 0 = λ x p n. (i : IsPlace (d.inner x) p) (u : IsUniqueBy g.eq y.key_of (d.inner x)) → record { guard = x; place = p; rest = n; of = o.of; within = i; unique = u } ≡ o in
+      subst (λ n. Made r.guard r.place n) (sym rests) (subst (λ p. Made r.guard p o.rest) (sym placed) (subst (λ x. Made x o.place o.rest) (sym guarded) (λ i u. same-entry o i u))) r.within r.unique
 
 module _ {E K V S : Type 0} {l : Lookups E K V} {key : E → K} (lawful : AreLawful l key) where
   -- a search for a position tells what a look-up finds

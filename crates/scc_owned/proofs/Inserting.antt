@@ -63,24 +63,24 @@ module _ {G N E V S K T : Type 0} {d : guard.Ghosts G (Contents E S)} {y : keyed
 
 module _ {G N E S K T : Type 0} {d : guard.Ghosts G (Contents E S)} {y : keyed.Ghosts E K} {b : builder.Ghosts S T} {w : hasher.Ghosts T} {g : eq.Ghosts K} {h : hash.Ghosts K} where
   -- if a closure fails at a vacant entry, its error comes back
-  pub fails-at : {X : Type 0} (Q : K → X → Type 0) (e : HeldEntry G N E S K T d y b w g h) (x : HeldVacant G N E S K T d y b w g h) (y : X) → e ≡ Vacant x → Q x.key.key y → FailsAtVacant e Q y
+  pub fails-at : {X : Type 0} (Q : K → X → Type 0) (e : HeldEntry G N E S K T d y b w g h) (x : HeldVacant G N E S K T d y b w g h) (y : X) → e ≡ Vacant x → Q x.key y → FailsAtVacant e Q y
   fails-at Q e x y is gave = subst (λ z. FailsAtVacant z Q y) (sym is) (record { vacant = tt; failed = gave })
 
 module _ {G N E V S K T : Type 0} {d : guard.Ghosts G (Contents E S)} {y : keyed.Ghosts E K} {b : builder.Ghosts S T} {w : hasher.Ghosts T} {g : eq.Ghosts K} {h : hash.Ghosts K} {made : K → V → E} where
   -- if a pair is inserted through the guard, the returned entry stands at that pair
-  pub inserted-after : (e : HeldVacant G N E S K T d y b w g h) (m n : Contents E S) (v : V) (o : HeldOccupied G N E S K T d y b w g h) → o.guard ≡ d.with_inner e.guard n → o.rest ≡ e.rest → m ≡ d.inner e.guard → IsInsertedAt m (made e.key.key v) n o.place → IsInserted made e v o
+  pub inserted-after : (e : HeldVacant G N E S K T d y b w g h) (m n : Contents E S) (v : V) (o : HeldOccupied G N E S K T d y b w g h) → o.guard ≡ d.with_inner e.guard n → o.rest ≡ e.rest → m ≡ d.inner e.guard → IsInsertedAt m (made e.key v) n o.place → IsInserted made e v o
   inserted-after e m n v o guarded rests is i =
       let k : d.inner o.guard ≡ n = ap d.inner guarded ∙ d.inner_law e.guard n in
       record {
         same_guard = guarded ∙ ap (d.with_inner e.guard) (sym k);
         rest = rests;
-        at = put-there (d.inner e.guard) (made e.key.key v) (d.inner o.guard) o.place o.within (subst (λ c. IsInsertedAt c (made e.key.key v) (d.inner o.guard) o.place) is (subst (λ c. IsInsertedAt m (made e.key.key v) c o.place) (sym k) i));
+        at = put-there (d.inner e.guard) (made e.key v) (d.inner o.guard) o.place o.within (subst (λ c. IsInsertedAt c (made e.key v) (d.inner o.guard) o.place) is (subst (λ c. IsInsertedAt m (made e.key v) c o.place) (sym k) i));
       }
 
   -- if a new pair was inserted at q through the guard, an entry with that guard and the place q meets the contract of
   -- `insert_entry`
   pub inserts-at-vacant : {taking : Bool} (same : K → K → Bool) (hash_of : S → K → ℕ) (e : HeldVacant G N E S K T d y b w g h) (m n : Contents E S) (v : V) (o : HeldOccupied G N E S K T d y b w g h) (q : Place) → o.guard ≡ d.with_inner e.guard n → o.place ≡ q → o.rest ≡ e.rest
-      → m ≡ d.inner e.guard → IsInsertedAt m (made e.key.key v) n q → IsGrownFor y.key_of (hash_in hash_of m) m e.key.key n → Relocates m n → RelocatesTwo (hash_in hash_of m e.key.key) m n → IsUniqueBy same y.key_of n → InsertsAtVacant made same hash_of taking e v (Ok o)
+      → m ≡ d.inner e.guard → IsInsertedAt m (made e.key v) n q → IsGrownFor y.key_of (hash_in hash_of m) m e.key n → Relocates m n → RelocatesTwo (hash_in hash_of m e.key) m n → IsUniqueBy same y.key_of n → InsertsAtVacant made same hash_of taking e v (Ok o)
   inserts-at-vacant same hash_of e m n v o q guarded placed rests is i growth relocates two unique =
       let k : d.inner o.guard ≡ n = ap d.inner guarded ∙ d.inner_law e.guard n in
       record {
@@ -94,11 +94,11 @@ module _ {G N E V S K T : Type 0} {d : guard.Ghosts G (Contents E S)} {y : keyed
       }
 
   -- the insertion of v through a vacant entry is the insertion of a value for which P holds, if P holds of v
-  pub through-vacant : {taking : Bool} (same : K → K → Bool) (hash_of : S → K → ℕ) (P : K → V → Type 0) (e : HeldEntry G N E S K T d y b w g h) (x : HeldVacant G N E S K T d y b w g h) (v : V) (r : Result (HeldOccupied G N E S K T d y b w g h) (InsertError K V)) → e ≡ Vacant x → P x.key.key v → InsertsAtVacant made same hash_of taking x v r → InsertsThrough made same hash_of taking e (OrInsertsSome made e P) (RefusesSome e P) r
+  pub through-vacant : {taking : Bool} (same : K → K → Bool) (hash_of : S → K → ℕ) (P : K → V → Type 0) (e : HeldEntry G N E S K T d y b w g h) (x : HeldVacant G N E S K T d y b w g h) (v : V) (r : Result (HeldOccupied G N E S K T d y b w g h) (InsertError K V)) → e ≡ Vacant x → P x.key v → InsertsAtVacant made same hash_of taking x v r → InsertsThrough made same hash_of taking e (OrInsertsSome made e P) (RefusesSome e P) r
   through-vacant {taking} same hash_of P e x v r is gave put =
       subst (λ z. InsertsThrough made same hash_of taking z (OrInsertsSome made z P) (RefusesSome z P) r) (sym is) record {
         entry = map-ok (IsInserted made x v) (OrInsertsSome made (Vacant x) P) r (λ o i. (v, gave, i)) put.inserted;
-        refused = map-err (λ y. y ≡ Memory (x.key.key, v)) (RefusesSome (Vacant x) P) r (λ y i. (v, gave, i)) put.refused;
+        refused = map-err (λ y. y ≡ Memory (x.key, v)) (RefusesSome (Vacant x) P) r (λ y i. (v, gave, i)) put.refused;
         vacant = any-err r;
         full = put.full;
         growth = put.growth;
@@ -110,18 +110,18 @@ module _ {G N E V S K T : Type 0} {d : guard.Ghosts G (Contents E S)} {y : keyed
   -- if P implies Q, an insertion of some value with P is an insertion of some value with Q
   pub inserts-some : {X : Type 0} {P Q : K → V → Type 0} (e : HeldEntry G N E S K T d y b w g h) (r : Result (HeldOccupied G N E S K T d y b w g h) X) → IfOk r (OrInsertsSome made e P) → ((k : K) (v : V) → P k v → Q k v) → IfOk r (OrInsertsSome made e Q)
   inserts-some (Occupied p) (Ok o) i f = i
-  inserts-some (Vacant e) (Ok o) i f = (i.0, f e.key.key i.0 i.1, i.2)
+  inserts-some (Vacant e) (Ok o) i f = (i.0, f e.key i.0 i.1, i.2)
   inserts-some e (Err x) i f = tt
 
   -- if x is the only value with P, an insertion of some value with P is an insertion of x
   pub inserts-this : {X : Type 0} {P : K → V → Type 0} {x : V} (e : HeldEntry G N E S K T d y b w g h) (r : Result (HeldOccupied G N E S K T d y b w g h) X) → IfOk r (OrInsertsSome made e P) → ((k : K) (v : V) → P k v → v ≡ x) → IfOk r (OrInserts made e x)
   inserts-this (Occupied p) (Ok o) i f = i
-  inserts-this (Vacant e) (Ok o) i f = subst (λ v. IsInserted made e v o) (f e.key.key i.0 i.1) i.2
+  inserts-this (Vacant e) (Ok o) i f = subst (λ v. IsInserted made e v o) (f e.key i.0 i.1) i.2
   inserts-this e (Err x) i f = tt
 
   some-as : (P P' : K → V → Type 0) (e : HeldEntry G N E S K T d y b w g h) (o : HeldOccupied G N E S K T d y b w g h) → ((k : K) (v : V) → P' k v → P k v) → OrInsertsSome made e P' o → OrInsertsSome made e P o
   some-as P P' (Occupied p) o f i = i
-  some-as P P' (Vacant x) o f i = (i.0, f x.key.key i.0 i.1, i.2)
+  some-as P P' (Vacant x) o f i = (i.0, f x.key i.0 i.1, i.2)
 
   -- an insertion of a value that a closure makes meets the contract for P and Q if it meets that for P' and Q', which
   -- imply them

@@ -3,6 +3,7 @@ pub mod CallerLemmas
 pub mod Clones
 pub mod EntrySteps
 pub mod Filtering
+pub mod Found
 pub mod HeldEntries
 pub mod IndexCollecting
 pub mod IndexEntries

@@ -44,7 +44,7 @@ module _ {G N E S K T : Type 0} {d : guard.Ghosts G (Contents E S)} {y : keyed.G
 
   -- the key of a vacant entry
   abbrev pub vacant_key : HeldVacant G N E S K T d y b w g h → K
-  vacant_key e = e.key.key
+  vacant_key e = e.key
 
   -- the guard of the entry's container
   abbrev pub entry_guard : HeldEntry G N E S K T d y b w g h → G
@@ -54,7 +54,7 @@ module _ {G N E S K T : Type 0} {d : guard.Ghosts G (Contents E S)} {y : keyed.G
   -- the stored key of an occupied entry, or the key of a vacant entry
   abbrev pub entry_key : HeldEntry G N E S K T d y b w g h → K
   entry_key (Occupied o) = y.key_of (occupied_pair o)
-  entry_key (Vacant e) = e.key.key
+  entry_key (Vacant e) = e.key
 
 module _ (E S K T : RattleType) (y : keyed.Ghosts E.Denot K.Denot) (key : HashMembers K.Denot) (build : builder.Ghosts S.Denot T.Denot) (feed : hasher.Ghosts T.Denot) where
   -- an entry of a borrowed container

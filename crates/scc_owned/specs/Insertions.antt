@@ -96,12 +96,12 @@ module _ {G N E V S K T : Type 0} {d : guard.Ghosts G (Contents E S)} {y : keyed
   pub record IsInserted (e : HeldVacant G N E S K T d y b w g h) (v : V) (o : HeldOccupied G N E S K T d y b w g h) : Type 0 where
     pub same_guard : o.guard ≡ d.with_inner e.guard (d.inner o.guard)
     pub rest : o.rest ≡ e.rest
-    pub at : IsPutAt (d.inner e.guard) (made e.key.key v) (d.inner o.guard) o.place o.within
+    pub at : IsPutAt (d.inner e.guard) (made e.key v) (d.inner o.guard) o.place o.within
 
   -- o is the entry; if the entry was vacant, a value for which P holds was inserted
   abbrev pub OrInsertsSome : HeldEntry G N E S K T d y b w g h → (K → V → Type 0) → HeldOccupied G N E S K T d y b w g h → Type 0
   OrInsertsSome (Occupied p) P o = o ≡ p
-  OrInsertsSome (Vacant e) P o = (v : V) × P e.key.key v × IsInserted e v o
+  OrInsertsSome (Vacant e) P o = (v : V) × P e.key v × IsInserted e v o
 
   -- o is the entry; if the entry was vacant, v was inserted
   abbrev pub OrInserts : HeldEntry G N E S K T d y b w g h → V → HeldOccupied G N E S K T d y b w g h → Type 0
@@ -117,13 +117,13 @@ module _ {G N E S K T : Type 0} {d : guard.Ghosts G (Contents E S)} {y : keyed.G
   -- if a value was inserted, the array grew as an insertion of the key may and must grow it
   abbrev pub GrowsThrough : (K → ℕ) → HeldEntry G N E S K T d y b w g h → HeldOccupied G N E S K T d y b w g h → Type 0
   GrowsThrough hash (Occupied p) o = ⊤
-  GrowsThrough hash (Vacant e) o = IsGrownFor y.key_of hash (d.inner e.guard) e.key.key (d.inner o.guard)
+  GrowsThrough hash (Vacant e) o = IsGrownFor y.key_of hash (d.inner e.guard) e.key (d.inner o.guard)
 
   -- if a value was inserted, the buckets wait that an insertion of the key leaves waiting; else the same buckets as
   -- before
   abbrev pub RelocatesThrough : (K → ℕ) → HeldEntry G N E S K T d y b w g h → HeldOccupied G N E S K T d y b w g h → Type 0
   RelocatesThrough hash (Occupied p) o = waiting_of (d.inner o.guard) ≡ waiting_of (d.inner p.guard)
-  RelocatesThrough hash (Vacant e) o = Relocates (d.inner e.guard) (d.inner o.guard) × RelocatesTwo (hash e.key.key) (d.inner e.guard) (d.inner o.guard)
+  RelocatesThrough hash (Vacant e) o = Relocates (d.inner e.guard) (d.inner o.guard) × RelocatesTwo (hash e.key) (d.inner e.guard) (d.inner o.guard)
 
   -- the closure that was to make the value for the entry e failed with x
   pub record FailsAtVacant {X : Type 0} (e : HeldEntry G N E S K T d y b w g h) (Q : K → X → Type 0) (x : X) : Type 0 where
@@ -148,18 +148,18 @@ module _ {G N E V S K T : Type 0} {d : guard.Ghosts G (Contents E S)} {y : keyed
       -- the key is inserted with the value, and the result is its entry
       pub inserted : IfOk result (IsInserted made e v)
       -- the first array was made if it was due, or the array grew as an insertion of the key may and must grow it
-      pub growth : IfOk result (λ o. IsGrownFor y.key_of (hash_in hash_of (d.inner e.guard)) (d.inner e.guard) e.key.key (occupied_contents o))
+      pub growth : IfOk result (λ o. IsGrownFor y.key_of (hash_in hash_of (d.inner e.guard)) (d.inner e.guard) e.key (occupied_contents o))
       -- it relocates at most two buckets
       pub relocates : IfOk result (λ o. Relocates (d.inner e.guard) (occupied_contents o))
       -- it relocates the key's own bucket first and then the first ones that wait, two in all, or all if fewer wait;
       -- if some of them are long, at least those before a long one
-      pub two : IfOk result (λ o. RelocatesTwo (hash_in hash_of (d.inner e.guard) e.key.key) (d.inner e.guard) (occupied_contents o))
+      pub two : IfOk result (λ o. RelocatesTwo (hash_in hash_of (d.inner e.guard) e.key) (d.inner e.guard) (occupied_contents o))
       -- no two keys are equal
       pub unique : IfOk result (λ o. IsUniqueBy same y.key_of (occupied_contents o))
       -- if memory is refused, key and value come back
-      pub refused : IfErr result (λ r. r ≡ Memory (e.key.key, v))
+      pub refused : IfErr result (λ r. r ≡ Memory (e.key, v))
       -- if an entry takes no memory of its own, memory is refused only if the bucket of the key has no room
-      pub full : OnErr result (IsFullBy y.key_of taking hash_of (d.inner e.guard) e.key.key)
+      pub full : OnErr result (IsFullBy y.key_of taking hash_of (d.inner e.guard) e.key)
 
     -- the contract of an insertion through the entry e, which returns `result`: P holds of the returned entry, Q of
     -- the error

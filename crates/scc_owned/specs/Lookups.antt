@@ -86,7 +86,7 @@ module _ {G N E V S K T : Type 0} {d : guard.Ghosts G (Contents E S)} {y : keyed
   pub record IsVacantAt (same : K → K → Bool) (c : Contents E S) (k : K) (e : HeldVacant G N E S K T d y b w g h) : Type 0 where
     pub contents : d.inner e.guard ≡ c
     pub found : l.find (same k) (entries c) ≡ None
-    pub key : e.key.key ≡ k
+    pub key : e.key ≡ k
 
   -- the entry is the entry of k: occupied if the container has k, else vacant
   abbrev pub IsEntryOf : (K → K → Bool) → Contents E S → K → HeldEntry G N E S K T d y b w g h → Type 0

@@ -1,19 +1,23 @@
 -- The words of the contracts of an entry of a map.
-use Rattle.std.specs.Prelude.{◌≡◌, ℕ, Bool, ⊤}
+use Rattle.std.specs.Prelude.{◌≡◌, ℕ, zero, suc, Bool, List, [], ◌∷◌, map, ⊤}
 use Rattle.std.specs.Borrow.{Fml, RattleType, MutBor, Lends}
 use Rattle.std.specs.Fn.{Once, FnOnceTakesAtMut, FnOnceReturnsAtMut}
 use Rattle.std.specs.declared.cmp.PartialEq as eq
 use Rattle.std.specs.declared.hash.Hash as hash
 use Rattle.std.specs.declared.hash.Hasher as hasher
 use Rattle.std.specs.declared.hash.BuildHasher as builder
-use Rattle.std.proofs.Common.{sym, subst}
-use Rattle.scc_common.specs.Contents.{Contents, entries}
+use Rattle.std.proofs.Common.{refl, sym, ap, subst}
+use Rattle.scc_array.specs.ShelfWrites.{write_at}
+use Rattle.scc_buckets.specs.Placed.{at, at-get}
+use Rattle.scc_buckets.specs.declared.place.Place.{Place}
+use Rattle.scc_buckets.proofs.WritingTables.{exactly-write}
+use Rattle.scc_common.specs.Contents.{Contents, entries, list_of}
 use Rattle.scc_common.specs.PairSteps.{SwapsKey}
-use Rattle.scc_common.specs.Pairs.{with_pair_value}
+use Rattle.scc_common.specs.Pairs.{IsUnique, with_pair_value}
 use Rattle.scc_common.specs.Steps.{HoldsExactly}
 use Rattle.scc_common.specs.declared.guard.Guard as guard
 use Rattle.scc_table.specs.Placed.{IsWrittenAt, IsPlace-with_write_at}
-use Rattle.scc_table.specs.Places.{IsPlace, with_write_at}
+use Rattle.scc_table.specs.Places.{IsPlace, spot_of, with_write_at}
 use Rattle.scc_owned.specs.Entries.{IsInserted, IsVacantAt}
 use Rattle.scc_owned.specs.Insertions.{RestsOfMap}
 use Rattle.scc_owned.specs.Held.{Occupied, Vacant, occupied_pair}
@@ -27,6 +31,19 @@ use Rattle.scc_owned.specs.declared.held.HeldReplace.TheVariants.{Replaced, NotR
 -- d is c after an insertion of the new key k was refused memory
 abbrev pub RestsRefused : {K V S : Type 0} → (K → K → Bool) → (K → ℕ) → Contents (K × V) S → K → Contents (K × V) S → Type 0
 RestsRefused same hash c k d = RestsOfMap (λ p. p.0) same hash c k d
+
+-- a write of a value changes no key
+same_keys : {K V : Type 0} (es : List (K × V)) (i : ℕ) (v : V) → map (λ e. e.0) (write_at with_pair_value es i v) ≡ map (λ e. e.0) es
+same_keys [] i v = refl
+same_keys (e ∷ es) zero v = refl
+same_keys (e ∷ es) (suc i) v = ap (λ ks. e.0 ∷ ks) (same_keys es i v)
+
+-- keys stay distinct if a value is written at a place
+pub value_apart : {K V S : Type 0} (same : K → K → Bool) (m : Contents (K × V) S) (p : Place) → IsPlace m p → IsUnique same m → (v : V) → IsUnique same (with_write_at with_pair_value m p v)
+value_apart same m p within u v =
+    let s = spot_of m p in
+    let h = exactly-write with_pair_value m s within (at (list_of m s.bucket) s.slot within.slot) (at-get (list_of m s.bucket) s.slot within.slot) v in
+    rw (h.exact, same_keys) u
 
 module _ {G N K V S T : Type 0} {d : guard.Ghosts G (Contents (K × V) S)} {b : builder.Ghosts S T} {w : hasher.Ghosts T} {g : eq.Ghosts K} {h : hash.Ghosts K} where
   -- p is the entry o after v became its value
@@ -45,6 +62,10 @@ module _ {G N K V S T : Type 0} {d : guard.Ghosts G (Contents (K × V) S)} {b : 
       let P : Contents (K × V) S → Type 0 = λ c. IsPlace c o.place in
       subst P (sym (d.inner_law o.guard (written_map o v))) (IsPlace-with_write_at with_pair_value (d.inner o.guard) o.place v o.within)
 
+  -- keys are still distinct after a write to an entry
+  pub still_unique : (o : HeldOccupied G N (K × V) S K T d pair_keys b w g h) (v : V) → IsUnique g.eq (d.inner (d.with_inner o.guard (written_map o v)))
+  still_unique o v = subst (λ c. IsUnique g.eq c) (sym (d.inner_law o.guard (written_map o v))) (value_apart g.eq (d.inner o.guard) o.place o.within o.unique v)
+
   -- o after v became its value
   abbrev pub with_value : HeldOccupied G N (K × V) S K T d pair_keys b w g h → V → HeldOccupied G N (K × V) S K T d pair_keys b w g h
   with_value o v = record {
@@ -53,6 +74,7 @@ module _ {G N K V S T : Type 0} {d : guard.Ghosts G (Contents (K × V) S)} {b : 
     rest = o.rest;
     of = o.of;
     within = still_within o v;
+    unique = still_unique o v;
   }
 
   -- o is the entry, with v as its value; if the entry was vacant, v was inserted

@@ -6,6 +6,7 @@ mod walk;
 
 use crate::Owned;
 use crate::held::{HeldEntry, HeldOccupied, HeldVacant};
+use scc_common::Keyed;
 
 /// The entry of a key. It borrows the container.
 pub type Entry<'a, E, H> = HeldEntry<&'a mut Owned<E, H>, (), E, H>;
@@ -14,4 +15,4 @@ pub type Entry<'a, E, H> = HeldEntry<&'a mut Owned<E, H>, (), E, H>;
 pub type OccupiedEntry<'a, E, H> = HeldOccupied<&'a mut Owned<E, H>, (), E, H>;
 
 /// A vacant entry: a key that the container lacks, with its hash.
-pub type VacantEntry<'a, E, H> = HeldVacant<&'a mut Owned<E, H>, (), E, H>;
+pub type VacantEntry<'a, E, H> = HeldVacant<&'a mut Owned<E, H>, (), E, H, <E as Keyed>::Key>;

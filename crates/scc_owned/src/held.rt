@@ -24,39 +24,28 @@ where
     pub(crate) rest: N,
     pub(crate) of: PhantomData<(E, H)>,
     ghost within: { IsPlace (G.inner guard) place },
+    ghost unique: { IsUniqueBy E.Key.eq E.key_of (G.inner guard) } by { IsDistinct-prop E.Key.eq (map E.key_of (entries (G.inner guard))) },
 }
 
-/// The key of a vacant entry. It is a struct because the borrow checker covers no `match` that takes an entry out of an
-/// enum whose variant has a field of an associated type itself.
+/// A vacant entry: a key that the container lacks, with its hash. The key has a type parameter of its own: the borrow
+/// checker covers no `match` that takes an entry out of an enum whose variant has a field of an associated type, if that
+/// type is `Copy`.
 #[derive(Drop)]
-pub struct KeyOf<E: Keyed> {
-    pub(crate) key: E::Key,
-}
-
-impl<E: Keyed> KeyOf<E> {
-    /// Returns the key itself.
-    #[inline(always)]
-    pub(crate) fn take(self) -> E::Key
-        ensures { result ≡ self.key }
-    {
-        self.key
-    }
-}
-
-/// A vacant entry: a key that the container lacks, with its hash.
-#[derive(Drop)]
-pub struct HeldVacant<G: Guard<Inner = Owned<E, H>>, N, E: Keyed, H: BuildHasher>
-where
-    E::Key: Eq + Hash,
-{
+pub struct HeldVacant<
+    G: Guard<Inner = Owned<E, H>>,
+    N,
+    E: Keyed<Key = K>,
+    H: BuildHasher,
+    K: Eq + Hash,
+> {
     pub(crate) guard: G,
-    pub(crate) key: KeyOf<E>,
+    pub(crate) key: K,
     pub(crate) hash: u64,
     pub(crate) rest: N,
     pub(crate) of: PhantomData<(E, H)>,
-    ghost absent: { position (λ e. E.Key.eq key.key (E.key_of e)) (entries (G.inner guard)) ≡ None },
-    ghost hashed: { hash ≡ key_hash H.BuildHasher H.Hasher.Hasher E.Key.hash_input (G.inner guard) key.key },
-    ghost unique: { IsUniqueBy E.Key.eq E.key_of (G.inner guard) } by { IsDistinct-prop E.Key.eq (map E.key_of (entries (G.inner guard))) },
+    ghost absent: { position (λ e. K.eq key (E.key_of e)) (entries (G.inner guard)) ≡ None },
+    ghost hashed: { hash ≡ key_hash H.BuildHasher H.Hasher.Hasher K.hash_input (G.inner guard) key },
+    ghost unique: { IsUniqueBy K.eq E.key_of (G.inner guard) } by { IsDistinct-prop K.eq (map E.key_of (entries (G.inner guard))) },
 }
 
 /// The entry of a key, occupied or vacant.
@@ -66,7 +55,7 @@ where
     E::Key: Eq + Hash,
 {
     Occupied(HeldOccupied<G, N, E, H>),
-    Vacant(HeldVacant<G, N, E, H>),
+    Vacant(HeldVacant<G, N, E, H, E::Key>),
 }
 
 /// The result of `replace_sync`: the entry with its new key and the old key, or the vacant entry of a key that the
@@ -77,7 +66,7 @@ where
     E::Key: Eq + Hash,
 {
     Replaced(HeldOccupied<G, N, E, H>, E::Key),
-    NotReplaced(HeldVacant<G, N, E, H>),
+    NotReplaced(HeldVacant<G, N, E, H, E::Key>),
 }
 
 impl<G: Guard<Inner = Owned<E, H>>, N, E: Keyed, H: BuildHasher> HeldOccupied<G, N, E, H>
@@ -87,13 +76,12 @@ where
     /// Makes the entry at a place of the container of `guard`.
     #[inline(always)]
     pub(crate) fn at(guard: G, place: Place, rest: N) -> Self
-        requires { IsPlace (G.inner guard) place }
+        requires within { IsPlace (G.inner guard) place }
+        requires unique { IsUniqueBy E.Key.eq E.key_of (G.inner guard) }
         ensures guard { result.guard ≡ guard }
         ensures place { result.place ≡ place }
         ensures rest { result.rest ≡ rest }
-        ensures unique { IsUniqueBy E.Key.eq E.key_of (G.inner guard) }
     {
-        guard.look().key_facts();
         HeldOccupied {
             guard,
             place,
@@ -103,23 +91,26 @@ where
     }
 }
 
-impl<G: Guard<Inner = Owned<E, H>>, N, E: Keyed, H: BuildHasher> HeldVacant<G, N, E, H>
-where
-    E::Key: Eq + Hash,
-{
+impl<G: Guard<Inner = Owned<E, H>>, N, E: Keyed<Key = K>, H: BuildHasher, K: Eq + Hash> HeldVacant<
+    G,
+    N,
+    E,
+    H,
+    K,
+> {
     /// Makes the entry of a key that the container of `guard` lacks, and whose hash is `hash`.
     #[inline(always)]
-    pub(crate) fn of_key(guard: G, key: E::Key, hash: u64, rest: N) -> Self
-        requires absent { position (λ e. E.Key.eq key (E.key_of e)) (entries (G.inner guard)) ≡ None }
-        requires hashed { hash ≡ key_hash H.BuildHasher H.Hasher.Hasher E.Key.hash_input (G.inner guard) key }
-        requires unique { IsUniqueBy E.Key.eq E.key_of (G.inner guard) }
+    pub(crate) fn of_key(guard: G, key: K, hash: u64, rest: N) -> Self
+        requires absent { position (λ e. K.eq key (E.key_of e)) (entries (G.inner guard)) ≡ None }
+        requires hashed { hash ≡ key_hash H.BuildHasher H.Hasher.Hasher K.hash_input (G.inner guard) key }
+        requires unique { IsUniqueBy K.eq E.key_of (G.inner guard) }
         ensures guard { result.guard ≡ guard }
-        ensures key { result.key.key ≡ key }
+        ensures key { result.key ≡ key }
         ensures rest { result.rest ≡ rest }
     {
         HeldVacant {
             guard,
-            key: KeyOf { key },
+            key,
             hash,
             rest,
             of: PhantomData,

@@ -7,7 +7,7 @@ pub mod walk;
 
 use crate::Owned;
 use crate::held::{HeldEntry, HeldOccupied, HeldVacant};
-use scc_common::Shared;
+use scc_common::{Keyed, Shared};
 use scc_stripes::Seat;
 use std::sync::RwLockWriteGuard;
 pub use walk::first_later;
@@ -25,4 +25,10 @@ pub type Entry<'a, E, H> = HeldEntry<Lock<'a, E, H>, StripeSeat<'a, E, H>, E, Sh
 pub type OccupiedEntry<'a, E, H> = HeldOccupied<Lock<'a, E, H>, StripeSeat<'a, E, H>, E, Shared<H>>;
 
 /// A vacant entry: a key that its stripe lacks. It holds the lock of the stripe.
-pub type VacantEntry<'a, E, H> = HeldVacant<Lock<'a, E, H>, StripeSeat<'a, E, H>, E, Shared<H>>;
+pub type VacantEntry<'a, E, H> = HeldVacant<
+    Lock<'a, E, H>,
+    StripeSeat<'a, E, H>,
+    E,
+    Shared<H>,
+    <E as Keyed>::Key,
+>;

@@ -1,5 +1,5 @@
 //! How an empty container is made.
-ghost use Rattle.scc_common.specs.Contents.{settings_of, IsUniqueBy};
+ghost use Rattle.scc_common.specs.Contents.{settings_of};
 ghost use Rattle.scc_table.specs.Making.{IsNew, MakesEmpty};
 ghost use Rattle.std.specs.Arc.{arc_value};
 ghost use Rattle.std.specs.Prelude.{◌≡◌, ◌≤◌};
@@ -60,11 +60,8 @@ where
     #[inline(always)]
     pub(crate) fn over(table: Table<E, H>) -> Self
         ensures table { result ≡ table }
-        ensures unique { IsUniqueBy E.Key.eq E.key_of result }
     {
-        let owned = Owned { table };
-        owned.key_facts();
-        owned
+        Owned { table }
     }
 
     /// Returns an empty container without an array. Allocates nothing.

@@ -1,5 +1,5 @@
 //! The calls at a place of a container, alike for maps and indexes.
-ghost use Rattle.scc_common.specs.Contents.{entries, hash_in, refused_of, waiting_of, IsUniqueBy};
+ghost use Rattle.scc_common.specs.Contents.{entries, hash_in, notes_of, waiting_of, IsUniqueBy};
 ghost use Rattle.scc_common.specs.Steps.{HoldsExactly};
 ghost use Rattle.scc_owned.specs.Shrinking.{ClearsByRule, TakesWithNextByRule};
 ghost use Rattle.scc_table.specs.Places.{IsFoundAt, IsPlace, StandsAt, index_of};
@@ -38,15 +38,15 @@ where
         ensures place { MatchOption result (entries self.now ≡ []) (StandsAt self.now 0) }
         ensures unique { IsUniqueBy E.Key.eq E.key_of self.now }
     {
-        self.key_facts();
         self.table.first_place()
     }
 
     /// Returns the place after `place`, or `None` if `place` is the last.
     pub fn next_place(&self, place: Place) -> Option<Place>
         requires { IsPlace self.now place }
-        ensures { MatchOption result (suc (index_of self.now place) ≡ length (entries self.now))
+        ensures place { MatchOption result (suc (index_of self.now place) ≡ length (entries self.now))
             (StandsAt self.now (suc (index_of self.now place))) }
+        ensures unique { IsUniqueBy E.Key.eq E.key_of self.now }
     {
         self.table.next_place(place)
     }
@@ -58,7 +58,6 @@ where
         ensures entry { slice_get (entries self.now) (index_of self.now place) ≡ Some result.now }
         ensures unique { IsUniqueBy E.Key.eq E.key_of self.now }
     {
-        self.key_facts();
         self.table.entry_at(place)
     }
 
@@ -85,7 +84,7 @@ where
     where
         E: Drop,
         ensures step { HoldsExactly self.old [] self.new }
-        ensures noted { refused_of self.new ≡ refused_of self.old }
+        ensures noted { notes_of self.new ≡ notes_of self.old }
         ensures waiting { waiting_of self.new ≡ waiting_of self.old }
     {
         let mut at = self.table.first_place();

@@ -123,10 +123,10 @@ impl<K: Eq + Hash, H: BuildHasher> Owned<K, H> {
     }
 
     /// Inserts the keys in their order. Stops at the first key for which memory is refused, and returns that key.
-    /// Calls `len` for its contract: no two keys are equal.
     fn insert_all(&mut self, keys: Vec<K>) -> Result<(), K>
     where
         K: Drop,
+        requires { IsUnique K.eq self.old }
         ensures refused { IfErr result (λ k. StopsAt K.eq (hash_in ⟦<H as Hashes<K>>⟧.hash_of) self.old keys.items k
             self.new) }
         ensures run { OnOk result (InsertsAll K.eq (hash_in ⟦<H as Hashes<K>>⟧.hash_of) self.old keys.items self.new) }
@@ -142,7 +142,6 @@ impl<K: Eq + Hash, H: BuildHasher> Owned<K, H> {
                 Err(KeyError::Memory(k)) => return Err(k),
             }
         }
-        let _ = self.len();
         Ok(())
     }
 }

@@ -1,4 +1,3 @@
-pub mod Minimums
 pub mod Parts
 pub mod Seats
 pub mod Sizes

@@ -2,7 +2,7 @@
 //! stay there until their bucket of the current array is relocated.
 #![tactic(auto)]
 
-ghost use Rattle.scc_common.specs.Contents.{bucket_count, pending_of, IsUniqueBy, mark_of, note_of};
+ghost use Rattle.scc_common.specs.Contents.{bucket_count, key_hash, pending_of, IsRouted, IsUniqueBy, mark_of, note_of};
 ghost use Rattle.scc_common.specs.Sizes.{IsLawful};
 ghost use Rattle.scc_table.specs.TwoArrays.{IsWaiting};
 ghost use Rattle.std.specs.Prelude.{◌≡◌, ◌<◌, ◌≤◌, ◌^◌, ◌↔◌, IsTrue};
@@ -75,6 +75,8 @@ where
         ensures count { result ≡ bucket_count self.now }
         ensures most { result ≤ 2 ^ 58 }
         ensures lawful { IsLawful result }
+        ensures routed { IsRouted (λ e. key_hash H.BuildHasher H.Hasher.Hasher E.Key.hash_input self.now (E.key_of e))
+            self.now }
         ensures unique { IsUniqueBy E.Key.eq E.key_of self.now }
     {
         self.current.bucket_count()

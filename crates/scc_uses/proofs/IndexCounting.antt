@@ -49,7 +49,7 @@ module _ {G N S T : Type 0} {keep : guard.Ghosts G (Contents (ℕ × ℕ) S)} {g
         let put : IsInserted e 1 o = subst (λ (y : HeldEntry G N (ℕ × ℕ) S ℕ T keep pair_keys b w g h). OrInserts y 1 o) (ap Vacant up) ins in
         record {
           finds = λ q.
-              (finds-inserted nat_eq_equiv (keep.inner e.guard) (keep.inner o.guard) (e.key.key, 1) put.at.contents u).finds q
+              (finds-inserted nat_eq_equiv (keep.inner e.guard) (keep.inner o.guard) (e.key, 1) put.at.contents u).finds q
               ∙ (λ i. cond (nat_eq q (at.key i)) (Some (at.key i, one_more (sym at.found i))) (find nat_eq (entries (at.contents i)) q));
         }
     counted C (Occupied p) (Vacant d) o at up ins u = absurd up

@@ -26,7 +26,7 @@ pub fn count_word(counts: &mut Owned<u64, u64>, word: u64) -> Result<(), InsertE
         }
         Err((entry, count)) => match entry {
             Entry::Occupied(_entry) => Err(InsertError::Memory((word, count))),
-            Entry::Vacant(_entry) => unreachable!(),
+            Entry::Vacant(_) => unreachable!(),
         },
     }
 }

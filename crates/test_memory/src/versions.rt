@@ -146,7 +146,7 @@ fn expect_modified<R: Abort + Print>(rt: &R, refusal: &mut Refusal, index: &mut 
                         expect_eq(rt, *entry.get(), !1);
                     }
                 }
-                Entry::Vacant(_entry) => expect(rt, false),
+                Entry::Vacant(_) => expect(rt, false),
             }
         }
     }

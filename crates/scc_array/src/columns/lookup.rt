@@ -22,7 +22,7 @@ where
         requires tagged { IsTagged (λ e. E.Key.eq key.now (E.key_of e)) tag (window_of self.now bucket) }
         ensures { option_copied result ≡ find (λ e. E.Key.eq key.now (E.key_of e)) (window_of self.now bucket).slots }
     {
-        match self.find(bucket, key, tag) {
+        match self.search(bucket, key, tag) {
             Some(slot) => Some(self.entry_at(bucket, slot)),
             None => None,
         }

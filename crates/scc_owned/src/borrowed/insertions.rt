@@ -7,7 +7,7 @@ ghost use Rattle.std.specs.Fn.{FnOnceTakesAt, FnOnceReturnsAt};
 ghost use Rattle.std.specs.Prelude.{◌≡◌, Ok, Err};
 
 use crate::borrowed::{Entry, OccupiedEntry, VacantEntry};
-use crate::held::{HeldEntry, HeldOccupied, HeldVacant, KeyOf};
+use crate::held::{HeldEntry, HeldOccupied, HeldVacant};
 use crate::stored::Stored;
 use scc_common::{Hashes, InsertError};
 use scc_fallible::TryInsertError;
@@ -143,7 +143,6 @@ where
                     rest,
                     of: _,
                 } = entry;
-                let KeyOf { key } = key;
                 match f(&key) {
                     Ok(value) => match E::insert_into(guard, hash, key, value) {
                         Ok(place) => Ok(HeldOccupied::at(guard, place, rest)),
@@ -193,7 +192,6 @@ where
             rest,
             of: _,
         } = self;
-        let KeyOf { key } = key;
         match E::insert_into(guard, hash, key, value) {
             Ok(place) => Ok(HeldOccupied::at(guard, place, rest)),
             Err(pair) => Err(InsertError::Memory(pair)),

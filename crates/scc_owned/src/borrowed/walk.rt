@@ -63,6 +63,6 @@ where
         ensures key { result ≡ vacant_key self.entry }
         ensures unchanged { self.exit.0.now ≡ (vacant_guard self.entry).now }
     {
-        self.key.take()
+        self.key
     }
 }

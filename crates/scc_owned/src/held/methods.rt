@@ -20,20 +20,23 @@ where
     }
 }
 
-impl<G: Guard<Inner = Owned<E, H>>, N, E: Keyed, H: BuildHasher> HeldVacant<G, N, E, H>
-where
-    E::Key: Eq + Hash,
-{
+impl<G: Guard<Inner = Owned<E, H>>, N, E: Keyed<Key = K>, H: BuildHasher, K: Eq + Hash> HeldVacant<
+    G,
+    N,
+    E,
+    H,
+    K,
+> {
     /// Returns the allocator of the container.
     pub(crate) fn allocator(&self) -> Global {
         self.guard.look().allocator()
     }
 
     /// Returns the key that an insertion would store.
-    pub fn key(&self) -> &E::Key
+    pub fn key(&self) -> &K
         ensures { result.now ≡ vacant_key self.now }
     {
-        &self.key.key
+        &self.key
     }
 }
 

@@ -31,4 +31,5 @@ pub type VacantEntry<'a, K, V, H = BuildHasherDefault<FoldHasher>> = HeldVacant<
     (),
     SharedVersion<K, V>,
     H,
+    K,
 >;

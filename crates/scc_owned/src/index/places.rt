@@ -1,6 +1,6 @@
 //! The calls at a place of an index.
 ghost use Rattle.scc_array.specs.ShelfWrites.{put_whole};
-ghost use Rattle.scc_common.specs.Contents.{entries, hash_in, refused_of, waiting_of};
+ghost use Rattle.scc_common.specs.Contents.{entries, hash_in, notes_of, waiting_of};
 ghost use Rattle.scc_common.specs.Pairs.{find, IsUnique};
 ghost use Rattle.scc_common.specs.Steps.{Holds, HoldsExactly};
 ghost use Rattle.scc_owned.specs.IndexInsertions.{InsertsNewByRule};
@@ -84,7 +84,6 @@ impl<K: Eq + Hash, V, H: BuildHasher> Index<K, V, H> {
         ensures unique { IsUnique K.eq self.new }
     {
         let _old = self.table.replace_at(place, version);
-        self.key_facts();
     }
 
     /// Removes the version at `place` without a resize, and returns the place of the version that followed.
@@ -94,7 +93,7 @@ impl<K: Eq + Hash, V, H: BuildHasher> Index<K, V, H> {
         V: Drop,
         requires { IsPlace self.old place }
         ensures others { HoldsExactly self.old (remove (entries self.old) (index_of self.old place)) self.new }
-        ensures noted { refused_of self.new ≡ refused_of self.old }
+        ensures noted { notes_of self.new ≡ notes_of self.old }
         ensures waiting { waiting_of self.new ≡ waiting_of self.old }
         ensures next { MatchOption result (suc (index_of self.old place) ≡ length (entries self.old))
             (StandsAt self.new (index_of self.old place)) }

@@ -5,7 +5,7 @@ ghost use Rattle.scc_owned.specs.Insertions.{InsertsAtVacant, InsertsThrough, Is
 ghost use Rattle.std.specs.Fn.{FnOnceTakesAt, FnOnceReturnsAt};
 ghost use Rattle.std.specs.Prelude.{◌≡◌, Ok, Err};
 
-use crate::held::{HeldEntry, HeldOccupied, HeldVacant, KeyOf};
+use crate::held::{HeldEntry, HeldOccupied, HeldVacant};
 use crate::locked::{Entry, OccupiedEntry, VacantEntry};
 use crate::stored::Stored;
 use scc_common::{Hashes, InsertError};
@@ -132,7 +132,6 @@ where
                     rest,
                     of: _,
                 } = entry;
-                let KeyOf { key } = key;
                 match f(&key) {
                     Ok(value) => match E::insert_into(&mut *guard, hash, key, value) {
                         Ok(place) => Ok(HeldOccupied::at(guard, place, rest)),
@@ -180,7 +179,6 @@ where
             rest,
             of: _,
         } = self;
-        let KeyOf { key } = key;
         match E::insert_into(&mut *guard, hash, key, value) {
             Ok(place) => Ok(HeldOccupied::at(guard, place, rest)),
             Err(pair) => Err(InsertError::Memory(pair)),

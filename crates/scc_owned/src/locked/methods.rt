@@ -3,7 +3,7 @@ ghost use Rattle.scc_owned.specs.Held.{vacant_key};
 ghost use Rattle.scc_owned.specs.Seats.{occupied_stripe, vacant_stripe};
 ghost use Rattle.std.specs.Prelude.{◌≡◌};
 
-use crate::held::{HeldVacant, KeyOf};
+use crate::held::HeldVacant;
 use crate::locked::{OccupiedEntry, VacantEntry};
 use scc_common::Keyed;
 use std::hash::{BuildHasher, Hash};
@@ -42,7 +42,6 @@ where
             rest: _,
             of: _,
         } = self;
-        let KeyOf { key } = key;
         key
     }
 }

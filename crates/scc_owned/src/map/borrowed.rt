@@ -30,6 +30,7 @@ pub type VacantEntry<'a, K, V, H = BuildHasherDefault<FoldHasher>> = HeldVacant<
     (),
     (K, V),
     H,
+    K,
 >;
 
 /// The result of `replace_sync`: the entry with its new key and the old key, or the vacant entry of a key that the map

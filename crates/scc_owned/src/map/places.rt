@@ -31,7 +31,6 @@ impl<K: Eq + Hash, V, H: BuildHasher> Map<K, V, H> {
             × (result.now ≡ p.1) }
         ensures unique { (v : V) → IsUnique K.eq (with_write_at with_pair_value self.old place v) }
     {
-        self.key_facts();
         self.table.value_mut_at(place)
     }
 

@@ -49,7 +49,6 @@ impl<'a, K: Eq + Hash, V, R: Rule<K, V>, H: BuildHasher> OccupiedEntry<'a, K, V,
         ensures unique { IfSome result (λ n. IsUnique K.eq (occupied_index n)) }
     {
         let OccupiedEntry { guard, place, seat } = self;
-        let _ = guard.look().len();
         match guard.look().next_place(place) {
             Some(place) => Some(OccupiedEntry { guard, place, seat }),
             None => {

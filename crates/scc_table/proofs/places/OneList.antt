@@ -1,12 +1,21 @@
 -- The entries of one bucket among all entries.
-use Rattle.std.proofs.Common.{◌≡◌, ◌≢◌, ◌==◌, ℕ, zero, suc, ◌+◌, ◌<◌, true, false, Some, List, [], ◌∷◌, ◌++◌, length, get_or, refl, sym, ap, ◌∙◌, arith, eq-eqb}
+use Rattle.std.proofs.Common.{◌≡◌, ◌≢◌, ◌==◌, ℕ, zero, suc, ◌+◌, ◌<◌, true, false, Some, List, [], ◌∷◌, ◌++◌, length, get_or, refl, sym, ap, ◌∙◌, arith, eq-eqb, eqb-true}
 use Rattle.std.specs.List.{count_by, filter, flat_map, slice_get}
 use Rattle.std.proofs.lemmas.List.{append-nil}
-use Rattle.std.proofs.lemmas.List.Elements.{filter-append}
+use Rattle.std.proofs.lemmas.List.Elements.{filter-append, filter_passes, All-get_or}
+use Rattle.scc_array.proofs.ListsLemmas.{get-below, get-is}
+use Rattle.scc_buckets.specs.Pour.{destined_for}
 use Rattle.std.proofs.lemmas.List.Sums.{length-filter}
 use Rattle.scc_common.specs.Contents.{Contents, entries, bucket_count, list_of, settings_of, IsRouted}
 use Rattle.scc_common.specs.Routing.{bucket_number}
 use Rattle.scc_table.proofs.relocations.Contents.{not_equal}
+
+-- each of the entries that belong to bucket i of n has that bucket
+pub destined-own : {E : Type 0} (hash : E → ℕ) (t n i : ℕ) (es : List E) (j : ℕ) (e : E) → slice_get (destined_for hash t n i es) j ≡ Some e → bucket_number t n (hash e) ≡ i
+destined-own {E} hash t n i es j e got =
+    let xs = destined_for hash t n i es in
+    let own = All-get_or (λ (y : E). (bucket_number t n (hash y) == i) ≡ true) xs j e (get-below xs j e got) (filter_passes (λ (y : E). bucket_number t n (hash y) == i) es) in
+    ap (λ y. bucket_number t n (hash y)) (get-is xs j e e got) ∙ eqb-true _ _ own
 
 module _ {E : Type 0} (f : E → ℕ) (i : ℕ) where
   pub filter-all : (xs : List E) → ((m : ℕ) (e : E) → slice_get xs m ≡ Some e → f e ≡ i) → filter (λ e. f e == i) xs ≡ xs

@@ -22,6 +22,7 @@ use Rattle.scc_table.specs.Places.{IsFoundAt, IsPlace, spot_of}
 use Rattle.scc_draining.specs.Stepping.{entries_before}
 use Rattle.scc_table.specs.TwoArrays.{target_by, together, TwoArrays, waits_at}
 use Rattle.scc_table.proofs.arrays.JoinedLists.{count-together, settings-together}
+use Rattle.scc_table.proofs.places.OneList.{destined-own}
 use Rattle.scc_table.proofs.places.OldSpots.{old-spot, own-list, own-spot, split-old}
 use Rattle.scc_table.proofs.relocations.Preparation.{long-flags, waiting-list}
 use Rattle.scc_table.proofs.relocations.Fields.{count-is, list-is}
@@ -138,10 +139,8 @@ module _ {E S : Type 0} (hash : E → ℕ) (c : Contents E S) (ws : List Bool) (
           | yes l ↦ by_answer (waits_at ws i)
               (λ up.
               let es = flat_map shelf_entries olds in
-              let xs = destined_for hash t n i es in
-              let here : slice_get xs k ≡ Some e = ap (λ z. slice_get z k) (sym (waiting-list hash c ws olds arrays i up (long-flags c ws i arrays.flags up))) ∙ got in
-              let q = All-get_or (λ y. (bucket_number t n (hash y) == i) ≡ true) xs k e (get-below xs k e here) (filter_passes (λ y. bucket_number t n (hash y) == i) es) in
-              ap (λ y. bucket_number t n (hash y)) (get-is xs k e e here) ∙ eqb-true _ _ q)
+              let here : slice_get (destined_for hash t n i es) k ≡ Some e = ap (λ z. slice_get z k) (sym (waiting-list hash c ws olds arrays i up (long-flags c ws i arrays.flags up))) ∙ got in
+              destined-own hash t n i es k e here)
               (λ down. routed.routed i k e (ap (λ z. slice_get z k) (sym (own-list hash c ws olds arrays i l down)) ∙ got))
         ];
   }

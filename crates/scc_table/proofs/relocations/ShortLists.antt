@@ -5,7 +5,7 @@ use Rattle.std.proofs.lemmas.List.{append-nil, get_or_past, take_more, take-appe
 use Rattle.std.proofs.lemmas.List.Concat.{flat_map-append}
 use native.Mathlib.Decide.{dec_lt}
 use Rattle.scc_buckets.specs.Bounded.{HasList, IsBounded, IsListed, IsResized, PutsLast}
-use Rattle.scc_common.specs.Contents.{Contents, Settings, entries, bucket_count, list_of, lists_of, refused_of, settings_of, IsRouted}
+use Rattle.scc_common.specs.Contents.{Contents, Settings, entries, bucket_count, list_of, lists_of, notes_of, settings_of, IsRouted}
 use Rattle.scc_buckets.specs.Pour.{destined_for}
 use Rattle.scc_common.specs.Routing.{bucket_number}
 use Rattle.scc_common.specs.Sizes.{IsBucketCount, IsLawful}
@@ -17,7 +17,7 @@ use Rattle.scc_table.specs.TwoArrays.{IsWaiting, cleared, waits_at}
 use Rattle.scc_buckets.proofs.Bare.{nil-left}
 use Rattle.scc_draining.proofs.Counted.{destined-le}
 use Rattle.scc_table.proofs.resizes.Doubling.{filter-both}
-use Rattle.scc_table.proofs.places.OneList.{filter-all, filter-no, listed-is}
+use Rattle.scc_table.proofs.places.OneList.{destined-own, filter-all, filter-no, listed-is}
 use Rattle.scc_draining.proofs.Numbers.{number-div, quotient, some-quotient}
 use Rattle.scc_table.proofs.relocations.Fields.{count-is, list-is}
 use Rattle.scc_table.proofs.arrays.SameParts.{list-same, listed-same}
@@ -44,19 +44,19 @@ module _ {E S : Type 0} where
   pub listed-anew : (hash : Settings S → E → ℕ) (c d : Contents E S) → settings_of d ≡ settings_of c → IsListed (hash (settings_of c)) d → IsListed (hash (settings_of d)) d
   listed-anew hash c d settings h = subst (λ s. IsListed (hash s) d) (sym settings) h
 
-  pub routed-before : (hash : Settings S → E → ℕ) (c d : Contents E S) → settings_of d ≡ settings_of c → IsRouted (hash (settings_of d)) d → IsRouted (hash (settings_of c)) d
-  routed-before hash c d settings h = subst (λ s. IsRouted (hash s) d) settings h
-
   -- after a resize, `IsListed` holds if each bucket gets at most 32 entries
-  pub listed-resized : (hash : E → ℕ) (c d : Contents E S) → IsResized hash c d → IsRouted hash d → ((i : ℕ) → i < bucket_count d → length (destined_for hash (settings_of c).skipped (bucket_count d) i (entries c)) ≤ 32) → IsListed hash d
-  listed-resized hash c d r routed short = record {
+  pub listed-resized : (hash : E → ℕ) (c d : Contents E S) → IsResized hash c d → ((i : ℕ) → i < bucket_count d → length (destined_for hash (settings_of c).skipped (bucket_count d) i (entries c)) ≤ 32) → IsListed hash d
+  listed-resized hash c d r short = record {
     lawful = inr r.array;
     bounded = r.bounded;
     short = λ i. elim (dec_lt i (bucket_count d)) [
       | yes l ↦ subst (λ z. length z ≤ 32) (sym (r.lists.each i l)) (short i l)
       | no l ↦ let none : list_of d i ≡ [] = list-is d i ∙ get_or_past (lists_of d) i [] (omega (arith, count-is d)) in subst (λ z. length z ≤ 32) (sym none) (omega arith)
     ];
-    routed = routed.routed;
+    routed = λ i j e got. elim (dec_lt i (bucket_count d)) [
+      | yes l ↦ ap (λ s. bucket_number s.skipped (bucket_count d) (hash e)) r.lists.settings ∙ destined-own hash (settings_of c).skipped (bucket_count d) i (entries c) j e (rw (r.lists.each i l) at got)
+      | no l ↦ none-there (list_of d i) j e (list-is d i ∙ get_or_past (lists_of d) i [] (omega (arith, count-is d))) got
+    ];
   }
 
   -- if there are no entries, each list is empty
@@ -181,7 +181,7 @@ module _ {E S : Type 0} (hash : E → ℕ) (c : Contents E S) (listed : IsListed
       sym (ap (λ z. length (destined_for hash t n i z)) parts ∙ ap length (destined_append hash t n i xs ys) ∙ ap (λ z. length (destined_for hash t n i xs ++ z)) none ∙ ap length (append-nil (destined_for hash t n i xs)))
 
 -- c and m have equal lists: `HasList` and `PutsLast` hold from c if they hold from m, and to m if they hold to c
-module _ {E S : Type 0} (c m : Contents E S) (lists : lists_of m ≡ lists_of c) (settings : settings_of m ≡ settings_of c) (refused : refused_of m ≡ refused_of c) where
+module _ {E S : Type 0} (c m : Contents E S) (lists : lists_of m ≡ lists_of c) (settings : settings_of m ≡ settings_of c) (refused : notes_of m ≡ notes_of c) where
   has-from : (d : Contents E S) (i : ℕ) (es : List E) → HasList m i es d → HasList c i es d
   has-from d i es h = record { lists = h.lists ∙ ap (λ ls. set ls i es) lists; settings = h.settings ∙ settings; refused = h.refused ∙ refused; bounded = h.bounded }
 

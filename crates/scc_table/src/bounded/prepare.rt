@@ -1,8 +1,8 @@
 //! The preparation of a put.
 ghost use Rattle.scc_buckets.specs.Bounded.{IsListed};
 ghost use Rattle.scc_common.specs.Contents.{bucket_count, key_hash};
-ghost use Rattle.scc_table.specs.Growths.{DropsMarkWithin, PreparesWithin};
-ghost use Rattle.std.specs.Prelude.{◌≤◌, ◌<◌, ◌^◌, false};
+ghost use Rattle.scc_table.specs.Growths.{PreparesWithin};
+ghost use Rattle.std.specs.Prelude.{◌≤◌, ◌<◌, ◌^◌};
 
 use crate::Table;
 use scc_common::Keyed;
@@ -35,17 +35,5 @@ where
             self.mark(true, true);
         }
         Ok(())
-    }
-
-    /// Takes the mark away, so that the next put tries a doubling that is due.
-    #[inline(always)]
-    pub fn drop_room_within(&mut self)
-        requires { IsListed (λ e. key_hash H.BuildHasher H.Hasher.Hasher E.Key.hash_input self.old (E.key_of e))
-            self.old }
-        ensures { DropsMarkWithin E.Key.eq E.key_of (key_hash H.BuildHasher H.Hasher.Hasher E.Key.hash_input)
-            self.old self.new }
-    {
-        let refused = self.is_resize_refused();
-        self.mark(refused, false);
     }
 }

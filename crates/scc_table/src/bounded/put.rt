@@ -17,25 +17,6 @@ impl<E: Keyed, H: BuildHasher> Table<E, H>
 where
     E::Key: Eq + Hash,
 {
-    /// Relocates the waiting bucket `bucket`. Allocates nothing.
-    #[cold]
-    pub fn relocate_within(&mut self, bucket: usize)
-        requires waits { IsWaiting self.old bucket }
-        requires listed { IsListed (λ e. key_hash H.BuildHasher H.Hasher.Hasher E.Key.hash_input self.old
-            (E.key_of e)) self.old }
-        ensures moved { IsRelocated bucket self.old self.new }
-        ensures listed { IsListed (λ e. key_hash H.BuildHasher H.Hasher.Hasher E.Key.hash_input self.new (E.key_of e))
-            self.new }
-        ensures not_waiting { waits_at (waiting_of self.new) bucket ≡ false }
-        ensures targets { pending_targets self.new ≡ filter (λ t. not (t == bucket)) (pending_targets self.old) }
-        ensures unique { IsUniqueBy E.Key.eq E.key_of self.new }
-    {
-        match self.relocate(bucket) {
-            Ok(()) => {}
-            Err(_) => unreachable!(),
-        }
-    }
-
     /// Puts `entry`, whose key is new, at the end of the list of `bucket`, and returns its slot. If the list holds 32
     /// entries, first takes its first entry out, and returns that entry too. Relocates two waiting buckets in all:
     /// `bucket` before the put, if it waits, and the first waiting buckets after it. `bucket` must be the bucket of
@@ -66,8 +47,10 @@ where
         ensures { PutsWithin E.Key.eq E.key_of (key_hash H.BuildHasher H.Hasher.Hasher E.Key.hash_input) self.old
             bucket entry (left_after bucket (pending_targets self.old)) 2 result self.new }
     {
-        self.relocate_within(bucket);
-        self.put_then_relocate(bucket, hash, entry, 1)
+        match self.relocate(bucket) {
+            Ok(()) => self.put_then_relocate(bucket, hash, entry, 1),
+            Err(_) => unreachable!(),
+        }
     }
 
     /// As `put_within`, if `bucket` doesn't wait, and relocates the first `most` waiting buckets after the put.

@@ -64,10 +64,7 @@ where
             return true;
         }
         match self.install_fresh(2 * count) {
-            Ok(()) => {
-                self.list_facts();
-                false
-            }
+            Ok(()) => false,
             Err(_) => true,
         }
     }
@@ -123,7 +120,7 @@ where
             return;
         }
         match self.resize_to(count) {
-            Ok(()) => self.list_facts(),
+            Ok(()) => {}
             Err(_) => {}
         }
     }

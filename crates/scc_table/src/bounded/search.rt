@@ -27,7 +27,6 @@ where
         ensures place { result ≡ position (λ e. E.Key.eq key.now (E.key_of e)) (list_of self.now bucket) }
         ensures missed { result ≡ None → position (λ e. E.Key.eq key.now (E.key_of e)) (entries self.now) ≡ None }
     {
-        self.current.list_facts();
         self.current.search_in(bucket, hash, key)
     }
 
@@ -40,7 +39,8 @@ where
             (IsListedAt (λ e. E.Key.eq key.now (E.key_of e)) self.now
             (bucket_number (settings_of self.now).skipped (bucket_count self.now) hash)) }
     {
-        let _ = self.bucket_at(hash);
+        // The bucket is computed before the search branches, so that a put after it doesn't compute it again.
+        let _bucket = self.bucket_at(hash);
         self.search(hash, key)
     }
 

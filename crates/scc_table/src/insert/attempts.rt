@@ -101,7 +101,6 @@ where
             (HasRoomBy (key_hash H.BuildHasher H.Hasher.Hasher E.Key.hash_input self.old) E.key_of self.old
             (E.key_of entry) → ⊥) result self.new }
     {
-        self.list_facts();
         match self.relocate(bucket) {
             Ok(()) => self.insert_then_relocate(bucket, hash, entry, 1),
             Err(_) => Err(entry),
@@ -146,7 +145,6 @@ where
             (HasRoomBy (key_hash H.BuildHasher H.Hasher.Hasher E.Key.hash_input self.old) E.key_of self.old
             (E.key_of entry) → ⊥) result self.new }
     {
-        self.current.list_facts();
         if self.draining.left_overflow > 0 {
             let listed = self.current.list_len(bucket);
             let spilled = self.current.overflow_len();
@@ -154,8 +152,6 @@ where
                 return Err(entry);
             }
         }
-        let placed = self.current.insert_in(bucket, hash, entry);
-        let _few = self.current.overflow_len();
-        placed
+        self.current.insert_in(bucket, hash, entry)
     }
 }

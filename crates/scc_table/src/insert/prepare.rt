@@ -1,5 +1,6 @@
 //! The preparation of an insertion.
-ghost use Rattle.scc_common.specs.Contents.{bucket_count, key_hash, lists_of, refused_of, settings_of, waiting_of, IsUniqueBy, note_of};
+ghost use Rattle.scc_buckets.specs.Bounded.{IsListed};
+ghost use Rattle.scc_common.specs.Contents.{bucket_count, key_hash, lists_of, notes_of, settings_of, waiting_of, IsUniqueBy, note_of};
 ghost use Rattle.scc_common.specs.Steps.{IsUnchanged, Prepares};
 ghost use Rattle.scc_table.specs.Marks.{MarksPreparation};
 ghost use Rattle.std.specs.Prelude.{◌≡◌, ◌<◌, false, OnOk, OnErr};
@@ -28,7 +29,6 @@ where
         ensures unique { IsUniqueBy E.Key.eq E.key_of self.new }
     {
         let bucket = self.bucket_for_new(hash)?;
-        self.list_facts();
         if self.pending() > 0 {
             return Ok(());
         }
@@ -47,11 +47,15 @@ where
     }
 
     /// Takes the mark away, so that the next insertion tries a growth that is due.
-    pub fn drop_room(&mut self)
+    #[inline(always)]
+    pub fn drop_mark(&mut self)
         ensures same { IsUnchanged self.old self.new }
         ensures lists { lists_of self.new ≡ lists_of self.old }
+        ensures settings { settings_of self.new ≡ settings_of self.old }
         ensures waiting { waiting_of self.new ≡ waiting_of self.old }
-        ensures noted { refused_of self.new ≡ (note_of self.old, false) }
+        ensures noted { notes_of self.new ≡ (note_of self.old, false) }
+        ensures listed { IsListed (λ e. key_hash H.BuildHasher H.Hasher.Hasher E.Key.hash_input self.old (E.key_of e)) self.old
+            → IsListed (λ e. key_hash H.BuildHasher H.Hasher.Hasher E.Key.hash_input self.new (E.key_of e)) self.new }
         ensures unique { IsUniqueBy E.Key.eq E.key_of self.new }
     {
         let refused = self.is_resize_refused();

@@ -53,9 +53,7 @@ where
         ensures { InsertsMadeFirst E.Key.eq E.key_of self.old (E.made_of parts) parts result self.new }
     {
         self.draining.left_overflow = 0;
-        let placed = self.current.insert_made_first(hash, parts);
-        let _few = self.current.overflow_len();
-        placed
+        self.current.insert_made_first(hash, parts)
     }
 
     /// As `insert_made`, if no bucket waits and `bucket`, that of `hash`, holds 32 entries or more. If the table has at
@@ -200,8 +198,6 @@ where
                 return Err(parts);
             }
         }
-        let placed = self.current.insert_made_in(bucket, hash, parts);
-        let _few = self.current.overflow_len();
-        placed
+        self.current.insert_made_in(bucket, hash, parts)
     }
 }

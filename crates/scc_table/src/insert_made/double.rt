@@ -35,7 +35,6 @@ where
             (settings_of self.now).skipped (2 * bucket_count self.now)
             (bucket_number (settings_of self.now).skipped (2 * bucket_count self.now) hash) (entries self.now)) < 32 }
     {
-        self.list_facts();
         let count = 2 * self.bucket_count();
         let target = bucket_index(hash, self.skipped, count);
         let entry_count = self.list_len(bucket);
@@ -71,7 +70,6 @@ where
         ensures { DoublesAround E.Key.eq E.key_of (key_hash H.BuildHasher H.Hasher.Hasher E.Key.hash_input self.old)
             self.old place hash result self.new }
     {
-        self.list_facts();
         let count = 2 * self.bucket_count();
         let bucket = bucket_index(hash, self.skipped, count);
         let slot = count_destined(

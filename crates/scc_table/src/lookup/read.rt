@@ -20,7 +20,6 @@ where
         ensures len { result ≡ length (entries self.now) }
         ensures unique { IsUniqueBy E.Key.eq E.key_of self.now }
     {
-        let _ = self.current.bucket_count();
         self.current.len() + self.draining.left
     }
 
@@ -28,7 +27,8 @@ where
     #[inline(always)]
     pub fn entry_at(&self, place: Place) -> &E
         requires { IsPlace self.now place }
-        ensures { slice_get (entries self.now) (index_of self.now place) ≡ Some result.now }
+        ensures entry { slice_get (entries self.now) (index_of self.now place) ≡ Some result.now }
+        ensures unique { IsUniqueBy E.Key.eq E.key_of self.now }
     {
         let count = self.current.bucket_count();
         if place.bucket < count {
@@ -72,7 +72,9 @@ where
     #[inline(always)]
     pub fn list_len(&self, bucket: usize) -> usize
         requires { bucket < bucket_count self.now }
-        ensures { result ≡ length (list_of self.now bucket) }
+        ensures len { result ≡ length (list_of self.now bucket) }
+        ensures routed { IsRouted (λ e. key_hash H.BuildHasher H.Hasher.Hasher E.Key.hash_input self.now (E.key_of e))
+            self.now }
     {
         if self.is_waiting(bucket) {
             let count = self.current.bucket_count();

@@ -24,6 +24,8 @@ where
         requires { hash ≡ key_hash H.BuildHasher H.Hasher.Hasher E.Key.hash_input self.now key.now }
         ensures place { MatchOption result (position (λ e. E.Key.eq key.now (E.key_of e)) (entries self.now) ≡ None)
             (IsFoundAt (λ e. E.Key.eq key.now (E.key_of e)) self.now) }
+        ensures routed { IsRouted (λ e. key_hash H.BuildHasher H.Hasher.Hasher E.Key.hash_input self.now (E.key_of e))
+            self.now }
         ensures unique { IsUniqueBy E.Key.eq E.key_of self.now }
     {
         if self.draining.pending == 0 {
@@ -37,17 +39,6 @@ where
         }
     }
 
-    /// States what always holds of the lists: each entry stands in the list of the bucket of its hash, and no two keys
-    /// are equal. It does nothing, and is there for its contract.
-    #[inline(always)]
-    pub fn list_facts(&self)
-        ensures routed { IsRouted (λ e. key_hash H.BuildHasher H.Hasher.Hasher E.Key.hash_input self.now (E.key_of e))
-            self.now }
-        ensures unique { IsUniqueBy E.Key.eq E.key_of self.now }
-    {
-        self.current.list_facts();
-    }
-
     /// As `search`, if some bucket waits. If there is no such entry, the bucket of the result is `NOWHERE`. A `Place`
     /// is returned in two registers. An `Option<Place>` would go through the memory of the caller, also when no bucket
     /// waits.
@@ -58,6 +49,8 @@ where
         ensures found { result.bucket < 2 ^ 60 → IsFoundAt (λ e. E.Key.eq key.now (E.key_of e)) self.now result }
         ensures missed { 2 ^ 60 ≤ result.bucket → position (λ e. E.Key.eq key.now (E.key_of e)) (entries self.now)
             ≡ None }
+        ensures routed { IsRouted (λ e. key_hash H.BuildHasher H.Hasher.Hasher E.Key.hash_input self.now (E.key_of e))
+            self.now }
     {
         let nowhere = Place {
             bucket: NOWHERE,

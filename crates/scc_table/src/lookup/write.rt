@@ -25,6 +25,7 @@ where
             → E.Key.eq (E.key_of entry) (E.key_of e) ≡ true }
         ensures old { slice_get (entries self.old) (index_of self.old place) ≡ Some result }
         ensures new { self.new ≡ with_write_at put_whole self.old place entry }
+        ensures unique { IsUniqueBy E.Key.eq E.key_of self.old }
     {
         let count = self.current.bucket_count();
         if place.bucket < count {
@@ -48,6 +49,7 @@ where
             H.BuildHasher H.Hasher.Hasher E.with_value self.entry place result) }
         ensures value { (e : E) × (slice_get (entries self.old) (index_of self.old place) ≡ Some e)
             × (result.now ≡ E.value_of e) }
+        ensures unique { IsUniqueBy E.Key.eq E.Keyed.key_of self.old }
     {
         self.parts_mut_at(place).1
     }
@@ -60,6 +62,7 @@ where
             H.BuildHasher H.Hasher.Hasher E.with_value self.entry place result.1) }
         ensures parts { (e : E) × (slice_get (entries self.old) (index_of self.old place) ≡ Some e)
             × (result.0.now ≡ E.Keyed.key_of e) × (result.1.now ≡ E.value_of e) }
+        ensures unique { IsUniqueBy E.Key.eq E.Keyed.key_of self.old }
     {
         let count = self.current.bucket_count();
         if self.draining.pending == 0 || place.bucket < count {
@@ -78,6 +81,7 @@ where
         ensures old { (e : E) × (slice_get (entries self.old) (index_of self.old place) ≡ Some e)
             × (result ≡ E.Keyed.key_of e) }
         ensures new { self.new ≡ with_write_at E.with_key self.old place key }
+        ensures unique { IsUniqueBy E.Key.eq E.Keyed.key_of self.new }
     {
         let count = self.current.bucket_count();
         if place.bucket < count {

@@ -1,10 +1,11 @@
 //! Relocations: waiting buckets get their entries out of the old array.
-ghost use Rattle.scc_buckets.specs.Bounded.{IsBounded};
-ghost use Rattle.scc_common.specs.Contents.{entries, list_of, pending_of, IsUniqueBy};
+ghost use Rattle.scc_buckets.specs.Bounded.{IsBounded, IsListed};
+ghost use Rattle.scc_common.specs.Contents.{entries, key_hash, list_of, pending_of, waiting_of, IsRouted, IsUniqueBy};
 ghost use Rattle.scc_table.specs.Relocates.{AreShort};
 ghost use Rattle.scc_table.specs.Relocations.{RelocatesUpTo, RelocatesAll, TriesSecond};
-ghost use Rattle.scc_table.specs.TwoArrays.{IsWaiting, IsFirstWaiting, IsLoneWaiting, IsRelocated, IsSecondWaiting};
-ghost use Rattle.std.specs.Prelude.{◌≡◌, ◌<◌, ◌+◌, false, ◌≤◌, ℕ, length, IfNone, IfSome, OnOk, OnErr};
+ghost use Rattle.scc_table.specs.TwoArrays.{IsWaiting, IsFirstWaiting, IsLoneWaiting, IsRelocated, IsSecondWaiting, pending_targets, waits_at};
+ghost use Rattle.std.specs.List.{filter};
+ghost use Rattle.std.specs.Prelude.{◌≡◌, ◌==◌, ◌<◌, ◌+◌, false, not, ◌≤◌, ℕ, length, IfNone, IfSome, OnOk, OnErr};
 
 use crate::Table;
 use scc_array::Array;
@@ -58,12 +59,19 @@ where
     /// Relocates the waiting bucket `bucket`: moves its entries into it, in their order. Allocates only if they are
     /// more than 32. Fails if memory is refused; then nothing changes. Releases the old array with the last waiting
     /// bucket. Takes time proportional to the number of entries in the old buckets that hold those of `bucket`.
-    pub(crate) fn relocate(&mut self, bucket: usize) -> Result<(), AllocError>
+    pub fn relocate(&mut self, bucket: usize) -> Result<(), AllocError>
         requires { IsWaiting self.old bucket }
         ensures ok { OnOk result (IsRelocated bucket self.old self.new) }
         ensures err { OnErr result (self.new ≡ self.old) }
         ensures refused { OnErr result (32 < length (list_of self.old bucket)) }
         ensures bounded { IsBounded self.old → length (list_of self.old bucket) ≤ 32 → IsBounded self.new }
+        ensures listed { IsListed (λ e. key_hash H.BuildHasher H.Hasher.Hasher E.Key.hash_input self.old (E.key_of e)) self.old
+            → IsListed (λ e. key_hash H.BuildHasher H.Hasher.Hasher E.Key.hash_input self.new (E.key_of e)) self.new }
+        ensures not_waiting { OnOk result (waits_at (waiting_of self.new) bucket ≡ false) }
+        ensures targets { OnOk result
+            (pending_targets self.new ≡ filter (λ t. not (t == bucket)) (pending_targets self.old)) }
+        ensures routed { IsRouted (λ e. key_hash H.BuildHasher H.Hasher.Hasher E.Key.hash_input self.old (E.key_of e))
+            self.old }
         ensures unique { IsUniqueBy E.Key.eq E.key_of self.new }
     {
         let aside = self.draining.left_overflow;

@@ -1,6 +1,6 @@
 //! Steps from place to place, in the order of the entries.
 ghost use Rattle.scc_buckets.specs.Places as spots;
-ghost use Rattle.scc_common.specs.Contents.{entries, bucket_count, owed_of, list_of};
+ghost use Rattle.scc_common.specs.Contents.{entries, bucket_count, owed_of, list_of, IsUniqueBy};
 ghost use Rattle.scc_table.specs.Places.{IsPlace, index_of, spot_of, StandsAt};
 ghost use Rattle.scc_table.specs.NextPlaces.{index_on, rank_on, IsStart};
 ghost use Rattle.scc_table.specs.TwoArrays.{IsWaiting};
@@ -19,7 +19,8 @@ where
 {
     /// Returns the place of the first entry, or `None` if the table is empty.
     pub fn first_place(&self) -> Option<Place>
-        ensures { MatchOption result (entries self.now ≡ []) (StandsAt self.now 0) }
+        ensures place { MatchOption result (entries self.now ≡ []) (StandsAt self.now 0) }
+        ensures unique { IsUniqueBy E.Key.eq E.key_of self.now }
     {
         self.place_past(0)
     }
@@ -27,8 +28,9 @@ where
     /// Returns the place of the entry after the entry at `place`, or `None` if that is the last.
     pub fn next_place(&self, place: Place) -> Option<Place>
         requires { IsPlace self.now place }
-        ensures { MatchOption result (suc (index_of self.now place) ≡ length (entries self.now))
+        ensures place { MatchOption result (suc (index_of self.now place) ≡ length (entries self.now))
             (StandsAt self.now (suc (index_of self.now place))) }
+        ensures unique { IsUniqueBy E.Key.eq E.key_of self.now }
     {
         let target = self.target_of(place);
         self.place_on(target, place.bucket, place.slot + 1)
@@ -42,8 +44,8 @@ where
         ensures index { index_on self.now result place.bucket (place.slot + 1) ≡ suc (index_of self.now place) }
         ensures within { result < bucket_count self.now }
         ensures small { place.slot + 1 < 2 ^ 64 }
+        ensures unique { IsUniqueBy E.Key.eq E.key_of self.now }
     {
-        let _ = self.current.len();
         let count = self.current.bucket_count();
         if place.bucket < count {
             return place.bucket;
@@ -79,9 +81,10 @@ where
     /// Returns the place of the first entry of `bucket` or of a later bucket, or `None`.
     fn place_past(&self, bucket: usize) -> Option<Place>
         requires { bucket ≤ bucket_count self.now }
-        ensures { MatchOption result (spots.index_of_spot self.now (record { bucket = bucket; slot = 0 })
+        ensures place { MatchOption result (spots.index_of_spot self.now (record { bucket = bucket; slot = 0 })
             ≡ length (entries self.now))
             (StandsAt self.now (spots.index_of_spot self.now (record { bucket = bucket; slot = 0 }))) }
+        ensures unique { IsUniqueBy E.Key.eq E.key_of self.now }
     {
         for next in bucket..self.current.bucket_count() {
             if let Some(place) = self.first_in(next) {

@@ -7,11 +7,11 @@ use Rattle.scc_array.specs.Shelves.{shelf_of}
 use Rattle.scc_array.specs.Shelf.{Shelf, shelf_entries, HasTag}
 use Rattle.scc_array.proofs.Array.update.Goals as goal
 
-pub find-requires-clause-bucket : goal.find-requires-clause-bucket
-find-requires-clause-bucket g c = window-within c.self.inside.columns c.self.inside.overflow.items c.args.self.now c.self.view_is c.args.bucket c.requires.bucket
+pub search-requires-clause-bucket : goal.search-requires-clause-bucket
+search-requires-clause-bucket g c = window-within c.self.inside.columns c.self.inside.overflow.items c.args.self.now c.self.view_is c.args.bucket c.requires.bucket
 
-pub find-requires-clause-tagged : goal.find-requires-clause-tagged
-find-requires-clause-tagged g c =
+pub search-requires-clause-tagged : goal.search-requires-clause-tagged
+search-requires-clause-tagged g c =
     let p : g.row.E.Denot → Bool = λ e. g.E.Key.PartialEq.eq c.args.key.now (g.E.Keyed.key_of e) in
     let tagged : HasTag p c.args.tag (shelf_of c.args.self.now c.args.bucket) = c.requires.tagged in
     subst (λ (s : Shelf g.row.E.Denot). HasTag p c.args.tag s) (shelf-is c.self.inside.columns c.self.inside.overflow.items c.args.self.now c.self.view_is c.args.bucket c.requires.bucket) tagged

@@ -1,8 +1,8 @@
-use Rattle.std.proofs.Common.{◌∙◌, refl, sym}
+use Rattle.std.proofs.Common.{◌∙◌, refl, sym, arith}
 use Rattle.scc_common.specs.Contents.{bucket_count, entries, settings_of}
 use Rattle.scc_buckets.proofs.Bare.{all-bare}
 use Rattle.scc_buckets.proofs.MakingLemmas.{kept-none}
-use Rattle.scc_buckets.proofs.Views.{entries-view, refused-view, settings-view}
+use Rattle.scc_buckets.proofs.Views.{entries-view, refused-view, settings-view, spilled-view}
 use Rattle.scc_buckets.proofs.Buckets.drop_array.Goals as goal
 
 pub destroy_empty-requires : goal.destroy_empty-requires
@@ -29,3 +29,8 @@ returns-clause-settings g c = sym (settings-view c.self.inside.buckets _ c.args.
 
 pub returns-clause-noted : goal.returns-clause-noted
 returns-clause-noted g c = refused-view _ _ _ refl ∙ sym (refused-view c.self.inside.buckets _ c.args.self.now c.self.view_is)
+
+pub returns-clause-few : goal.returns-clause-few
+returns-clause-few g c =
+    let t = (invariant_of-self g c).table in
+    rw (spilled-view c.replace-old.new.dest _ _ refl, ← t.spilled) t.few

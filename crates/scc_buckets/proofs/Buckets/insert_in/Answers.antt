@@ -7,7 +7,7 @@ use Rattle.scc_buckets.proofs.Inserts.{inserted-at, inserted-table, inserted-hol
 use native.Mathlib.Decide.{dec_lt}
 use Rattle.scc_buckets.proofs.Counting.{count-in_bucket}
 use Rattle.scc_buckets.proofs.OneList.{put-in-list, same-in-lists}
-use Rattle.scc_buckets.proofs.Views.{entries-view, count-view, settings-view, refused-view}
+use Rattle.scc_buckets.proofs.Views.{entries-view, count-view, settings-view, refused-view, spilled-view}
 use Rattle.scc_array.specs.Shelves.{shelf_of}
 use Rattle.scc_buckets.proofs.Arrays.{shelf-at, put-is, put-own}
 use Rattle.scc_buckets.proofs.Buckets.insert_in.Goals as goal
@@ -112,6 +112,7 @@ returns-then-is_overflow_full g c =
           rw (entries-view bs _ c.args.self.now c.self.view_is, count, settings-view bs _ c.args.self.now c.self.view_is, ← routed, held) (λ room. absurd (omega (arith, room.1, length-append (shelf_of c.self.inside.buckets c.args.bucket).slots (shelf_of c.self.inside.buckets c.args.bucket).overflow))));
       buckets = (search rules);
       refused = (search rules);
+      few = (rw (spilled-view c.self.inside.buckets _ c.args.self.now c.self.view_is, ← c.self.invariant.table.spilled) c.self.invariant.table.few);
       unique = (rw (entries-view c.self.inside.buckets _ c.args.self.now c.self.view_is) c.self.invariant.unique);
     }
 
@@ -135,6 +136,7 @@ returns-in-Ok g c =
       full = (search rules);
       buckets = (count-view c.insert.new.self _ _ refl ∙ ap length c.in-Ok.ensures.ok.1 ∙ length-set bs c.args.bucket _ ∙ sym (count-view bs _ c.args.self.now c.self.view_is));
       refused = (refused-view _ _ _ refl ∙ sym (refused-view c.self.inside.buckets _ c.args.self.now c.self.view_is));
+      few = (let t = (invariant_of-self g c).table in rw (spilled-view c.insert.new.self _ _ refl, ← t.spilled) t.few);
       unique = (rw (put-own c.self.inside.buckets c.args.bucket l c.insert.new.self _ c.in-Ok.ensures.ok.1) (unique-inserted g.met.E.Key.Eq.laws g.E.Keyed.key_of c.args.entry (entries c.args.self.now) _ (rw (entries-view bs _ c.args.self.now c.self.view_is) c.self.invariant.unique) c.requires.absent (inserted-holds (λ e. hash_of g.H.BuildHasher g.H.Hasher.Hasher c.self.inside.hasher (g.E.Key.Hash.hash_input (g.E.Keyed.key_of e))) t.skipped t.length t.overflowing i bs c.self.invariant.table _ c.args.self.now c.self.view_is b l (shelf-at c.self.inside.buckets c.args.bucket l) (shelf_of c.insert.new.self c.args.bucket) c.args.entry c.in-Ok.slot stored c.in-Ok.ensures.ok.0).same));
     }
 
@@ -159,5 +161,6 @@ returns-in-Err g c =
           rw (entries-view bs _ c.args.self.now c.self.view_is, count, settings-view bs _ c.args.self.now c.self.view_is, ← routed, held) (λ room. absurd (omega (arith, room.1, c.in-Err.ensures.err.2, length-append b.slots b.overflow))));
       buckets = (count-view c.insert.new.self _ _ refl ∙ ap length c.in-Err.ensures.err.1 ∙ length-set bs c.args.bucket _ ∙ sym (count-view bs _ c.args.self.now c.self.view_is));
       refused = (refused-view _ _ _ refl ∙ sym (refused-view c.self.inside.buckets _ c.args.self.now c.self.view_is));
+      few = (let t = (invariant_of-self-in-Err g c).table in rw (spilled-view c.insert.new.self _ _ refl, ← t.spilled) t.few);
       unique = (rw (put-own c.self.inside.buckets c.args.bucket l c.insert.new.self _ c.in-Err.ensures.err.1) (rw ((refused-unchanged (λ e. hash_of g.H.BuildHasher g.H.Hasher.Hasher c.self.inside.hasher (g.E.Key.Hash.hash_input (g.E.Keyed.key_of e))) t.skipped t.length t.overflowing i bs c.self.invariant.table _ c.args.self.now c.self.view_is b l (shelf-at c.self.inside.buckets c.args.bucket l) (shelf_of c.insert.new.self c.args.bucket) (put-is c.self.inside.buckets c.args.bucket l c.insert.new.self _ c.in-Err.ensures.err.1)).exact, entries-view bs _ c.args.self.now c.self.view_is) c.self.invariant.unique));
     }

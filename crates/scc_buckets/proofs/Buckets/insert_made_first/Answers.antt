@@ -11,5 +11,6 @@ returns-in-Err g c =
       growth = (search rules);
       first = (search rules);
       noted = (search rules);
+      few = (search rules);
       unique = (rw c.install_first.ensures.still tt);
     }

@@ -6,7 +6,7 @@ use Rattle.scc_common.specs.Contents.{entries}
 use Rattle.scc_buckets.proofs.Inserts.{inserted-at, inserted-table, inserted-holds, overflow-after, overflow-full, refused-unchanged, refused-entries, refused-table, unique-inserted, table-bound, bucket-bound, read-again}
 use native.Mathlib.Decide.{dec_lt}
 use Rattle.scc_buckets.proofs.OneList.{put-in-list, same-in-lists}
-use Rattle.scc_buckets.proofs.Views.{entries-view, count-view, settings-view, refused-view}
+use Rattle.scc_buckets.proofs.Views.{entries-view, count-view, settings-view, refused-view, spilled-view}
 use Rattle.scc_array.specs.Shelves.{shelf_of}
 use Rattle.scc_buckets.proofs.Arrays.{shelf-at, put-is, put-own}
 use Rattle.scc_buckets.proofs.Buckets.insert_made_in.Goals as goal
@@ -99,6 +99,7 @@ returns-then-is_overflow_full g c =
       stays = (search rules);
       buckets = (search rules);
       refused = (search rules);
+      few = (rw (spilled-view c.self.inside.buckets _ c.args.self.now c.self.view_is, ← c.self.invariant.table.spilled) c.self.invariant.table.few);
       unique = (rw (entries-view c.self.inside.buckets _ c.args.self.now c.self.view_is) c.self.invariant.unique);
     }
 
@@ -121,6 +122,7 @@ returns-in-Ok g c =
       stays = (search rules);
       buckets = (count-view c.insert_made.new.self _ _ refl ∙ ap length c.in-Ok.ensures.ok.1 ∙ length-set bs c.args.bucket _ ∙ sym (count-view bs _ c.args.self.now c.self.view_is));
       refused = (refused-view _ _ _ refl ∙ sym (refused-view c.self.inside.buckets _ c.args.self.now c.self.view_is));
+      few = (let t = (invariant_of-self g c).table in rw (spilled-view c.insert_made.new.self _ _ refl, ← t.spilled) t.few);
       unique = (rw (put-own c.self.inside.buckets c.args.bucket l c.insert_made.new.self _ c.in-Ok.ensures.ok.1) (unique-inserted g.met.E.Key.Eq.laws g.E.Keyed.key_of (g.E.Made.made_of c.args.parts) (entries c.args.self.now) _ (rw (entries-view bs _ c.args.self.now c.self.view_is) c.self.invariant.unique) c.requires.absent (inserted-holds (λ e. hash_of g.H.BuildHasher g.H.Hasher.Hasher c.self.inside.hasher (g.E.Key.Hash.hash_input (g.E.Keyed.key_of e))) t.skipped t.length t.overflowing i bs c.self.invariant.table _ c.args.self.now c.self.view_is b l (shelf-at c.self.inside.buckets c.args.bucket l) (shelf_of c.insert_made.new.self c.args.bucket) (g.E.Made.made_of c.args.parts) c.in-Ok.slot stored c.in-Ok.ensures.ok.0).same));
     }
 
@@ -139,5 +141,6 @@ returns-in-Err g c =
       stays = (rw (put-own c.self.inside.buckets c.args.bucket l c.insert_made.new.self _ c.in-Err.ensures.err.1) (same-in-lists bs _ c.args.self.now c.self.view_is c.args.bucket (shelf_of bs c.args.bucket) l (shelf-at bs c.args.bucket l) (shelf_of c.insert_made.new.self c.args.bucket) (put-is c.self.inside.buckets c.args.bucket l c.insert_made.new.self _ c.in-Err.ensures.err.1)));
       buckets = (count-view c.insert_made.new.self _ _ refl ∙ ap length c.in-Err.ensures.err.1 ∙ length-set bs c.args.bucket _ ∙ sym (count-view bs _ c.args.self.now c.self.view_is));
       refused = (refused-view _ _ _ refl ∙ sym (refused-view c.self.inside.buckets _ c.args.self.now c.self.view_is));
+      few = (let t = (invariant_of-self-in-Err g c).table in rw (spilled-view c.insert_made.new.self _ _ refl, ← t.spilled) t.few);
       unique = (rw (put-own c.self.inside.buckets c.args.bucket l c.insert_made.new.self _ c.in-Err.ensures.err.1) (rw ((refused-unchanged (λ e. hash_of g.H.BuildHasher g.H.Hasher.Hasher c.self.inside.hasher (g.E.Key.Hash.hash_input (g.E.Keyed.key_of e))) t.skipped t.length t.overflowing i bs c.self.invariant.table _ c.args.self.now c.self.view_is b l (shelf-at c.self.inside.buckets c.args.bucket l) (shelf_of c.insert_made.new.self c.args.bucket) (put-is c.self.inside.buckets c.args.bucket l c.insert_made.new.self _ c.in-Err.ensures.err.1)).exact, entries-view bs _ c.args.self.now c.self.view_is) c.self.invariant.unique));
     }

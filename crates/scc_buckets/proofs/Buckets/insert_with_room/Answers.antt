@@ -5,7 +5,7 @@ use Rattle.scc_common.specs.Contents.{entries}
 use Rattle.scc_common.specs.Hashing.{hash_of}
 use Rattle.scc_common.specs.Routing.{bucket_number, tag_of}
 use Rattle.scc_buckets.proofs.Arrays.{shelf-at, put-is, put-own}
-use Rattle.scc_buckets.proofs.Bounds.{slots-are, slot-entry, stored-slot}
+use Rattle.scc_buckets.proofs.Bounds.{listed-view, slots-are, slot-entry, stored-slot}
 use Rattle.scc_buckets.proofs.Inserts.{inserted-table, inserted-holds, unique-inserted, table-bound}
 use Rattle.scc_buckets.proofs.OneList.{put-in-list}
 use Rattle.scc_buckets.proofs.Views.{entries-view, count-view, list-view, settings-view}
@@ -55,8 +55,8 @@ invariant_of-self g c =
       unique = let u = unique-inserted g.met.E.Key.Eq.laws g.E.Keyed.key_of c.args.entry (entries c.args.self.now) _ (rw (entries-view bs _ c.args.self.now c.self.view_is) c.self.invariant.unique) c.requires.new.absent (inserted-holds f t.skipped t.length t.overflowing i bs c.self.invariant.table _ c.args.self.now c.self.view_is b l at d c.args.entry (length b.slots) new place).same in rw (entries-view (set bs i d) _ _ refl) at u;
     }
 
-pub returns : goal.returns
-returns g c =
+pub returns-clause-inserts : goal.returns-clause-inserts
+returns-clause-inserts g c =
     let t = c.self.inside in
     let bs = t.buckets in
     let i = c.args.bucket in
@@ -76,3 +76,9 @@ returns g c =
       last = λ bounded. c.insert_reserved-slot.ensures.slot ∙ ap length (sym (slots-are bs _ c.args.self.now c.self.view_is i b l at bounded)) ∙ ap length (sym (list-view bs _ c.args.self.now c.self.view_is i b l at));
       unique = unique-inserted g.met.E.Key.Eq.laws g.E.Keyed.key_of c.args.entry (entries c.args.self.now) _ (rw (entries-view bs _ c.args.self.now c.self.view_is) c.self.invariant.unique) c.requires.new.absent (inserted-holds f t.skipped t.length t.overflowing i bs c.self.invariant.table _ c.args.self.now c.self.view_is b l at d c.args.entry c.insert_reserved-slot.result new place).same;
     }
+
+pub returns-clause-listed : goal.returns-clause-listed
+returns-clause-listed g c =
+    λ bounded.
+    rw (settings-view c.insert_reserved-slot.new.self _ _ refl)
+    (listed-view (λ e. hash_of g.H.BuildHasher g.H.Hasher.Hasher c.self.inside.hasher (g.E.Key.Hash.hash_input (g.E.Keyed.key_of e))) _ _ c.insert_reserved-slot.new.self _ _ refl (invariant_of-self g c).table bounded)

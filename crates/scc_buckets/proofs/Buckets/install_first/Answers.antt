@@ -4,7 +4,7 @@ use Rattle.scc_buckets.specs.Tables.{AllEmpty}
 use Rattle.scc_buckets.proofs.Bounds.{resized-fresh}
 use Rattle.scc_buckets.proofs.FindingLemmas.{no-entries}
 use Rattle.scc_buckets.proofs.MakingLemmas.{counts-none, kept-fresh, entries-fresh}
-use Rattle.scc_buckets.proofs.Views.{count-view, refused-view, settings-view}
+use Rattle.scc_buckets.proofs.Views.{count-view, refused-view, settings-view, spilled-view}
 use Rattle.scc_buckets.proofs.Buckets.install_first.Goals as goal
 
 pub destroy_empty-requires : goal.destroy_empty-requires
@@ -33,6 +33,7 @@ returns-in_err-buckets g c =
       refused = (search rules);
       resized = (search rules);
       same = (search rules);
+      few = (rw (spilled-view c.self.inside.buckets _ c.args.self.now c.self.view_is, ← c.self.invariant.table.spilled) c.self.invariant.table.few);
     }
 
 pub returns : goal.returns
@@ -53,4 +54,5 @@ returns g c =
           let fresh : AllEmpty bs = rw c.replace-old.ensures.after c.in_ok-buckets.ensures.empty in
           resized-fresh _ _ bs _ c.args.self.now nothing fresh (rw (c.replace-old.ensures.after, c.in_ok-buckets.ensures.count) c.buckets_for-count.ensures.array) (sym (settings-view c.self.inside.buckets _ c.args.self.now c.self.view_is)));
       same = (search rules);
+      few = (let t = (invariant_of-self g c).table in rw (spilled-view c.replace-old.new.dest _ _ refl, ← t.spilled) t.few);
     }

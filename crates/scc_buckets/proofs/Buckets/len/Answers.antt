@@ -1,4 +1,4 @@
-use Rattle.std.proofs.Common.{sym, ap, ◌∙◌, length, arith}
+use Rattle.std.proofs.Common.{sym, ap, ◌∙◌, inl, inr, length, arith}
 use Rattle.std.proofs.lemmas.List.Concat.{length-flat_map}
 use Rattle.scc_array.specs.Shelf.{shelf_entries}
 use Rattle.scc_buckets.proofs.Inserts.{sum-bound}
@@ -19,3 +19,8 @@ returns-clause-most g c =
     let t = c.self.invariant.table in
     let most = sum-bound c.self.inside.buckets (λ i b l at. (t.own i b l at).within) in
     omega (arith, t.counted)
+
+pub returns-clause-wide : goal.returns-clause-wide
+returns-clause-wide g c =
+    let count = count-view c.self.inside.buckets _ c.args.self.now c.self.view_is in
+    elim c.self.invariant.table.sized [ inl none ↦ omega (arith, count, none) | inr array ↦ omega (arith, count, array.most) ]

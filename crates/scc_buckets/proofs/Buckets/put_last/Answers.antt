@@ -37,7 +37,7 @@ returns-then-count-lt32-clause-slot g c =
     let old = c.args.self.now in
     let i = c.args.bucket in
     let there = has-list-of old c.push_last.new.self i _ c.push_last.ensures.list c.requires.new.within in
-    omega (arith, c.list_len-count.ensures, ap length there, length-append (list_of old i) (c.args.entry ∷ []))
+    omega (arith, c.list_len-count.ensures.len, ap length there, length-append (list_of old i) (c.args.entry ∷ []))
 
 pub returns-clause-slot : goal.returns-clause-slot
 returns-clause-slot g c =

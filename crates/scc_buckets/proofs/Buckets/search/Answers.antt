@@ -1,5 +1,6 @@
 use Rattle.std.proofs.Common.{◌≡◌, ◌∙◌, sym, ap, rules, length, refl}
 use Rattle.scc_common.specs.Hashing.{hash_of}
+use Rattle.scc_buckets.proofs.Bounds.{routed-view}
 use Rattle.scc_buckets.proofs.FindingLemmas.{has_tag, found_at, missed_at, no-entries}
 use Rattle.scc_buckets.proofs.Views.{entries-view, settings-view}
 use Rattle.scc_array.specs.Shelves.{shelf_of}
@@ -41,3 +42,18 @@ returns-in-None-clause-place g c =
 
 pub returns-in-None-clause-unique : goal.returns-in-None-clause-unique
 returns-in-None-clause-unique g c = rw (entries-view c.self.inside.buckets _ c.args.self.now c.self.view_is) c.self.invariant.unique
+
+pub returns-then-count-eq0-clause-routed : goal.returns-then-count-eq0-clause-routed
+returns-then-count-eq0-clause-routed g c =
+    rw (settings-view c.self.inside.buckets _ c.args.self.now c.self.view_is)
+    (routed-view (λ e. hash_of g.H.BuildHasher g.H.Hasher.Hasher c.self.inside.hasher (g.E.Key.Hash.hash_input (g.E.Keyed.key_of e))) _ _ c.self.inside.buckets _ c.args.self.now c.self.view_is c.self.invariant.table)
+
+pub returns-in-Some-clause-routed : goal.returns-in-Some-clause-routed
+returns-in-Some-clause-routed g c =
+    rw (settings-view c.self.inside.buckets _ c.args.self.now c.self.view_is)
+    (routed-view (λ e. hash_of g.H.BuildHasher g.H.Hasher.Hasher c.self.inside.hasher (g.E.Key.Hash.hash_input (g.E.Keyed.key_of e))) _ _ c.self.inside.buckets _ c.args.self.now c.self.view_is c.self.invariant.table)
+
+pub returns-in-None-clause-routed : goal.returns-in-None-clause-routed
+returns-in-None-clause-routed g c =
+    rw (settings-view c.self.inside.buckets _ c.args.self.now c.self.view_is)
+    (routed-view (λ e. hash_of g.H.BuildHasher g.H.Hasher.Hasher c.self.inside.hasher (g.E.Key.Hash.hash_input (g.E.Keyed.key_of e))) _ _ c.self.inside.buckets _ c.args.self.now c.self.view_is c.self.invariant.table)

@@ -1,5 +1,6 @@
 use Rattle.std.proofs.Common.{◌<◌, ◌∙◌, sym, ap, rules, length}
 use Rattle.scc_common.specs.Hashing.{hash_of}
+use Rattle.scc_buckets.proofs.Bounds.{routed-view}
 use Rattle.scc_buckets.proofs.FindingLemmas.{has_tag, missed_at}
 use Rattle.scc_buckets.proofs.Views.{count-view, list-view, settings-view}
 use Rattle.scc_array.specs.Shelves.{shelf_of}
@@ -35,3 +36,8 @@ returns-clause-missed g c =
     missed_at _ (λ e. hash_of g.H.BuildHasher g.H.Hasher.Hasher c.self.inside.hasher (g.E.Key.Hash.hash_input (g.E.Keyed.key_of e))) c.args.hash c.self.inside.skipped _ _ c.args.bucket bs c.self.invariant.table
     (record { same = λ e w. sym (hashed ∙ ap (hash_of g.H.BuildHasher g.H.Hasher.Hasher c.self.inside.hasher) (g.met.E.Key.Hash.respects_eq c.args.key.now (g.E.Keyed.key_of e) w)) })
     (rw (settings-view bs _ c.args.self.now c.self.view_is, count-view bs _ c.args.self.now c.self.view_is) at c.requires.routed) _ c.args.self.now c.self.view_is (shelf_of c.self.inside.buckets c.args.bucket) l (shelf-at c.self.inside.buckets c.args.bucket l) (sym c.search.ensures ∙ none)
+
+pub returns-clause-routed : goal.returns-clause-routed
+returns-clause-routed g c =
+    rw (settings-view c.self.inside.buckets _ c.args.self.now c.self.view_is)
+    (routed-view (λ e. hash_of g.H.BuildHasher g.H.Hasher.Hasher c.self.inside.hasher (g.E.Key.Hash.hash_input (g.E.Keyed.key_of e))) _ _ c.self.inside.buckets _ c.args.self.now c.self.view_is c.self.invariant.table)

@@ -20,4 +20,4 @@ returns-clause-list g c =
     )
 
 pub returns-then-list_len-slot-eq1-clause-list : goal.returns-then-list_len-slot-eq1-clause-list
-returns-then-list_len-slot-eq1-clause-list g c = stands-last c.args.self.now c.args.bucket c.args.slot c.requires.within c.requires.bounded (omega (arith, c.requires.slot, c.list_len.ensures, c.if-list_len-slot-eq1.true))
+returns-then-list_len-slot-eq1-clause-list g c = stands-last c.args.self.now c.args.bucket c.args.slot c.requires.within c.requires.bounded (omega (arith, c.requires.slot, c.list_len.ensures.len, c.if-list_len-slot-eq1.true))

@@ -9,7 +9,7 @@ use Rattle.scc_cache.proofs.Owned.iter_lent.Goals as goal
 
 pub loop-at-init : goal.loop-at-init
 loop-at-init g c =
-    let start = reached-first c.args.self.now.contents c.first_place-at.result (rw (ap (λ x. x.contents) c.self.view_is) at c.first_place-at.ensures) in
+    let start = reached-first c.args.self.now.contents c.first_place-at.result (rw (ap (λ x. x.contents) c.self.view_is) at c.first_place-at.ensures.place) in
     record { callable = rw start.0 c.requires; within = start.1; calls = λ b last r. rw start.0 at r }
 
 pub pair_at-requires : goal.pair_at-requires

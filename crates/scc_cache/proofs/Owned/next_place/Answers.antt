@@ -6,4 +6,4 @@ pub next_place-requires : goal.next_place-requires
 next_place-requires g c = subst (λ z. IsPlace z.contents c.args.place) (sym c.self.view_is) c.requires
 
 pub returns : goal.returns
-returns g c = rw (← c.self.view_is) c.next_place.ensures
+returns g c = rw (← c.self.view_is) c.next_place.ensures.place

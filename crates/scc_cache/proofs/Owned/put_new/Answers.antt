@@ -20,8 +20,8 @@ use Rattle.scc_cache.proofs.Owned.put_new.Goals as goal
 pub put_within-evicted-requires-clause-new : goal.put_within-evicted-requires-clause-new
 put_within-evicted-requires-clause-new g c =
     let m = c.bucket_within.new.self in
-    let u = c.drop_room_within.new.self in
-    let r = c.drop_room_within.ensures in
+    let u = c.drop_mark.new.self in
+    let r = c.drop_mark.ensures in
     let n = count-same m u r.lists in
     let hashed = rw (← c.self.view_is) at c.requires.hashed in
     let lacking = rw (← c.self.view_is) at c.requires.lacking in
@@ -38,19 +38,19 @@ pub invariant_of-self : goal.invariant_of-self
 invariant_of-self g c =
     let h = c.self.invariant in
     let m = c.bucket_within.new.self in
-    let u = c.drop_room_within.new.self in
-    let n = count-same m u c.drop_room_within.ensures.lists in
+    let u = c.drop_mark.new.self in
+    let n = count-same m u c.drop_mark.ensures.lists in
     let put = puts-count u c.put_within-evicted.new.self _ _ c.put_within-evicted.result.0 c.put_within-evicted.ensures.step in
     let within = grown-within _ c.self.inside.table m c.self.inside.maximum _ c.in-Ok.ensures.grows h.power h.least h.within h.minimum in
-    state-after g.K.PartialEq.eq _ _ c.self.inside.table c.put_within-evicted.new.self c.self.inside.maximum h c.put_within-evicted.ensures.listed c.put_within-evicted.ensures.unique (put.1 ∙ c.drop_room_within.ensures.settings ∙ c.bucket_within.ensures.settings) (subst (λ n. 32 * n ≤ c.self.inside.maximum) (sym (put.0 ∙ n)) within)
+    state-after g.K.PartialEq.eq _ _ c.self.inside.table c.put_within-evicted.new.self c.self.inside.maximum h c.put_within-evicted.ensures.listed c.put_within-evicted.ensures.unique (put.1 ∙ c.drop_mark.ensures.settings ∙ c.bucket_within.ensures.settings) (subst (λ n. 32 * n ≤ c.self.inside.maximum) (sym (put.0 ∙ n)) within)
 
 pub returns-in-Ok-clause-step : goal.returns-in-Ok-clause-step
 returns-in-Ok-clause-step g c =
     let t = c.self.inside.table in
     let m = c.bucket_within.new.self in
-    let u = c.drop_room_within.new.self in
+    let u = c.drop_mark.new.self in
     let d = c.put_within-evicted.new.self in
-    let r = c.drop_room_within.ensures in
+    let r = c.drop_mark.ensures in
     let f : g.row.K.Denot → ℕ = (λ k. hash_of g.H.BuildHasher g.H.Hasher.Hasher (settings_of t).hasher (g.K.Hash.hash_input k)) in
     let number : ℕ → g.row.K.Denot → ℕ = λ n k. bucket_number (settings_of t).skipped n (f k) in
     let hashed = rw (← c.self.view_is) at c.requires.hashed in
@@ -75,8 +75,8 @@ returns-in-Ok-clause-step g c =
 
 pub returns-in-Ok-clause-here : goal.returns-in-Ok-clause-here
 returns-in-Ok-clause-here g c =
-    let u = c.drop_room_within.new.self in
-    let n = count-same c.bucket_within.new.self u c.drop_room_within.ensures.lists in
+    let u = c.drop_mark.new.self in
+    let n = count-same c.bucket_within.new.self u c.drop_mark.ensures.lists in
     let l : c.in-Ok.bucket < bucket_count u = omega (arith, c.in-Ok.ensures.within) in
     at-spot c.put_within-evicted.new.self (record { bucket = c.in-Ok.bucket; slot = c.put_within-evicted.result.1 }) (c.args.k, c.args.v)
     (put-place u c.put_within-evicted.new.self c.in-Ok.bucket (c.args.k, c.args.v) c.put_within-evicted.result.0 c.put_within-evicted.ensures.step l c.put_within-evicted.result.1 c.put_within-evicted.ensures.slot) c.put_within-evicted.ensures.not_waiting
@@ -85,44 +85,44 @@ pub returns-in-Ok-clause-state : goal.returns-in-Ok-clause-state
 returns-in-Ok-clause-state g c =
     let h = c.self.invariant in
     let m = c.bucket_within.new.self in
-    let u = c.drop_room_within.new.self in
-    let n = count-same m u c.drop_room_within.ensures.lists in
+    let u = c.drop_mark.new.self in
+    let n = count-same m u c.drop_mark.ensures.lists in
     let put = puts-count u c.put_within-evicted.new.self _ _ c.put_within-evicted.result.0 c.put_within-evicted.ensures.step in
     let within = grown-within _ c.self.inside.table m c.self.inside.maximum _ c.in-Ok.ensures.grows h.power h.least h.within h.minimum in
-    state-after g.K.PartialEq.eq _ _ c.self.inside.table c.put_within-evicted.new.self c.self.inside.maximum h c.put_within-evicted.ensures.listed c.put_within-evicted.ensures.unique (put.1 ∙ c.drop_room_within.ensures.settings ∙ c.bucket_within.ensures.settings) (subst (λ n. 32 * n ≤ c.self.inside.maximum) (sym (put.0 ∙ n)) within)
+    state-after g.K.PartialEq.eq _ _ c.self.inside.table c.put_within-evicted.new.self c.self.inside.maximum h c.put_within-evicted.ensures.listed c.put_within-evicted.ensures.unique (put.1 ∙ c.drop_mark.ensures.settings ∙ c.bucket_within.ensures.settings) (subst (λ n. 32 * n ≤ c.self.inside.maximum) (sym (put.0 ∙ n)) within)
 
 pub returns-in-Ok-clause-relocates : goal.returns-in-Ok-clause-relocates
 returns-in-Ok-clause-relocates g c =
     let t = c.self.inside.table in
     let m = c.bucket_within.new.self in
-    let u = c.drop_room_within.new.self in
+    let u = c.drop_mark.new.self in
     let d = c.put_within-evicted.new.self in
     let w = c.bucket_within.ensures in
     let x = c.put_within-evicted.ensures in
     let hashed = rw (← c.self.view_is) at c.requires.hashed in
     let routed = c.in-Ok.ensures.routed ∙ ap (λ s. bucket_number s.skipped (bucket_count m) c.args.hash) w.settings ∙ ap (bucket_number (settings_of t).skipped (bucket_count m)) hashed in
     let put = puts-count u d _ _ c.put_within-evicted.result.0 x.step in
-    let same = count-same m u c.drop_room_within.ensures.lists in
-    let pending = pending-same m u c.drop_room_within.ensures.waiting in
-    let targets = targets-same m u c.drop_room_within.ensures.waiting in
+    let same = count-same m u c.drop_mark.ensures.lists in
+    let pending = pending-same m u c.drop_mark.ensures.waiting in
+    let targets = targets-same m u c.drop_mark.ensures.waiting in
     rw (← c.self.view_is) (put-relocates _ c.in-Ok.bucket t m d routed (put.0 ∙ same) c.in-Ok.ensures.within w.listed.lawful w.first w.waiting w.all w.flags x.not_waiting (x.exact ∙ ap (left_after c.in-Ok.bucket) targets) (λ two. let z : 2 ≤ pending_of u = omega arith in x.count z ∙ pending))
 
 pub returns-in-Ok-clause-once : goal.returns-in-Ok-clause-once
 returns-in-Ok-clause-once g c =
     let t = c.self.inside.table in
     let m = c.bucket_within.new.self in
-    let u = c.drop_room_within.new.self in
+    let u = c.drop_mark.new.self in
     let d = c.put_within-evicted.new.self in
     let f : g.row.K.Denot → ℕ = (λ k. hash_of g.H.BuildHasher g.H.Hasher.Hasher (settings_of t).hasher (g.K.Hash.hash_input k)) in
     let hashed = rw (← c.self.view_is) at c.requires.hashed in
     let grows = subst (λ h. GrowsBelow (λ e. f e.0) c.self.inside.maximum (bucket_number (settings_of t).skipped (bucket_count t) h) t m) hashed c.in-Ok.ensures.grows in
     let put = puts-count u d _ _ c.put_within-evicted.result.0 c.put_within-evicted.ensures.step in
-    let same = count-same m u c.drop_room_within.ensures.lists in
+    let same = count-same m u c.drop_mark.ensures.lists in
     rw (← c.self.view_is) (λ ready. put.0 ∙ same ∙ once-grown _ t m c.self.inside.maximum _ grows ready)
 
 pub returns-in-Ok-clause-unmarked : goal.returns-in-Ok-clause-unmarked
 returns-in-Ok-clause-unmarked g c =
-    let refused = puts-refused g.K.PartialEq.eq c.drop_room_within.new.self c.put_within-evicted.new.self _ _ c.put_within-evicted.result.0 c.put_within-evicted.ensures.step ∙ c.drop_room_within.ensures.noted in
+    let refused = puts-refused g.K.PartialEq.eq c.drop_mark.new.self c.put_within-evicted.new.self _ _ c.put_within-evicted.result.0 c.put_within-evicted.ensures.step ∙ c.drop_mark.ensures.noted in
     ap (λ (x : Bool × Bool). x.1) refused
 
 pub returns-in-Err-clause-refused : goal.returns-in-Err-clause-refused
@@ -140,9 +140,9 @@ pub returns-in-Ok-clause-finds : goal.returns-in-Ok-clause-finds
 returns-in-Ok-clause-finds g c =
     let t = c.self.inside.table in
     let m = c.bucket_within.new.self in
-    let u = c.drop_room_within.new.self in
+    let u = c.drop_mark.new.self in
     let d = c.put_within-evicted.new.self in
-    let lists = c.drop_room_within.ensures.lists in
+    let lists = c.drop_mark.ensures.lists in
     let n = count-same m u lists in
     let perm = subst (λ es. IsPermutation (entries t) es) (sym (entries-same m u lists)) c.bucket_within.ensures.same in
     rw (← c.self.view_is) (finds-put g.met.K.Eq.laws t u d c.in-Ok.bucket (c.args.k, c.args.v) c.put_within-evicted.result.0 (omega (arith, c.in-Ok.ensures.within, n)) perm c.self.invariant.unique c.put_within-evicted.ensures.step c.put_within-evicted.ensures.unique)

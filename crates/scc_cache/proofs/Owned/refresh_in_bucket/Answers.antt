@@ -41,7 +41,7 @@ pub overflow_sub-slot : goal.overflow_sub-slot
 overflow_sub-slot g c =
     let list = c.touch.ensures.list in
     let within = rw (← c.self.view_is) at c.requires.within in
-    omega (arith, c.list_len-slot.ensures, last-length c.self.inside.table c.touch.new.self _ _ list.0 list.2 within)
+    omega (arith, c.list_len-slot.ensures.len, last-length c.self.inside.table c.touch.new.self _ _ list.0 list.2 within)
 
 pub invariant_of-self : goal.invariant_of-self
 invariant_of-self g c =
@@ -76,7 +76,7 @@ returns-clause-step g c =
     let some = last-length t d _ _ list.0 list.2 within in
     let n = c.list_len-slot.result - 1 in
     let own : Place = record { bucket = i; slot = n } in
-    let after = last-place t d i _ list.0 list.2 within n (omega (arith, c.list_len-slot.ensures)) in
+    let after = last-place t d i _ list.0 list.2 within n (omega (arith, c.list_len-slot.ensures.len)) in
     let place = at-spot d own list.0 after down in
     let spot : spot_of d own ≡ own = spot-own (waiting_of d) (owed_of d) (bucket_count d) own after.0.bucket down in
     rw (← c.self.view_is) (record {
@@ -90,5 +90,5 @@ returns-clause-step g c =
         maximum = refl;
       };
       bucket = ap (λ (q : Place). q.bucket) spot ∙ at;
-      last = subst (λ (q : Place). q.slot + 1 ≡ length (list_of d q.bucket)) (sym spot) (omega (arith, c.list_len-slot.ensures));
+      last = subst (λ (q : Place). q.slot + 1 ≡ length (list_of d q.bucket)) (sym spot) (omega (arith, c.list_len-slot.ensures.len));
     })

@@ -61,7 +61,7 @@ returns-else-f g c =
     record {
       step = declined f.pair w met refl (changes-value _ g.K.PartialEq.eq m c.args.k.now p f w);
       finds = tested-kept m.contents c.args.k.now g.F.FnOnce c.args.f g.met.K.Eq.laws p f (subst (λ z. IsUnique g.K.PartialEq.eq z.contents) c.self.view_is c.self.invariant.unique) w met;
-      state = (search rules);
+      state = c.value_mut_at.ensures.state w;
       relocates = kept-none _ m.contents (with_value_at m p w).contents (written-count with_pair_value m.contents (spot_of m.contents p) f.within w) (waiting-written m p w);
       rests = λ none. waiting-written m p w;
     }

@@ -12,7 +12,7 @@ use Rattle.scc_cache.proofs.Owned.retain_all.Goals as goal
 
 pub loop-at-init : goal.loop-at-init
 loop-at-init g c =
-    let start = first-spot c.self.inside.table c.first_place-at.result c.first_place-at.ensures in
+    let start = first-spot c.self.inside.table c.first_place-at.result c.first_place-at.ensures.place in
     let callable = rw (← c.self.view_is) at c.requires in
     rw (← c.self.view_is) record { callable = rw start.0 callable; within = start.1; buckets = refl; settings = refl; refused = refl; maximum = refl; waiting = refl; calls = λ stay last r. rw start.0 (rw start.0 at r) }
 

@@ -37,7 +37,7 @@ returns-clause-step g c =
       entries m.contents,
       step.0,
       record { contents = left; maximum = c.self.inside.maximum },
-      goes-over _ m.contents c.len.ensures.state.lists,
+      goes-over _ m.contents c.retain_all.ensures.state.lists,
       step.1,
       leaves-pairs _ m (record { contents = left; maximum = c.self.inside.maximum }) step.0 listed held refused maximum,
       record { shrinks = shrinks; maximum = refl },

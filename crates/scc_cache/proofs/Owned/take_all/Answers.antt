@@ -5,7 +5,7 @@ use Rattle.scc_cache.proofs.Owned.take_all.Goals as goal
 
 pub loop-at-init : goal.loop-at-init
 loop-at-init g c =
-    let start = reached-first c.self.inside.table c.first_place-at.result c.first_place-at.ensures in
+    let start = reached-first c.self.inside.table c.first_place-at.result c.first_place-at.ensures.place in
     rw (← c.self.view_is) record { within = start.1; first = start.0; buckets = refl; settings = refl; refused = refl; maximum = refl; waiting = refl }
 
 pub loop-at-smaller : goal.loop-at-smaller

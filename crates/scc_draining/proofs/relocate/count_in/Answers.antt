@@ -11,22 +11,22 @@ pub overflow_add-found : goal.overflow_add-found
 overflow_add-found g c =
     let hash = λ (e : g.row.E.Denot). key_hash g.H.BuildHasher g.H.Hasher.Hasher g.E.Key.Hash.hash_input c.args.table.now (g.E.Keyed.key_of e) in
     let es = shelf_entries (shelf_of c.args.old.now c.args.source) in
-    let m = destined-le hash c.args.skipped c.args.count c.args.target (take c.loop-place.place es) in
-    let n = length-take c.loop-place.place es in
-    omega (arith, c.loop-place.invariant, c.bucket_len-entry_count.ensures, c.requires.few)
+    let m = destined-le hash c.args.skipped c.args.count c.args.target (take c.loop-slot.slot es) in
+    let n = length-take c.loop-slot.slot es in
+    omega (arith, c.loop-slot.invariant, c.bucket_len-entry_count.ensures, c.requires.few)
 
-pub loop-place-preserved : goal.loop-place-preserved
-loop-place-preserved g c =
+pub loop-slot-preserved : goal.loop-slot-preserved
+loop-slot-preserved g c =
     let hash = λ (e : g.row.E.Denot). key_hash g.H.BuildHasher g.H.Hasher.Hasher g.E.Key.Hash.hash_input c.args.table.now (g.E.Keyed.key_of e) in
     let es = shelf_entries (shelf_of c.args.old.now c.args.source) in
-    let l : c.loop-place.place < length es = omega (arith, c.bucket_len-entry_count.ensures) in
+    let l : c.loop-slot.slot < length es = omega (arith, c.bucket_len-entry_count.ensures) in
     let hashed = c.hash-hash.ensures ∙ ap (λ k. key_hash g.H.BuildHasher g.H.Hasher.Hasher g.E.Key.Hash.hash_input c.args.table.now k) c.key.ensures in
     let number = c.bucket_index.ensures.value ∙ ap (bucket_number c.args.skipped c.args.count) hashed in
     elim c.if-bucket_index-target.branch [
       | then-bucket_index-target w ↦
-          let one = counts-one hash c.args.skipped c.args.count c.args.target c.loop-place.place es c.entry_at.result.now l c.entry_at.ensures (sym w.if-bucket_index-target.true ∙ number) in
-          w.found-is ∙ ap (λ n. n + 1) c.loop-place.invariant ∙ sym one
+          let one = counts-one hash c.args.skipped c.args.count c.args.target c.loop-slot.slot es c.entry_at.result.now l c.entry_at.ensures (sym w.if-bucket_index-target.true ∙ number) in
+          w.found-is ∙ ap (λ n. n + 1) c.loop-slot.invariant ∙ sym one
       | else-bucket_index-target w ↦
-          let none = counts-none hash c.args.skipped c.args.count c.args.target c.loop-place.place es c.entry_at.result.now l c.entry_at.ensures (λ z. w.if-bucket_index-target.false (number ∙ sym z)) in
-          w.found-is ∙ c.loop-place.invariant ∙ sym none
+          let none = counts-none hash c.args.skipped c.args.count c.args.target c.loop-slot.slot es c.entry_at.result.now l c.entry_at.ensures (λ z. w.if-bucket_index-target.false (number ∙ sym z)) in
+          w.found-is ∙ c.loop-slot.invariant ∙ sym none
     ]

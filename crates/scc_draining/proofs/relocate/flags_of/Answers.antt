@@ -15,31 +15,31 @@ one-or-zero : (b : Bool) → (bool_byte b == 1) ≡ b
 one-or-zero true = refl
 one-or-zero false = refl
 
-pub loop-place-preserved : goal.loop-place-preserved
-loop-place-preserved g c =
-    let p = c.loop-place.place in
+pub loop-slot-preserved : goal.loop-slot-preserved
+loop-slot-preserved g c =
+    let p = c.loop-slot.slot in
     let flag = bool_byte (c.bucket_index.result == c.args.task.target) in
-    let bits = raised c.loop-place.flags in
-    let many = length-map c.loop-place.flags (λ x. x == 1) in
+    let bits = raised c.loop-slot.flags in
+    let many = length-map c.loop-slot.flags (λ x. x == 1) in
     let up : (flag == 1) ≡ (c.bucket_index.result == c.args.task.target) = one-or-zero (c.bucket_index.result == c.args.task.target) in
-    let next : raised (set c.loop-place.flags p flag) ≡ set bits p (c.bucket_index.result == c.args.task.target) = map-set (λ x. x == 1) c.loop-place.flags p flag ∙ ap (λ b. set bits p b) up in
+    let next : raised (set c.loop-slot.flags p flag) ≡ set bits p (c.bucket_index.result == c.args.task.target) = map-set (λ x. x == 1) c.loop-slot.flags p flag ∙ ap (λ b. set bits p b) up in
     let xs = (shelf_of c.args.old.now c.args.source).slots in let os = (shelf_of c.args.old.now c.args.source).overflow in
     let number = λ (e : g.row.E.Denot). bucket_number c.args.task.skipped c.args.count (key_hash g.H.BuildHasher g.H.Hasher.Hasher g.E.Key.Hash.hash_input c.args.table.now (g.E.Keyed.key_of e)) in
     let x = c.entry_of.result.now in
     let hashed = c.hash-hash.ensures ∙ ap (λ k. key_hash g.H.BuildHasher g.H.Hasher.Hasher g.E.Key.Hash.hash_input c.args.table.now k) c.key.ensures in
     let to : c.bucket_index.result ≡ number x = c.bucket_index.ensures.value ∙ ap (bucket_number c.args.task.skipped c.args.count) hashed in (
-      length-set c.loop-place.flags p flag ∙ c.loop-place.invariant.0,
+      length-set c.loop-slot.flags p flag ∙ c.loop-slot.invariant.0,
       λ j e l got. ap (λ fs. slice_get fs j) next ∙ elim (same_or_not j p) [
         | inl s ↦
             let there : slice_get (xs ++ os) p ≡ Some e = get-left xs os p e (ap (slice_get xs) (sym s) ∙ got) in
             let both : Some e ≡ Some x = sym there ∙ c.entry_of.ensures in
             let same : x ≡ e = cc in
             let within = get-within xs j e got in
-            let n = c.loop-place.invariant.0 in
-            ap (slice_get (set bits p (c.bucket_index.result == c.args.task.target))) s ∙ get-set bits p (c.bucket_index.result == c.args.task.target) (let m = c.slot_count-slots.ensures.most in let t = c.loop-place-test.true in omega arith) ∙ ap (λ k. Some (k == c.args.task.target)) (to ∙ ap number same)
-        | inr d ↦ get-set_other bits p j (c.bucket_index.result == c.args.task.target) d ∙ c.loop-place.invariant.1 j e (omega arith) got
+            let n = c.loop-slot.invariant.0 in
+            ap (slice_get (set bits p (c.bucket_index.result == c.args.task.target))) s ∙ get-set bits p (c.bucket_index.result == c.args.task.target) (let m = c.slot_count-slots.ensures.most in let t = c.loop-slot-test.true in omega arith) ∙ ap (λ k. Some (k == c.args.task.target)) (to ∙ ap number same)
+        | inr d ↦ get-set_other bits p j (c.bucket_index.result == c.args.task.target) d ∙ c.loop-slot.invariant.1 j e (omega arith) got
       ],
     )
 
 pub returns : goal.returns
-returns g c = λ j e got. c.loop-place.invariant.1 j e (let l = get-within (shelf_of c.args.old.now c.args.source).slots j e got in omega (arith, c.loop-place-test.false, c.slot_count-slots.ensures.count)) got
+returns g c = λ j e got. c.loop-slot.invariant.1 j e (let l = get-within (shelf_of c.args.old.now c.args.source).slots j e got in omega (arith, c.loop-slot-test.false, c.slot_count-slots.ensures.count)) got

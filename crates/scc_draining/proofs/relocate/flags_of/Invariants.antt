@@ -5,6 +5,6 @@ use Rattle.scc_draining.proofs.relocate.flags_of.Given as goal
 use Rattle.scc_common.specs.Contents.{key_hash}
 use Rattle.scc_common.specs.Routing.{bucket_number}
 
-abbrev pub invariant-loop-place : goal.invariant-loop-place
-invariant-loop-place g l = (length l.flags ≡ 32) × ((j : ℕ) (e : g.row.E.Denot) → j < l.place → slice_get (shelf_of l.old l.source).slots j ≡ Some e
+abbrev pub invariant-loop-slot : goal.invariant-loop-slot
+invariant-loop-slot g l = (length l.flags ≡ 32) × ((j : ℕ) (e : g.row.E.Denot) → j < l.slot → slice_get (shelf_of l.old l.source).slots j ≡ Some e
     → slice_get (raised l.flags) j ≡ Some (bucket_number l.task.skipped l.count (key_hash g.H.BuildHasher g.H.Hasher.Hasher g.E.Key.Hash.hash_input l.table (g.E.Keyed.key_of e)) == l.task.target))

@@ -180,7 +180,7 @@ install-none-requires-clause-unique g c =
     let landed = landed-from hash t i bs c.args.old.now c.fill-filled.new.old d c.left_of-left.result c.args.coming c.args.task.skipped c.len-buckets.result c.requires.skips buckets most c.fill-filled.result ok c.fill-filled.ensures.few c.fill-filled.ensures.stays in
     let there = rw (c.requires.skips, counted) at c.requires.unique in
     subst (λ (z : List (Shelf g.row.E.Denot)). IsDistinct g.E.Key.PartialEq.eq (map g.E.Keyed.key_of (flat_map shelf_entries z))) (sym others)
-    (distinct-landed g.E.Key.PartialEq.eq g.E.Keyed.key_of cur bs were i d (destined_for hash t (length bs) i es) b l at bare (landed-list hash t i bs b es c.left_of-left.result d landed) c.list_facts.ensures.unique there)
+    (distinct-landed g.E.Key.PartialEq.eq g.E.Keyed.key_of cur bs were i d (destined_for hash t (length bs) i es) b l at bare (landed-list hash t i bs b es c.left_of-left.result d landed) c.allocator-alloc.ensures.unique there)
 
 pub left_of-left-requires : goal.left_of-left-requires
 left_of-left-requires g c = omega (arith, c.install-fresh.ensures.overflowing, c.requires.aside)
@@ -269,6 +269,7 @@ returns-in-Ok g c =
       err = (search rules);
       stays = (search rules);
       refused = (search rules);
+      routed = (search rules);
     }
 
 pub returns-in-Err : goal.returns-in-Err
@@ -298,4 +299,5 @@ returns-in-Err g c =
           (c.install-none.ensures.waiting ∙ c.install-fresh.ensures.waiting) (c.install-none.ensures.owed ∙ c.install-fresh.ensures.owed));
       stays = (search rules);
       refused = (search rules);
+      routed = (search rules);
     }

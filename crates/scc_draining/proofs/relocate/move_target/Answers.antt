@@ -82,4 +82,5 @@ returns g c =
       err = (search rules);
       stays = (search rules);
       refused = (on_err_weaker c.move_in.result (λ l. let same = exact l in omega arith) c.move_in.ensures.refused);
+      routed = (search rules);
     }

@@ -15,13 +15,13 @@ insert_in_room-requires-clause-room g c =
     let l : c.loop-seen.seen < length (shelf_entries (shelf_of c.args.old.now c.args.source)) = omega (arith, c.bucket_len-entry_count.ensures) in
     let hashed = c.hash-hash.ensures ∙ ap (λ k. key_hash g.H.BuildHasher g.H.Hasher.Hasher g.E.Key.Hash.hash_input c.args.table.now k) c.key.ensures in
     let to = sym c.if-bucket_index-task.true ∙ c.bucket_index.ensures.value ∙ ap (bucket_number c.args.task.skipped c.args.count) hashed in
-    pull-room hash c.args.task.skipped c.args.count c.args.task.target c.args.source c.args.old.now (shelf_of c.args.into.now c.args.task.target) c.loop-seen.old (shelf_of c.loop-seen.into c.args.task.target) c.loop-seen.seen c.loop-seen.place c.loop-seen.invariant.0 l
+    pull-room hash c.args.task.skipped c.args.count c.args.task.target c.args.source c.args.old.now (shelf_of c.args.into.now c.args.task.target) c.loop-seen.old (shelf_of c.loop-seen.into c.args.task.target) c.loop-seen.seen c.loop-seen.slot c.loop-seen.invariant.0 l
     c.entry_at.result.now c.entry_at.ensures to c.requires.room
 
-pub overflow_add-place : goal.overflow_add-place
-overflow_add-place g c =
+pub overflow_add-slot : goal.overflow_add-slot
+overflow_add-slot g c =
     let hash = λ (e : g.row.E.Denot). key_hash g.H.BuildHasher g.H.Hasher.Hasher g.E.Key.Hash.hash_input c.args.table.now (g.E.Keyed.key_of e) in
-    let below = pull-below hash c.args.task.skipped c.args.count c.args.task.target c.args.source c.args.old.now (shelf_of c.args.into.now c.args.task.target) c.loop-seen.old (shelf_of c.loop-seen.into c.args.task.target) c.loop-seen.seen c.loop-seen.place c.loop-seen.invariant.0 in
+    let below = pull-below hash c.args.task.skipped c.args.count c.args.task.target c.args.source c.args.old.now (shelf_of c.args.into.now c.args.task.target) c.loop-seen.old (shelf_of c.loop-seen.into c.args.task.target) c.loop-seen.seen c.loop-seen.slot c.loop-seen.invariant.0 in
     omega (arith, c.bucket_len-entry_count.type_inv)
 
 pub loop-seen-preserved : goal.loop-seen-preserved
@@ -39,15 +39,15 @@ loop-seen-preserved g c =
           let within = still-within c.args.into.now c.loop-seen.into c.args.task.target c.requires.target c.loop-seen.invariant.1 in
           let here = later-is c.args.into.now c.loop-seen.into c.args.task.target c.requires.target c.loop-seen.invariant.1 w.insert_in_room.new.self _ w.insert_in_room.ensures.value in
           let put = here ∙ ap (λ x. let s : Shelf g.row.E.Denot = record (with_entry (shelf_of c.loop-seen.into c.args.task.target) e x) { room = r } in s) (w.tag.ensures ∙ ap tag_of at) in
-          rw (w.into-is, w.old-is, w.place-is) (
-            pull-move hash c.args.task.skipped c.args.count c.args.task.target c.args.source c.args.old.now (shelf_of c.args.into.now c.args.task.target) c.loop-seen.old (shelf_of c.loop-seen.into c.args.task.target) c.loop-seen.seen c.loop-seen.place c.loop-seen.invariant.0 l
+          rw (w.into-is, w.old-is, w.slot-is) (
+            pull-move hash c.args.task.skipped c.args.count c.args.task.target c.args.source c.args.old.now (shelf_of c.args.into.now c.args.task.target) c.loop-seen.old (shelf_of c.loop-seen.into c.args.task.target) c.loop-seen.seen c.loop-seen.slot c.loop-seen.invariant.0 l
                 e w.remove_at-entry.ensures.entry to c.requires.source w.remove_at-entry.new.self (shelf_of w.insert_in_room.new.self c.args.task.target) w.remove_at-entry.ensures.others put w.insert_in_room.ensures.room,
             later-own c.args.into.now c.loop-seen.into c.args.task.target c.requires.target c.loop-seen.invariant.1 w.insert_in_room.new.self _ w.insert_in_room.ensures.value,
           )
       | else-bucket_index-task w ↦
           let ne = λ (z : c.args.task.target ≡ bucket_number c.args.task.skipped c.args.count (hash c.entry_at.result.now)). w.if-bucket_index-task.false (c.bucket_index.ensures.value ∙ ap (bucket_number c.args.task.skipped c.args.count) hashed ∙ sym z) in
-          rw (w.into-is, w.old-is, w.place-is) (
-            pull-skip hash c.args.task.skipped c.args.count c.args.task.target c.args.source c.args.old.now (shelf_of c.args.into.now c.args.task.target) c.loop-seen.old (shelf_of c.loop-seen.into c.args.task.target) c.loop-seen.seen c.loop-seen.place c.loop-seen.invariant.0 l
+          rw (w.into-is, w.old-is, w.slot-is) (
+            pull-skip hash c.args.task.skipped c.args.count c.args.task.target c.args.source c.args.old.now (shelf_of c.args.into.now c.args.task.target) c.loop-seen.old (shelf_of c.loop-seen.into c.args.task.target) c.loop-seen.seen c.loop-seen.slot c.loop-seen.invariant.0 l
                 c.entry_at.result.now c.entry_at.ensures ne,
             c.loop-seen.invariant.1,
           )

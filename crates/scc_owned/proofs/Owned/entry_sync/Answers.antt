@@ -10,8 +10,8 @@ returns-in-Some-clause-entry g c =
 pub of_key-requires : goal.of_key-requires
 of_key-requires g c = rw (← c.self.view_is) record { absent = c.in-None.ensures.place; hashed = c.hash-hash.ensures; unique = c.search.ensures.unique }
 
-pub at-requires : goal.at-requires
-at-requires g c = let found = rw c.self.view_is at c.in-Some.ensures.place in found.within
+pub at-requires-clause-within : goal.at-requires-clause-within
+at-requires-clause-within g c = let found = rw c.self.view_is at c.in-Some.ensures.place in found.within
 
 pub returns-clause-entry : goal.returns-clause-entry
 returns-clause-entry g c =

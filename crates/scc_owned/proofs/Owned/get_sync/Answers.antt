@@ -18,5 +18,5 @@ returns-in-Some g c = (
 pub returns-in-None : goal.returns-in-None
 returns-in-None g c = ((refl, λ _. tt, refl), record { same_container = tt; entry = tt; unique = rw c.self.view_is at c.search.ensures.unique; missing = rw (← c.self.view_is) (g.met.E.Stored.lawful.missing (g.E.Key.PartialEq.eq c.args.k.now) (entries c.self.inside.table) c.in-None.ensures.place); kept = tt })
 
-pub at-requires : goal.at-requires
-at-requires g c = let found = rw c.self.view_is at c.in-Some.ensures.place in found.within
+pub at-requires-clause-within : goal.at-requires-clause-within
+at-requires-clause-within g c = let found = rw c.self.view_is at c.in-Some.ensures.place in found.within

@@ -4,5 +4,5 @@ use Rattle.scc_owned.proofs.Owned.take_all.Goals as goal
 
 pub loop-at-init : goal.loop-at-init
 loop-at-init g c =
-    let start = reached-first c.args.self.now c.first_place-at.result (rw c.self.view_is at c.first_place-at.ensures) in
+    let start = reached-first c.args.self.now c.first_place-at.result (rw c.self.view_is at c.first_place-at.ensures.place) in
     record { within = start.1; first = start.0; buckets = refl; settings = refl; noted = refl; waiting = refl }

@@ -21,6 +21,7 @@ loop-k-preserved-after-insert_sync g c =
             place = place;
             run = FoldsTo-push (InsertsOne g.K.PartialEq.eq hash) c.args.self.now c.loop-k.yielded c.loop-k.self c.in-Some.k c.insert_sync.new.self inv.run (Ok tt, tt, record { step = h; array = rw w.in-Ok.is at c.insert_sync.ensures.array });
             settings = h.1.settings ∙ inv.settings;
+            unique = c.insert_sync.ensures.unique;
             finds = λ q. finds-new g.met.K.Eq.laws (entries c.args.self.now) (entries c.loop-k.self) (entries c.insert_sync.new.self) c.loop-k.yielded c.in-Some.k q (inv.finds q) (f.finds q) h.0;
           })
       | in-Err-Exists w ↦ (let h = rw w.in-Err-Exists.field-0-is at w.in-Err-Exists.ensures.step in
@@ -28,6 +29,7 @@ loop-k-preserved-after-insert_sync g c =
             place = place;
             run = FoldsTo-push (InsertsOne g.K.PartialEq.eq hash) c.args.self.now c.loop-k.yielded c.loop-k.self c.in-Some.k c.insert_sync.new.self inv.run (Err w.in-Err-Exists.field-0, rw w.in-Err-Exists.field-0-is tt, record { step = w.in-Err-Exists.ensures.step; array = rw w.in-Err-Exists.is at c.insert_sync.ensures.array });
             settings = h.2.settings ∙ inv.settings;
+            unique = c.insert_sync.ensures.unique;
             finds = λ q. finds-old g.met.K.Eq.laws (entries c.args.self.now) (entries c.loop-k.self) (entries c.insert_sync.new.self) c.loop-k.yielded c.in-Some.k q (inv.finds q) h.2.exact h.1;
           })
     ]
@@ -45,6 +47,7 @@ loop-k-preserved g c =
             place = place;
             run = FoldsTo-push (InsertsOne g.K.PartialEq.eq hash) c.args.self.now c.loop-k.yielded c.loop-k.self c.in-Some.k c.insert_sync.new.self inv.run (Ok tt, tt, record { step = h; array = rw w.in-Ok.is at c.insert_sync.ensures.array });
             settings = h.1.settings ∙ inv.settings;
+            unique = c.insert_sync.ensures.unique;
             finds = λ q. finds-new g.met.K.Eq.laws (entries c.args.self.now) (entries c.loop-k.self) (entries c.insert_sync.new.self) c.loop-k.yielded c.in-Some.k q (inv.finds q) (f.finds q) h.0;
           })
       | in-Err-Exists w ↦ (let h = rw w.in-Err-Exists.field-0-is at w.in-Err-Exists.ensures.step in
@@ -52,6 +55,7 @@ loop-k-preserved g c =
             place = place;
             run = FoldsTo-push (InsertsOne g.K.PartialEq.eq hash) c.args.self.now c.loop-k.yielded c.loop-k.self c.in-Some.k c.insert_sync.new.self inv.run (Err w.in-Err-Exists.field-0, rw w.in-Err-Exists.field-0-is tt, record { step = w.in-Err-Exists.ensures.step; array = rw w.in-Err-Exists.is at c.insert_sync.ensures.array });
             settings = h.2.settings ∙ inv.settings;
+            unique = c.insert_sync.ensures.unique;
             finds = λ q. finds-old g.met.K.Eq.laws (entries c.args.self.now) (entries c.loop-k.self) (entries c.insert_sync.new.self) c.loop-k.yielded c.in-Some.k q (inv.finds q) h.2.exact h.1;
           })
     ]

@@ -6,4 +6,4 @@ pub next_place-requires : goal.next_place-requires
 next_place-requires g c = IsPlace-from_mapped _ c.self.inside.map c.args.place (rw (← c.self.view_is) at c.requires)
 
 pub returns : goal.returns
-returns g c = rw (← c.self.view_is) (follows c.self.inside.map c.args.place c.next_place.result c.next_place.ensures)
+returns g c = rw (← c.self.view_is) (follows c.self.inside.map c.args.place c.next_place.result c.next_place.ensures.place)

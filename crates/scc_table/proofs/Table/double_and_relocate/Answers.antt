@@ -89,7 +89,7 @@ returns-in-Ok g c =
           let few = c.count_destined-slot.ensures ∙ ap (λ xs. length (destined_for (hashes (settings_of c.self.inside.current)) c.self.inside.skipped (2 * n) k (take c.args.place.slot xs))) (sym own)
           ∙ ap (λ s. length (destined_for (hashes s) c.self.inside.skipped (2 * n) k (take c.args.place.slot es))) (sym set) in
           let slot : c.count_destined-slot.result ≡ length (destined_for hash t (2 * bucket_count a) k (take c.args.place.slot es)) = few ∙ ap (λ z. length (destined_for hash z (2 * n) k (take c.args.place.slot es))) s ∙ ap (λ z. length (destined_for hash t z k (take c.args.place.slot es))) twice in
-          ap (slice_get (list_of d k)) slot ∙ stands-after hash a d c.list_facts.ensures.routed c.args.place.bucket c.args.place.slot c.args.hash x.0 x.1 (c.requires.hashed x.0 x.1) k near list);
+          ap (slice_get (list_of d k)) slot ∙ stands-after hash a d c.bucket_count-count.ensures.routed c.args.place.bucket c.args.place.slot c.args.hash x.0 x.1 (c.requires.hashed x.0 x.1) k near list);
       routed = (at ∙ ap (λ z. bucket_number (settings_of a).skipped z c.args.hash) (sym reg.count));
       not_waiting = (
           let down : waits_at (waiting_of b) k ≡ false = but-down (2 * n) k array.least l b done.waiting in
@@ -159,7 +159,7 @@ returns-in-Err g c =
           let count = count-same a d lists in
           let hash = λ (e : g.row.E.Denot). key_hash g.H.BuildHasher g.H.Hasher.Hasher g.E.Key.Hash.hash_input a (g.E.Keyed.key_of e) in
           let x = get-some (list_of a c.args.place.bucket) c.args.place.slot c.requires.slot in
-          stands-routed hash a d c.list_facts.ensures.routed c.args.place.bucket c.args.place.slot c.args.hash x.0 x.1 (c.requires.hashed x.0 x.1) ∙ ap (λ z. bucket_number (settings_of a).skipped z c.args.hash) (sym count));
+          stands-routed hash a d c.bucket_count-count.ensures.routed c.args.place.bucket c.args.place.slot c.args.hash x.0 x.1 (c.requires.hashed x.0 x.1) ∙ ap (λ z. bucket_number (settings_of a).skipped z c.args.hash) (sym count));
       not_waiting = (
           let same : b ≡ a = c.in-Err.ensures.err in
           let lists = c.note-in-Err.ensures.lists ∙ ap lists_of same in

@@ -9,7 +9,7 @@ use Rattle.scc_common.specs.Sizes.{IsBucketCount}
 use Rattle.scc_buckets.proofs.Powers.{double-array}
 use Rattle.scc_table.specs.Bounded.{IsDoublingDue, doubles}
 use Rattle.scc_table.proofs.arrays.SameParts.{count-same, entries-same}
-use Rattle.scc_table.proofs.relocations.ShortLists.{listed-anew, listed-later, listed-resized, routed-before, short-doubled}
+use Rattle.scc_table.proofs.relocations.ShortLists.{listed-anew, listed-later, listed-resized, short-doubled}
 use Rattle.scc_table.proofs.Table.double_within.Goals as goal
 
 pub install_fresh-requires-clause-array : goal.install_fresh-requires-clause-array
@@ -36,9 +36,8 @@ returns-in-Ok g c =
       settings = (search rules);
       listed = (
           let settings = c.install_fresh.ensures.settings in
-          let routed = routed-before (λ s (e : g.row.E.Denot). hash_of g.H.BuildHasher g.H.Hasher.Hasher s.hasher (g.E.Key.Hash.hash_input (g.E.Keyed.key_of e))) a d settings c.list_facts.ensures.routed in
           listed-anew (λ s (e : g.row.E.Denot). hash_of g.H.BuildHasher g.H.Hasher.Hasher s.hasher (g.E.Key.Hash.hash_input (g.E.Keyed.key_of e))) a d settings
-          (listed-resized hash a d resized routed (λ i l. subst (λ n. length (destined_for hash (settings_of a).skipped n i (entries a)) ≤ 32) (sym size) (short-doubled hash a c.requires.listed i))));
+          (listed-resized hash a d resized (λ i l. subst (λ n. length (destined_for hash (settings_of a).skipped n i (entries a)) ≤ 32) (sym size) (short-doubled hash a c.requires.listed i))));
       array = (search rules);
       waiting = (search rules);
       all = (search rules);

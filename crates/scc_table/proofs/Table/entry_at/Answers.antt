@@ -9,8 +9,8 @@ pub entry_in-requires : goal.entry_in-requires
 entry_in-requires g c =
     (own-here c.self.invariant c.args.place c.self.view_is c.requires (omega (arith, c.bucket_count-count.ensures.count))).0
 
-pub returns-then-place-count : goal.returns-then-place-count
-returns-then-place-count g c =
+pub returns-then-place-count-clause-entry : goal.returns-then-place-count-clause-entry
+returns-then-place-count-clause-entry g c =
     let t = c.self.inside in
     let hk = key_hash g.H.BuildHasher g.H.Hasher.Hasher g.E.Key.Hash.hash_input t.current in
     let hash = λ (e : g.row.E.Denot). hk (g.E.Keyed.key_of e) in
@@ -27,8 +27,8 @@ pub entry_at-requires-clause-slot : goal.entry_at-requires-clause-slot
 entry_at-requires-clause-slot g c =
     (old-here c.self.invariant c.args.place c.self.view_is c.requires c.bucket_count-count.result c.bucket_count-count.ensures.count c.if-place-count.false).2
 
-pub returns : goal.returns
-returns g c =
+pub returns-clause-entry : goal.returns-clause-entry
+returns-clause-entry g c =
     let t = c.self.inside in
     let hk = key_hash g.H.BuildHasher g.H.Hasher.Hasher g.E.Key.Hash.hash_input t.current in
     let hash = λ (e : g.row.E.Denot). hk (g.E.Keyed.key_of e) in

@@ -13,4 +13,4 @@ returns g c =
     let p : Place = record { bucket = c.args.bucket; slot = 0 } in
     let x = at-get (list_of d c.args.bucket) 0 c.requires.some in
     let at : spots.IsSpot d p = record { bucket = c.requires.within; slot = c.requires.some } in
-    x ∙ sym (place-get d p at _ x) ∙ ap (slice_get (entries d)) (sym c.in-Some.ensures.index) ∙ c.entry_at.ensures
+    x ∙ sym (place-get d p at _ x) ∙ ap (slice_get (entries d)) (sym c.in-Some.ensures.index) ∙ c.entry_at.ensures.entry

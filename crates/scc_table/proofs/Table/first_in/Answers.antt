@@ -101,7 +101,7 @@ returns-then-list_len-eq0 g c =
     let i = c.args.bucket in
     let down : waits_at ws i ≡ false = flag-free c.self.invariant _ c.self.view_is (λ up. let q = c.is_waiting.ensures.1 up in let z : true ≡ false = sym q ∙ c.if-is_waiting.false in cc) in
     let within : i < bucket_count cur = omega (arith, count, c.requires) in
-    let none = length-zero (list_of cur i) (sym c.if-list_len-eq0.true ∙ c.list_len.ensures) in
+    let none = length-zero (list_of cur i) (sym c.if-list_len-eq0.true ∙ c.list_len.ensures.len) in
     subst (λ d. list_of d i ≡ []) c.self.view_is (own-list hash cur ws olds inv.arrays i within down ∙ none)
 
 pub returns : goal.returns
@@ -118,5 +118,5 @@ returns g c =
     let down : waits_at ws i ≡ false = flag-free c.self.invariant _ c.self.view_is (λ up. let q = c.is_waiting.ensures.1 up in let z : true ≡ false = sym q ∙ c.if-is_waiting.false in cc) in
     let within : i < bucket_count cur = omega (arith, count, c.requires) in
     let p : Place = record { bucket = i; slot = 0 } in
-    let some : 0 < length (list_of cur i) = omega (arith, c.list_len.ensures, c.if-list_len-eq0.false) in
+    let some : 0 < length (list_of cur i) = omega (arith, c.list_len.ensures.len, c.if-list_len-eq0.false) in
     subst (λ d. StandsAt d (spots.index_of_spot d p) p) c.self.view_is (own-stands hash cur ws olds inv.arrays p within down some)

@@ -13,4 +13,4 @@ returns g c =
     let i = c.bucket_at.result in
     let n = ap (λ m. count_by (λ (e : g.row.E.Denot). bucket_of hk now (g.E.Keyed.key_of e) == m) (entries now)) (sym (c.bucket_at.ensures.value ∙ ap (bucket_number (settings_of now).skipped (bucket_count now)) c.hash.ensures)) ∙ count-listed hash now i c.bucket_at.ensures.routed in
     let some : 0 < bucket_count now = omega (arith, c.bucket_count.ensures.count, c.if-bucket_count-eq0.false) in
-    (λ yes. let l : c.list_len.result < 32 = search rules in (some, omega (arith, n, c.list_len.ensures)), λ room. let l : c.list_len.result < 32 = omega (arith, n, c.list_len.ensures, room.1) in search rules)
+    (λ yes. let l : c.list_len.result < 32 = search rules in (some, omega (arith, n, c.list_len.ensures.len)), λ room. let l : c.list_len.result < 32 = omega (arith, n, c.list_len.ensures.len, room.1) in search rules)

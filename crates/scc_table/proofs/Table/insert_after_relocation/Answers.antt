@@ -47,7 +47,7 @@ returns-in-Err g c =
           let k = g.E.Keyed.key_of c.args.entry in
           let at = c.requires.new.routed ∙ ap (bucket_number (settings_of a).skipped (bucket_count a)) c.requires.new.hashed in
           let long : 32 ≤ length (list_of a c.args.bucket) = omega (arith, c.in-Err.ensures.refused) in
-          long-none g.E.Keyed.key_of ha a c.list_facts.ensures.routed k c.args.bucket c.requires.new.within at long);
+          long-none g.E.Keyed.key_of ha a c.relocate.ensures.routed k c.args.bucket c.requires.new.within at long);
       buckets = (search rules);
       refused = (search rules);
       fewer = (search rules);

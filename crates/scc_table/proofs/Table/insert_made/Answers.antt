@@ -80,7 +80,7 @@ returns-then-list_len-lt32 g c =
     let n = bucket_number (settings_of a).skipped (bucket_count a) c.args.hash in
     let left : count_by (λ (e : g.row.E.Denot). bucket_number (settings_of a).skipped (bucket_count a) (hk (g.E.Keyed.key_of e)) == n) (entries a) ≡ length (list_of a i) =
     ap (λ m. count_by (λ (e : g.row.E.Denot). bucket_number (settings_of a).skipped (bucket_count a) (hk (g.E.Keyed.key_of e)) == m) (entries a)) (sym c.bucket_at-bucket.ensures.value) ∙ count-listed (λ (e : g.row.E.Denot). hk (g.E.Keyed.key_of e)) a i c.bucket_at-bucket.ensures.routed in
-    let long = c.list_len.ensures in
+    let long = c.list_len.ensures.len in
     record {
       ok = (search rules);
       err = (search rules);
@@ -117,7 +117,7 @@ returns g c =
     let n = bucket_number (settings_of a).skipped (bucket_count a) c.args.hash in
     let left : count_by (λ (e : g.row.E.Denot). bucket_number (settings_of a).skipped (bucket_count a) (hk (g.E.Keyed.key_of e)) == n) (entries a) ≡ length (list_of a i) =
     ap (λ m. count_by (λ (e : g.row.E.Denot). bucket_number (settings_of a).skipped (bucket_count a) (hk (g.E.Keyed.key_of e)) == m) (entries a)) (sym c.bucket_at-bucket.ensures.value) ∙ count-listed (λ (e : g.row.E.Denot). hk (g.E.Keyed.key_of e)) a i c.bucket_at-bucket.ensures.routed in
-    let long = c.list_len.ensures in
+    let long = c.list_len.ensures.len in
     let full : HasRoomAt hk g.E.Keyed.key_of a c.args.hash → ⊥ = λ room. absurd (let r = room.1 in omega arith) in
     let some : 0 < bucket_count a = let z = c.if-bucket_count-eq0.false in let m = c.bucket_count.ensures.count in omega arith in
     let f = c.insert_made_full.new.self in

@@ -11,8 +11,8 @@ use Rattle.scc_table.proofs.arrays.NoneWaits.{either-answer}
 use Rattle.scc_table.proofs.arrays.Views.{count-seen, lists-seen, refused-seen, settings-seen}
 use Rattle.scc_table.proofs.Table.insert_made_first.Goals as goal
 
-pub insert_made_first-placed-requires-clause-hashed : goal.insert_made_first-placed-requires-clause-hashed
-insert_made_first-placed-requires-clause-hashed g c =
+pub insert_made_first-requires-clause-hashed : goal.insert_made_first-requires-clause-hashed
+insert_made_first-requires-clause-hashed g c =
     let t = c.self.inside in
     let cur = t.current in
     let ws = t.draining.waiting.items in
@@ -24,15 +24,15 @@ insert_made_first-placed-requires-clause-hashed g c =
     let outer = hash-same g.H.BuildHasher g.H.Hasher.Hasher g.E.Key.Hash.hash_input cur a (settings-seen hash cur ws olds a view) in
     c.requires.hashed ∙ ap (λ (h : g.row.E-Key.Denot → ℕ). h (g.E.Keyed.key_of (g.E.Made.made_of c.args.parts))) outer
 
-pub insert_made_first-placed-requires-clause-none : goal.insert_made_first-placed-requires-clause-none
-insert_made_first-placed-requires-clause-none g c =
+pub insert_made_first-requires-clause-none : goal.insert_made_first-requires-clause-none
+insert_made_first-requires-clause-none g c =
     let t = c.self.inside in
     let cur = t.current in
     let hash = λ (e : g.row.E.Denot). key_hash g.H.BuildHasher g.H.Hasher.Hasher g.E.Key.Hash.hash_input cur (g.E.Keyed.key_of e) in
     sym (count-seen hash cur t.draining.waiting.items t.draining.array c.args.self.now c.self.view_is c.self.invariant.arrays.flags) ∙ c.requires.none
 
-pub insert_made_first-placed-requires-clause-absent : goal.insert_made_first-placed-requires-clause-absent
-insert_made_first-placed-requires-clause-absent g c =
+pub insert_made_first-requires-clause-absent : goal.insert_made_first-requires-clause-absent
+insert_made_first-requires-clause-absent g c =
     let t = c.self.inside in
     let cur = t.current in
     let ws = t.draining.waiting.items in
@@ -54,18 +54,17 @@ invariant_of-self g c =
     let ws = t.draining.waiting.items in
     let olds = t.draining.array in
     let a = c.args.self.now in
-    let new = c.insert_made_first-placed.new.self in
+    let new = c.insert_made_first.new.self in
     let inv = c.self.invariant in
     let hk = key_hash g.H.BuildHasher g.H.Hasher.Hasher g.E.Key.Hash.hash_input cur in
     let hash = λ (e : g.row.E.Denot). hk (g.E.Keyed.key_of e) in
     let view = c.self.view_is in
     let count = count-seen hash cur ws olds a view inv.arrays.flags in
     let none = no-flags ws (bucket_count cur) inv.arrays.flags (sym count ∙ c.requires.none) in
-    let kept : settings_of new ≡ settings_of cur = either-answer c.insert_made_first-placed.result c.insert_made_first-placed.ensures.ok c.insert_made_first-placed.ensures.err (λ p i. i.holds.settings) (λ p u. u.1.settings) in
+    let kept : settings_of new ≡ settings_of cur = either-answer c.insert_made_first.result c.insert_made_first.ensures.ok c.insert_made_first.ensures.err (λ p i. i.holds.settings) (λ p u. u.1.settings) in
     let same = hash-same g.H.BuildHasher g.H.Hasher.Hasher g.E.Key.Hash.hash_input cur new kept in
-    let few = c.overflow_len-few.ensures in
     subst (λ (h : g.row.E-Key.Denot → ℕ). IsTable g.E.Key.PartialEq.eq g.E.Keyed.key_of h new (record (draining_of t.draining) { left_overflow = 0 }) t.skipped) (sym same)
-    (fields-lone g.E.Key.PartialEq.eq g.E.Keyed.key_of hk cur new (draining_of t.draining) t.skipped inv none kept (omega (arith, few.value, few.most)) c.insert_made_first-placed.ensures.unique)
+    (fields-lone g.E.Key.PartialEq.eq g.E.Keyed.key_of hk cur new (draining_of t.draining) t.skipped inv none kept (omega (arith, c.insert_made_first.ensures.few)) c.insert_made_first.ensures.unique)
 
 pub returns : goal.returns
 returns g c =
@@ -74,7 +73,7 @@ returns g c =
     let ws = t.draining.waiting.items in
     let olds = t.draining.array in
     let a = c.args.self.now in
-    let new = c.insert_made_first-placed.new.self in
+    let new = c.insert_made_first.new.self in
     let inv = c.self.invariant in
     let hk = key_hash g.H.BuildHasher g.H.Hasher.Hasher g.E.Key.Hash.hash_input cur in
     let hash = λ (e : g.row.E.Denot). hk (g.E.Keyed.key_of e) in
@@ -88,11 +87,11 @@ returns g c =
     let after = lists-alone later new ws olds none in
     let has = settings-together later new ws olds in
     record {
-      ok = (if-ok c.insert_made_first-placed.result (λ p i. over-inserted a cur new d before had after has (waiting-together later new ws olds ∙ none) (g.E.Made.made_of c.args.parts) p i) c.insert_made_first-placed.ensures.ok);
-      err = (if-err c.insert_made_first-placed.result (λ p u. (u.0, over-unchanged a cur new d before had after has u.1)) c.insert_made_first-placed.ensures.err);
-      growth = (over-grows a cur new d before had after has c.requires.none c.insert_made_first-placed.ensures.growth);
-      noted = (refused-together later new ws olds ∙ c.insert_made_first-placed.ensures.noted ∙ sym (refused-seen hash cur ws olds a c.self.view_is));
-      first = (on-ok c.insert_made_first-placed.result (λ f. over-first a cur new d before had after has f) c.insert_made_first-placed.ensures.first);
+      ok = (if-ok c.insert_made_first.result (λ p i. over-inserted a cur new d before had after has (waiting-together later new ws olds ∙ none) (g.E.Made.made_of c.args.parts) p i) c.insert_made_first.ensures.ok);
+      err = (if-err c.insert_made_first.result (λ p u. (u.0, over-unchanged a cur new d before had after has u.1)) c.insert_made_first.ensures.err);
+      growth = (over-grows a cur new d before had after has c.requires.none c.insert_made_first.ensures.growth);
+      noted = (refused-together later new ws olds ∙ c.insert_made_first.ensures.noted ∙ sym (refused-seen hash cur ws olds a c.self.view_is));
+      first = (on-ok c.insert_made_first.result (λ f. over-first a cur new d before had after has f) c.insert_made_first.ensures.first);
       waiting = (waiting-together later new ws olds ∙ none);
-      unique = (subst (λ (es : List g.row.E.Denot). IsDistinct g.E.Key.PartialEq.eq (map g.E.Keyed.key_of es)) (sym (entries-alone later new ws olds none)) c.insert_made_first-placed.ensures.unique);
+      unique = (subst (λ (es : List g.row.E.Denot). IsDistinct g.E.Key.PartialEq.eq (map g.E.Keyed.key_of es)) (sym (entries-alone later new ws olds none)) c.insert_made_first.ensures.unique);
     }

@@ -28,7 +28,7 @@ returns-then-list_len-lt32 g c =
           let n = bucket_number (settings_of a).skipped (bucket_count a) c.args.hash in
           let left : count_by (λ (e : g.row.E.Denot). bucket_number (settings_of a).skipped (bucket_count a) (hk (g.E.Keyed.key_of e)) == n) (entries a) ≡ length (list_of a i) =
           ap (λ m. count_by (λ (e : g.row.E.Denot). bucket_number (settings_of a).skipped (bucket_count a) (hk (g.E.Keyed.key_of e)) == m) (entries a)) (sym c.bucket_at-bucket.ensures.value) ∙ count-listed (λ (e : g.row.E.Denot). hk (g.E.Keyed.key_of e)) a i c.bucket_at-bucket.ensures.routed in
-          let long = c.list_len.ensures in
+          let long = c.list_len.ensures.len in
           record {
             doubled = λ due down. absurd (due.full (rw c.requires.hashed at (let had : HasRoomAt hk g.E.Keyed.key_of a c.args.hash = (due.array, omega arith) in had)));
             raised = λ low up. absurd (let z : false ≡ true = sym low ∙ sym (ap (λ (x : Bool × Bool). x.0) c.insert_with_room.ensures.refused) ∙ up in cc);

@@ -43,7 +43,7 @@ invariant_of-self g c =
     let within = within-own inv c.self.view_is c.requires.new.within in
     let down = flag-down inv i c.self.view_is (not_waiting-all c.args.self.now c.requires.none i) in
     let new = c.insert_with_room.new.self in
-    let put = c.insert_with_room.ensures.exact in
+    let put = c.insert_with_room.ensures.inserts.exact in
     let inner = hash-same g.H.BuildHasher g.H.Hasher.Hasher g.E.Key.Hash.hash_input cur new put.settings in
     let own = ap length (sym (own-list (λ e. hk (g.E.Keyed.key_of e)) cur t.draining.waiting.items t.draining.array inv.arrays i within down)) ∙ ap (λ d. length (list_of d i)) c.self.view_is in
     let left : overflow_of new + t.draining.left_overflow < 2 ^ 62 = let s = put.short (omega (arith, own, c.requires.short)) in omega (arith, inv.few) in
@@ -67,7 +67,7 @@ returns g c =
     let down = flag-down inv i view free in
     let new = c.insert_with_room.new.self in
     let p = c.insert_with_room.result in
-    let own = c.insert_with_room.ensures.exact in
+    let own = c.insert_with_room.ensures.inserts.exact in
     let inner = hash-same g.H.BuildHasher g.H.Hasher.Hasher g.E.Key.Hash.hash_input cur new own.settings in
     let m = together (λ (e : g.row.E.Denot). key_hash g.H.BuildHasher g.H.Hasher.Hasher g.E.Key.Hash.hash_input new (key e)) new ws olds in
     let put : IsPutIn a i c.args.entry m p = subst (λ (h : g.row.E-Key.Denot → ℕ). IsPutIn a i c.args.entry (together (λ e. h (key e)) new ws olds) p) (sym inner) (put-together key hk cur ws olds inv.arrays a view c.args.entry i new p own within down) in

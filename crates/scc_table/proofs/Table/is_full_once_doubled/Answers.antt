@@ -24,7 +24,7 @@ count_destined-requires-clause-first g c =
     let count = count-seen _ t.current t.draining.waiting.items t.draining.array a c.self.view_is c.self.invariant.arrays.flags in
     let down : waits_at t.draining.waiting.items i ≡ false = ap (λ w. waits_at w i) (sym (waiting-seen _ t.current t.draining.waiting.items t.draining.array a c.self.view_is)) ∙ c.requires.not_waiting in
     let own = ap (λ d. length (list_of d i)) (sym c.self.view_is) ∙ ap length (own-list _ t.current t.draining.waiting.items t.draining.array c.self.invariant.arrays i (omega (arith, count, c.requires.within)) down) in
-    omega (arith, own, c.list_len-entry_count.ensures)
+    omega (arith, own, c.list_len-entry_count.ensures.len)
 
 pub returns : goal.returns
 returns g c =
@@ -45,11 +45,11 @@ returns g c =
     let hashes = λ (s : Settings g.row.H.Denot). let h : g.row.E.Denot → ℕ = λ e. hash_of g.H.BuildHasher g.H.Hasher.Hasher s.hasher (g.E.Key.Hash.hash_input (g.E.Keyed.key_of e)) in h in
     let counted = c.count_destined.ensures ∙ ap (λ xs. length (destined_for (hashes (settings_of t.current)) t.skipped (2 * r) c.bucket_index-target.result (take c.list_len-entry_count.result xs))) (sym own)
     ∙ ap (λ s. length (destined_for (hashes s) t.skipped (2 * r) c.bucket_index-target.result (take c.list_len-entry_count.result es))) (sym settings) in
-    let whole : take c.list_len-entry_count.result es ≡ es = take_all c.list_len-entry_count.result es (omega (arith, c.list_len-entry_count.ensures)) in
+    let whole : take c.list_len-entry_count.result es ≡ es = take_all c.list_len-entry_count.result es (omega (arith, c.list_len-entry_count.ensures.len)) in
     let same = counted ∙ ap (λ z. length (destined_for hash t.skipped (2 * r) c.bucket_index-target.result z)) whole
     ∙ ap (λ z. length (destined_for hash z (2 * r) c.bucket_index-target.result es)) s ∙ ap (λ z. length (destined_for hash (settings_of a).skipped z c.bucket_index-target.result es)) n
     ∙ ap (λ z. length (destined_for hash (settings_of a).skipped (2 * bucket_count a) z es)) at in
-    let all = destined-few hash a c.args.hash c.args.bucket c.list_facts.ensures.routed c.requires.routed in
+    let all = destined-few hash a c.args.hash c.args.bucket c.bucket_count-count.ensures.routed c.requires.routed in
     λ no.
     let low : c.count_destined.result < 32 = search rules in
     omega arith

@@ -29,7 +29,7 @@ loop-bucket-preserved g c =
     let within : k < bucket_count a = omega (arith, c.requires.spread) in
     let more = joined-more hash a c.requires.listed c.args.count c.args.spread c.requires.spread c.requires.some c.args.target k (omega arith) (omega arith) within in
     let less = c.requires.listed.short k in
-    record { total = omega (arith, more, c.loop-bucket.invariant.total, c.list_len-total.ensures); few = omega (arith, c.loop-bucket.invariant.few, c.list_len-total.ensures) }
+    record { total = omega (arith, more, c.loop-bucket.invariant.total, c.list_len-total.ensures.len); few = omega (arith, c.loop-bucket.invariant.few, c.list_len-total.ensures.len) }
 
 pub returns : goal.returns
 returns g c =

@@ -22,7 +22,7 @@ overflow_add-result g c =
       | inl z ↦ inl (inv.left_is ∙ none-owed hash cur ws olds inv.arrays z)
       | inr m ↦ elim inv.arrays.sized [ inl z ↦ inl (inv.left_is ∙ none-owed hash cur ws olds inv.arrays z) | inr a ↦ inr (a.most, m) ]
     ] in
-    let wide : bucket_count cur ≤ 2 ^ 58 = omega (arith, c.bucket_count.ensures.most, c.bucket_count.ensures.count) in
+    let wide : bucket_count cur ≤ 2 ^ 58 = c.len.ensures.wide in
     let fits = len-fits (length olds) (bucket_count cur) c.len.result t.draining.left (overflow_of cur) (overflow_in olds) t.draining.left_overflow wide many c.len.ensures.most (omega (arith, inv.left_is)) inv.overflow_is inv.few in
     search rules
 

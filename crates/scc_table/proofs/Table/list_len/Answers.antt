@@ -8,7 +8,7 @@ use Rattle.scc_table.proofs.places.OldSpots.{own-list}
 use Rattle.scc_draining.proofs.FromBuckets.{most-entry_count, within-sources}
 use Rattle.scc_table.proofs.relocations.Preparation.{long-flags, waiting-list}
 use Rattle.scc_buckets.specs.Tables.{overflow_in}
-use Rattle.scc_table.proofs.arrays.OneBucket.{count-own, flag-free, flag-up, old-multiples, old-sized, target-within}
+use Rattle.scc_table.proofs.arrays.OneBucket.{count-own, flag-free, flag-up, old-multiples, old-sized, routed-seen, target-within}
 use Rattle.scc_table.proofs.Table.list_len.Goals as goal
 
 pub sources-first-requires-clause-some : goal.sources-first-requires-clause-some
@@ -64,8 +64,8 @@ count_all-requires-clause-most g c =
     let m = most-entry_count hash (settings_of cur).skipped olds array inv.arrays.own low in
     omega arith
 
-pub returns-then-is_waiting : goal.returns-then-is_waiting
-returns-then-is_waiting g c =
+pub returns-then-is_waiting-clause-len : goal.returns-then-is_waiting-clause-len
+returns-then-is_waiting-clause-len g c =
     let t = c.self.inside in
     let cur = t.current in
     let ws = t.draining.waiting.items in
@@ -85,8 +85,8 @@ list_len-requires g c =
     let count = count-own c.self.invariant c.self.view_is in
     omega (arith, count, c.requires)
 
-pub returns : goal.returns
-returns g c =
+pub returns-clause-len : goal.returns-clause-len
+returns-clause-len g c =
     let t = c.self.inside in
     let cur = t.current in
     let ws = t.draining.waiting.items in
@@ -98,4 +98,10 @@ returns g c =
     let i = c.args.bucket in
     let down : waits_at ws i ≡ false = flag-free c.self.invariant _ c.self.view_is (λ up. let q = c.is_waiting.ensures.1 up in let z : true ≡ false = sym q ∙ c.if-is_waiting.false in cc) in
     let within : i < bucket_count cur = omega (arith, count, c.requires) in
-    c.list_len.ensures ∙ ap length (sym (own-list hash cur ws olds inv.arrays i within down)) ∙ ap (λ d. length (list_of d i)) c.self.view_is
+    c.list_len.ensures.len ∙ ap length (sym (own-list hash cur ws olds inv.arrays i within down)) ∙ ap (λ d. length (list_of d i)) c.self.view_is
+
+pub returns-then-is_waiting-clause-routed : goal.returns-then-is_waiting-clause-routed
+returns-then-is_waiting-clause-routed g c = routed-seen g.H.BuildHasher g.H.Hasher.Hasher g.E.Key.Hash.hash_input g.E.Keyed.key_of c.self.invariant c.self.view_is c.bucket_count-count.ensures.routed
+
+pub returns-clause-routed : goal.returns-clause-routed
+returns-clause-routed g c = routed-seen g.H.BuildHasher g.H.Hasher.Hasher g.E.Key.Hash.hash_input g.E.Keyed.key_of c.self.invariant c.self.view_is c.list_len.ensures.routed

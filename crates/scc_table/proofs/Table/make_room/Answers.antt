@@ -27,8 +27,8 @@ returns-then-list_len-lt32-clause-ok g c =
     let i = c.in_ok-bucket.bucket in
     let n = bucket_number (settings_of b).skipped (bucket_count b) c.args.hash in
     let left : count_by (λ (e : g.row.E.Denot). bucket_number (settings_of b).skipped (bucket_count b) (hb (g.E.Keyed.key_of e)) == n) (entries b) ≡ length (list_of b i) =
-    ap (λ m. count_by (λ (e : g.row.E.Denot). bucket_number (settings_of b).skipped (bucket_count b) (hb (g.E.Keyed.key_of e)) == m) (entries b)) (sym c.in_ok-bucket.ensures.routed) ∙ count-listed (λ (e : g.row.E.Denot). hb (g.E.Keyed.key_of e)) b i c.list_facts.ensures.routed in
-    let short = c.list_len.ensures in
+    ap (λ m. count_by (λ (e : g.row.E.Denot). bucket_number (settings_of b).skipped (bucket_count b) (hb (g.E.Keyed.key_of e)) == m) (entries b)) (sym c.in_ok-bucket.ensures.routed) ∙ count-listed (λ (e : g.row.E.Denot). hb (g.E.Keyed.key_of e)) b i c.list_len.ensures.routed in
+    let short = c.list_len.ensures.len in
     let some : 0 < bucket_count b = omega (arith, c.in_ok-bucket.ensures.within) in
     let room : HasRoomAt hb g.E.Keyed.key_of b c.args.hash = (some, omega arith) in
     let like = hash-same g.H.BuildHasher g.H.Hasher.Hasher g.E.Key.Hash.hash_input a b (rests-resizes a b m.rests).settings in
@@ -82,8 +82,8 @@ returns-then-list_len-lt32-clause-marks g c =
     let i = c.in_ok-bucket.bucket in
     let n = bucket_number (settings_of b).skipped (bucket_count b) c.args.hash in
     let left : count_by (λ (e : g.row.E.Denot). bucket_number (settings_of b).skipped (bucket_count b) (hb (g.E.Keyed.key_of e)) == n) (entries b) ≡ length (list_of b i) =
-    ap (λ m. count_by (λ (e : g.row.E.Denot). bucket_number (settings_of b).skipped (bucket_count b) (hb (g.E.Keyed.key_of e)) == m) (entries b)) (sym c.in_ok-bucket.ensures.routed) ∙ count-listed (λ (e : g.row.E.Denot). hb (g.E.Keyed.key_of e)) b i c.list_facts.ensures.routed in
-    let short = c.list_len.ensures in
+    ap (λ m. count_by (λ (e : g.row.E.Denot). bucket_number (settings_of b).skipped (bucket_count b) (hb (g.E.Keyed.key_of e)) == m) (entries b)) (sym c.in_ok-bucket.ensures.routed) ∙ count-listed (λ (e : g.row.E.Denot). hb (g.E.Keyed.key_of e)) b i c.list_len.ensures.routed in
+    let short = c.list_len.ensures.len in
     let some : 0 < bucket_count b = omega (arith, c.in_ok-bucket.ensures.within) in
     let room : HasRoomAt hb g.E.Keyed.key_of b c.args.hash = (some, omega arith) in
     let settings = (rests-resizes a b m.rests).settings in
@@ -102,8 +102,8 @@ returns-clause-marks g c =
     let i = c.in_ok-bucket.bucket in
     let n = bucket_number (settings_of b).skipped (bucket_count b) c.args.hash in
     let left : count_by (λ (e : g.row.E.Denot). bucket_number (settings_of b).skipped (bucket_count b) (hb (g.E.Keyed.key_of e)) == n) (entries b) ≡ length (list_of b i) =
-    ap (λ m. count_by (λ (e : g.row.E.Denot). bucket_number (settings_of b).skipped (bucket_count b) (hb (g.E.Keyed.key_of e)) == m) (entries b)) (sym c.in_ok-bucket.ensures.routed) ∙ count-listed (λ (e : g.row.E.Denot). hb (g.E.Keyed.key_of e)) b i c.list_facts.ensures.routed in
-    let long = c.list_len.ensures in
+    ap (λ m. count_by (λ (e : g.row.E.Denot). bucket_number (settings_of b).skipped (bucket_count b) (hb (g.E.Keyed.key_of e)) == m) (entries b)) (sym c.in_ok-bucket.ensures.routed) ∙ count-listed (λ (e : g.row.E.Denot). hb (g.E.Keyed.key_of e)) b i c.list_len.ensures.routed in
+    let long = c.list_len.ensures.len in
     let some : 0 < bucket_count b = omega (arith, c.in_ok-bucket.ensures.within) in
     let settings = (rests-resizes a b m.rests).settings in
     let like = hash-same g.H.BuildHasher g.H.Hasher.Hasher g.E.Key.Hash.hash_input a b settings in

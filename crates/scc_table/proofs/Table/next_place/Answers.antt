@@ -6,7 +6,7 @@ pub overflow_add-place : goal.overflow_add-place
 overflow_add-place g c =
     let l = c.target_of-target.ensures.small in search rules
 
-pub returns : goal.returns
-returns g c =
+pub returns-clause-place : goal.returns-clause-place
+returns-clause-place g c =
     let z = c.target_of-target.ensures.index in
     along c.place_on.result (λ e. sym z ∙ e) (λ p h. record { within = h.within; index = h.index ∙ z }) c.place_on.ensures

@@ -1,13 +1,14 @@
-use Rattle.std.proofs.Common.{◌∙◌, arith}
+use Rattle.std.proofs.Common.{◌∙◌, List, map, sym, subst, arith}
+use Rattle.std.specs.List.{IsDistinct}
 use Rattle.scc_common.specs.Contents.{key_hash}
-use Rattle.scc_table.proofs.arrays.OneArray.{fields-alone, lists-alone, spilled-alone}
+use Rattle.scc_table.proofs.arrays.OneArray.{entries-alone, fields-alone, lists-alone, spilled-alone}
 use Rattle.scc_table.proofs.arrays.JoinedLists.{settings-together, refused-together, waiting-together}
 use Rattle.scc_table.proofs.Table.over.Goals as goal
 
 pub invariant_of-result : goal.invariant_of-result
 invariant_of-result g c =
     let hk = key_hash g.H.BuildHasher g.H.Hasher.Hasher g.E.Key.Hash.hash_input c.args.current in
-    rw (c.none.ensures, c.new.ensures.items) (fields-alone g.E.Key.PartialEq.eq g.E.Keyed.key_of hk c.args.current c.args.skipped 0 c.requires.skips c.requires.few_bits (omega (arith, c.overflow_len-overflow.ensures.value, c.overflow_len-overflow.ensures.most)) c.list_facts.ensures.unique)
+    rw (c.none.ensures, c.new.ensures.items) (fields-alone g.E.Key.PartialEq.eq g.E.Keyed.key_of hk c.args.current c.args.skipped 0 c.requires.skips c.requires.few_bits (omega (arith, c.allocator-alloc.ensures.few)) c.allocator-alloc.ensures.unique)
 
 pub returns-clause-lists : goal.returns-clause-lists
 returns-clause-lists g c = lists-alone _ c.args.current c.new.result.items c.none.result c.new.ensures.items
@@ -23,3 +24,7 @@ returns-clause-spilled g c = rw c.none.ensures (spilled-alone _ c.args.current c
 
 pub returns-clause-waiting : goal.returns-clause-waiting
 returns-clause-waiting g c = waiting-together _ c.args.current c.new.result.items c.none.result ∙ c.new.ensures.items
+
+pub returns-clause-unique : goal.returns-clause-unique
+returns-clause-unique g c =
+    subst (λ (es : List g.row.E.Denot). IsDistinct g.E.Key.PartialEq.eq (map g.E.Keyed.key_of es)) (sym (entries-alone _ c.args.current c.new.result.items c.none.result c.new.ensures.items)) c.allocator-alloc.ensures.unique

@@ -1,7 +1,7 @@
-use Rattle.std.proofs.Common.{ℕ, ◌-◌, ◌<◌, ◌≤◌, set, refl, ap, ◌∙◌, arith}
+use Rattle.std.proofs.Common.{ℕ, ◌-◌, ◌<◌, ◌≤◌, set, refl, ap, ◌∙◌, subst, arith}
 use Rattle.scc_array.specs.Shelves.{shelf_of}
 use Rattle.scc_array.specs.ShelfWrites.{shelf_write_at}
-use Rattle.scc_common.specs.Contents.{bucket_count, key_hash}
+use Rattle.scc_common.specs.Contents.{Contents, IsUniqueBy, bucket_count, key_hash}
 use Rattle.scc_common.specs.Hashing.{hash_of}
 use Rattle.scc_buckets.specs.Writes as writes
 use Rattle.scc_table.proofs.places.Searches.{near-not_waiting}
@@ -49,7 +49,7 @@ returns-then-self-eq0 g c =
     let x = c.parts_mut_at.ensures.parts in
     let there = near-got g.met.E.Key.Eq.laws hashes c.self.invariant c.self.view_is c.args.place c.requires near x.0 x.1 in (
       (refl, λ w. near-written g.met.E.Key.Eq.laws hashes c.self.invariant c.self.view_is c.args.place c.requires near g.E.Valued.with_value w (writes.with_write_at_spot g.E.Valued.with_value t.current c.args.place w) refl),
-      record { writes_back = tt; parts = (x.0, there, x.2, x.3) },
+      record { writes_back = tt; parts = (x.0, there, x.2, x.3); unique = subst (λ (z : Contents g.row.E.Denot g.row.H.Denot). IsUniqueBy g.E.Key.PartialEq.eq g.E.Keyed.key_of z) c.self.view_is c.self.invariant.unique },
     )
 
 pub parts_mut_at-requires-2-clause-bucket : goal.parts_mut_at-requires-2-clause-bucket
@@ -91,5 +91,5 @@ returns g c =
             (ap (key_hash g.H.BuildHasher g.H.Hasher.Hasher g.E.Key.Hash.hash_input t.current) (g.met.E.Valued.value_keeps_key x.0 w))
             (set t.draining.array (c.args.place.bucket - n) (shelf_write_at g.E.Valued.with_value (shelf_of t.draining.array (c.args.place.bucket - n)) c.args.place.slot w)) refl,
       ),
-      record { writes_back = tt; parts = (x.0, there, x.2, x.3) },
+      record { writes_back = tt; parts = (x.0, there, x.2, x.3); unique = subst (λ (z : Contents g.row.E.Denot g.row.H.Denot). IsUniqueBy g.E.Key.PartialEq.eq g.E.Keyed.key_of z) c.self.view_is c.self.invariant.unique },
     )

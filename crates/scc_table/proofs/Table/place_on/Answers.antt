@@ -35,7 +35,7 @@ returns-then-slot-list_len g c =
     let spot = spot-on_own now i b s below in
     let to = ap (λ m. spots.index_of_spot now (record { bucket = m; slot = s })) st.0 ∙ sym (ap (spots.index_of_spot now) spot) in
     let p : Place = record { bucket = b; slot = s } in
-    let near : s < length (list_of cur b) = omega (arith, c.list_len.ensures, c.if-slot-list_len.true) in
+    let near : s < length (list_of cur b) = omega (arith, c.list_len.ensures.len, c.if-slot-list_len.true) in
     let own = subst (λ d. StandsAt d (spots.index_of_spot d p) p) c.self.view_is (own-stands hash cur ws olds inv.arrays p below-c down near) in
     record { within = own.within; index = own.index ∙ to }
 
@@ -66,9 +66,9 @@ returns-then-bucket-count g c =
     let list : list_of now b ≡ list_of cur b = ap (λ d. list_of d b) (sym c.self.view_is) ∙ own-list hash cur ws olds inv.arrays b below-c down in
     let spot = spot-on_own now i b s below in
     let to = ap (λ m. spots.index_of_spot now (record { bucket = m; slot = s })) st.0 ∙ sym (ap (spots.index_of_spot now) spot) in
-    let end : s ≡ length (list_of now b) = let m = ap length list in let q : s ≤ length (list_of now b) = subst (λ k. s ≤ length (list_of now k)) (sym st.0) st.2 in omega (arith, c.list_len.ensures, c.if-slot-list_len.false) in
+    let end : s ≡ length (list_of now b) = let m = ap length list in let q : s ≤ length (list_of now b) = subst (λ k. s ≤ length (list_of now k)) (sym st.0) st.2 in omega (arith, c.list_len.ensures.len, c.if-slot-list_len.false) in
     let z : spots.index_of_spot now (record { bucket = b + 1; slot = 0 }) ≡ index_on now i b s = ap (λ m. spots.index_of_spot now (record { bucket = m; slot = 0 })) (add-one b) ∙ index-skip now b s below end ∙ to in
-    along c.place_past.result (λ e. sym z ∙ e) (λ p h. record { within = h.within; index = h.index ∙ z }) c.place_past.ensures
+    along c.place_past.result (λ e. sym z ∙ e) (λ p h. record { within = h.within; index = h.index ∙ z }) c.place_past.ensures.place
 
 pub old_place-requires-clause-waits : goal.old_place-requires-clause-waits
 old_place-requires-clause-waits g c =
@@ -132,4 +132,4 @@ returns g c =
     let to = sym (ap (spots.index_of_spot now) spot) in
     let r = rank_on now i j s in
     let z : spots.index_of_spot now (record { bucket = i + 1; slot = 0 }) ≡ index_on now i b s = ap (λ m. spots.index_of_spot now (record { bucket = m; slot = 0 })) (add-one i) ∙ index-skip now i r c.requires.target c.in_default.ensures ∙ to in
-    along c.place_past-2.result (λ e. sym z ∙ e) (λ p h. record { within = h.within; index = h.index ∙ z }) c.place_past-2.ensures
+    along c.place_past-2.result (λ e. sym z ∙ e) (λ p h. record { within = h.within; index = h.index ∙ z }) c.place_past-2.ensures.place

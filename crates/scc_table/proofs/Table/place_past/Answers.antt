@@ -20,8 +20,8 @@ loop-next-preserved g c =
     let z : spots.index_of_spot now (record { bucket = n + 1; slot = 0 }) ≡ spots.index_of_spot now (record { bucket = n; slot = 0 }) = ap (λ m. spots.index_of_spot now (record { bucket = m; slot = 0 })) (add-one n) ∙ index-skip now n 0 within (sym (ap length c.in_default.ensures)) in
     z ∙ c.loop-next.invariant
 
-pub returns : goal.returns
-returns g c =
+pub returns-clause-place : goal.returns-clause-place
+returns-clause-place g c =
     let now = c.args.self.now in
     let count = count-own c.self.invariant c.self.view_is in
     let p : Place = record { bucket = c.loop-next.next; slot = 0 } in

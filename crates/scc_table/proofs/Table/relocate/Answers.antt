@@ -1,16 +1,19 @@
 use Rattle.std.proofs.Common.{◌≡◌, ◌∙◌, ℕ, ◌+◌, ◌-◌, ◌<◌, false, [], length, set, refl, sym, ap, subst, arith, rules}
 use Rattle.std.specs.List.{count_by}
-use Rattle.scc_common.specs.Contents.{Contents, IsUniqueBy, key_hash, overflow_of}
+use Rattle.scc_common.specs.Contents.{Contents, IsUniqueBy, key_hash, overflow_of, waiting_of}
+use Rattle.scc_buckets.specs.Bounded.{IsListed}
 use Rattle.scc_buckets.specs.Tables.{overflow_in}
 use Rattle.scc_common.specs.Hashing.{hash_of}
-use Rattle.scc_table.specs.TwoArrays.{draining_of, together, IsTable, IsRelocated}
+use Rattle.scc_table.specs.TwoArrays.{draining_of, together, waits_at, IsTable, IsRelocated}
 use Rattle.scc_buckets.proofs.Bare.{all-bare}
 use Rattle.scc_table.proofs.arrays.OneArray.{bare-together, spilled-alone, spilled-together}
 use Rattle.scc_table.proofs.relocations.Fields.{others, last, bare-after, fields-after, fields-last, relocated-after, spilled-le}
 use Rattle.scc_table.proofs.relocations.Contents.{up-within, one-down}
 use Rattle.scc_table.proofs.arrays.SameParts.{unique-same}
 use Rattle.scc_table.proofs.arrays.Views.{spilled-seen}
-use Rattle.scc_table.proofs.arrays.OneBucket.{flag-up, flags-whole, list-coming, moved-within, old-multiples, old-sized, some-pending, target-within, unique-coming}
+use Rattle.scc_table.proofs.arrays.OneBucket.{flag-up, flags-whole, list-coming, moved-within, old-multiples, old-sized, routed-seen, some-pending, target-within, unique-coming}
+use Rattle.scc_table.proofs.relocations.ShortLists.{listed-later, settle-here}
+use Rattle.scc_table.proofs.relocations.Targets.{targets-after}
 use Rattle.scc_table.proofs.Table.relocate.Goals as goal
 
 pub move_target-requires-clause-target : goal.move_target-requires-clause-target
@@ -224,3 +227,37 @@ pub returns-in-Err-clause-unique : goal.returns-in-Err-clause-unique
 returns-in-Err-clause-unique g c =
     let unique = subst (λ (z : Contents g.row.E.Denot g.row.H.Denot). IsUniqueBy g.E.Key.PartialEq.eq g.E.Keyed.key_of z) c.self.view_is c.self.invariant.unique in
     subst (λ (z : Contents g.row.E.Denot g.row.H.Denot). IsUniqueBy g.E.Key.PartialEq.eq g.E.Keyed.key_of z) (sym (returns-in-Err-clause-err g c)) unique
+
+pub returns-then-self-eq0-clause-routed : goal.returns-then-self-eq0-clause-routed
+returns-then-self-eq0-clause-routed g c = routed-seen g.H.BuildHasher g.H.Hasher.Hasher g.E.Key.Hash.hash_input g.E.Keyed.key_of c.self.invariant c.self.view_is c.move_target.ensures.routed
+
+pub returns-else-self-eq0-clause-routed : goal.returns-else-self-eq0-clause-routed
+returns-else-self-eq0-clause-routed g c = routed-seen g.H.BuildHasher g.H.Hasher.Hasher g.E.Key.Hash.hash_input g.E.Keyed.key_of c.self.invariant c.self.view_is c.move_target.ensures.routed
+
+pub returns-in-Err-clause-routed : goal.returns-in-Err-clause-routed
+returns-in-Err-clause-routed g c = routed-seen g.H.BuildHasher g.H.Hasher.Hasher g.E.Key.Hash.hash_input g.E.Keyed.key_of c.self.invariant c.self.view_is c.move_target.ensures.routed
+
+pub returns-then-self-eq0-clause-listed : goal.returns-then-self-eq0-clause-listed
+returns-then-self-eq0-clause-listed g c = λ h.
+    let r = returns-then-self-eq0-clause-ok g c in
+    listed-later (λ s (e : g.row.E.Denot). hash_of g.H.BuildHasher g.H.Hasher.Hasher s.hasher (g.E.Key.Hash.hash_input (g.E.Keyed.key_of e))) c.args.self.now _ r.lists r.settings (returns-then-self-eq0-clause-bounded g c h.bounded (h.short c.args.bucket)) h
+
+pub returns-then-self-eq0-clause-not_waiting : goal.returns-then-self-eq0-clause-not_waiting
+returns-then-self-eq0-clause-not_waiting g c = ap (λ w. waits_at w c.args.bucket) (returns-then-self-eq0-clause-ok g c).waiting ∙ settle-here (waiting_of c.args.self.now) c.args.bucket
+
+pub returns-then-self-eq0-clause-targets : goal.returns-then-self-eq0-clause-targets
+returns-then-self-eq0-clause-targets g c = targets-after c.args.bucket c.args.self.now _ (returns-then-self-eq0-clause-ok g c)
+
+pub returns-else-self-eq0-clause-listed : goal.returns-else-self-eq0-clause-listed
+returns-else-self-eq0-clause-listed g c = λ h.
+    let r = returns-else-self-eq0-clause-ok g c in
+    listed-later (λ s (e : g.row.E.Denot). hash_of g.H.BuildHasher g.H.Hasher.Hasher s.hasher (g.E.Key.Hash.hash_input (g.E.Keyed.key_of e))) c.args.self.now _ r.lists r.settings (returns-else-self-eq0-clause-bounded g c h.bounded (h.short c.args.bucket)) h
+
+pub returns-else-self-eq0-clause-not_waiting : goal.returns-else-self-eq0-clause-not_waiting
+returns-else-self-eq0-clause-not_waiting g c = ap (λ w. waits_at w c.args.bucket) (returns-else-self-eq0-clause-ok g c).waiting ∙ settle-here (waiting_of c.args.self.now) c.args.bucket
+
+pub returns-else-self-eq0-clause-targets : goal.returns-else-self-eq0-clause-targets
+returns-else-self-eq0-clause-targets g c = targets-after c.args.bucket c.args.self.now _ (returns-else-self-eq0-clause-ok g c)
+
+pub returns-in-Err-clause-listed : goal.returns-in-Err-clause-listed
+returns-in-Err-clause-listed g c = λ h. subst (λ (z : Contents g.row.E.Denot g.row.H.Denot). IsListed (λ (e : g.row.E.Denot). key_hash g.H.BuildHasher g.H.Hasher.Hasher g.E.Key.Hash.hash_input z (g.E.Keyed.key_of e)) z) (sym (returns-in-Err-clause-err g c)) h

@@ -67,3 +67,9 @@ returns-clause-new g c =
     let far : bucket_count c.self.inside.current ≤ c.args.place.bucket = omega (arith, c.bucket_count-count.ensures.count) in
     let equal = c.requires.same c.replace_key_at-2.ensures.old.0 (far-got g.met.E.Key.Eq.laws hashes c.self.invariant c.self.view_is c.args.place c.requires.within far c.bucket_count-count.result c.bucket_count-count.ensures.count c.replace_key_at-2.ensures.old.0 c.replace_key_at-2.ensures.old.1) in
     far-written g.met.E.Key.Eq.laws hashes c.self.invariant c.self.view_is c.args.place c.requires.within far c.bucket_count-count.result c.bucket_count-count.ensures.count c.replace_key_at-2.ensures.old.0 c.replace_key_at-2.ensures.old.1 g.E.Valued.with_key c.args.key (ap (hash_of g.H.BuildHasher g.H.Hasher.Hasher (settings_of c.self.inside.current).hasher) (ap g.E.Key.Hash.hash_input (g.met.E.Valued.key_is c.replace_key_at-2.ensures.old.0 c.args.key) ∙ g.met.E.Key.Hash.respects_eq c.args.key (g.E.Keyed.key_of c.replace_key_at-2.ensures.old.0) equal)) c.replace_key_at-2.new.self c.replace_key_at-2.ensures.new
+
+pub returns-then-place-count-clause-unique : goal.returns-then-place-count-clause-unique
+returns-then-place-count-clause-unique g c = (invariant_of-self g c).unique
+
+pub returns-clause-unique : goal.returns-clause-unique
+returns-clause-unique g c = (invariant_of-self-2 g c).unique

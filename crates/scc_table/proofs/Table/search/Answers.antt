@@ -6,6 +6,7 @@ use Rattle.scc_buckets.proofs.Standing.{along}
 use Rattle.scc_table.specs.Places.{IsFoundAt}
 use Rattle.scc_table.proofs.arrays.JoinedLists.{pending-together}
 use Rattle.scc_table.proofs.arrays.CurrentParts.{settings-seen}
+use Rattle.scc_table.proofs.arrays.OneBucket.{routed-seen}
 use Rattle.scc_table.proofs.places.Searches.{entries-not_waiting, found-not_waiting}
 use Rattle.scc_table.proofs.Table.search.Goals as goal
 
@@ -46,3 +47,6 @@ search_both-place-requires-clause-pending g c =
     let hash = λ (e : g.row.E.Denot). hk (g.E.Keyed.key_of e) in
     let counted = ap pending_of (sym c.self.view_is) ∙ pending-together hash cur ws olds in
     omega (arith, counted, inv.counted, c.if-self-eq0.false)
+
+pub returns-then-self-eq0-clause-routed : goal.returns-then-self-eq0-clause-routed
+returns-then-self-eq0-clause-routed g c = routed-seen g.H.BuildHasher g.H.Hasher.Hasher g.E.Key.Hash.hash_input g.E.Keyed.key_of c.self.invariant c.self.view_is c.search.ensures.routed

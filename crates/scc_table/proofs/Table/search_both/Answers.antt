@@ -9,7 +9,7 @@ use Rattle.scc_table.specs.Places.{IsFoundAt}
 use Rattle.scc_table.specs.TwoArrays.{waits_at}
 use Rattle.scc_table.proofs.arrays.CurrentParts.{settings-seen}
 use Rattle.scc_table.proofs.places.Searches.{found-own, missed-own, found-old, missed-old}
-use Rattle.scc_table.proofs.arrays.OneBucket.{bucket-within, flag-read, index-within, source-within, source-number}
+use Rattle.scc_table.proofs.arrays.OneBucket.{bucket-within, flag-read, index-within, routed-seen, source-within, source-number}
 use Rattle.scc_table.proofs.Table.search_both.Goals as goal
 
 pub index-requires : goal.index-requires
@@ -203,3 +203,15 @@ returns-in-None-search_place-clause-missed g c =
     let down : waits_at ws i ≡ false = sym here ∙ c.if-index.false in
     let n = c.in-None-search_place.ensures in
     λ _. ap (λ d. position passes (entries d)) (sym c.self.view_is) ∙ missed-own hash cur ws olds inv.arrays c.bucket_at-bucket.ensures.routed passes c.args.hash i same at within down (ap (λ k. position passes (list_of cur k)) at ∙ n.list)
+
+pub returns-in-Some-clause-routed : goal.returns-in-Some-clause-routed
+returns-in-Some-clause-routed g c = routed-seen g.H.BuildHasher g.H.Hasher.Hasher g.E.Key.Hash.hash_input g.E.Keyed.key_of c.self.invariant c.self.view_is c.bucket_count-count.ensures.routed
+
+pub returns-in-None-clause-routed : goal.returns-in-None-clause-routed
+returns-in-None-clause-routed g c = routed-seen g.H.BuildHasher g.H.Hasher.Hasher g.E.Key.Hash.hash_input g.E.Keyed.key_of c.self.invariant c.self.view_is c.bucket_count-count.ensures.routed
+
+pub returns-in-Some-search_place-clause-routed : goal.returns-in-Some-search_place-clause-routed
+returns-in-Some-search_place-clause-routed g c = routed-seen g.H.BuildHasher g.H.Hasher.Hasher g.E.Key.Hash.hash_input g.E.Keyed.key_of c.self.invariant c.self.view_is c.bucket_count-count.ensures.routed
+
+pub returns-in-None-search_place-clause-routed : goal.returns-in-None-search_place-clause-routed
+returns-in-None-search_place-clause-routed g c = routed-seen g.H.BuildHasher g.H.Hasher.Hasher g.E.Key.Hash.hash_input g.E.Keyed.key_of c.self.invariant c.self.view_is c.bucket_count-count.ensures.routed

@@ -87,4 +87,4 @@ returns-clause-missed g c =
     let passes : g.row.E.Denot → Bool = λ e. g.E.Key.PartialEq.eq c.args.key.now (key e) in
     let hashed = c.requires.hashed ∙ ap (λ s. hash_of g.H.BuildHasher g.H.Hasher.Hasher s.hasher (g.E.Key.Hash.hash_input c.args.key.now)) (sym set) in
     let same_hash : HashOf passes hash c.args.hash = record { same = λ e w. sym (hashed ∙ ap (hash_of g.H.BuildHasher g.H.Hasher.Hasher (settings_of cur).hasher) (g.met.E.Key.Hash.respects_eq c.args.key.now (key e) w)) } in
-    λ none. subst (λ (z : Contents g.row.E.Denot g.row.H.Denot). position passes (entries z) ≡ None) view (missed-own hash cur ws olds inv.arrays c.list_facts.ensures.routed passes c.args.hash i same_hash routed within down (sym c.search_in.ensures.place ∙ none))
+    λ none. subst (λ (z : Contents g.row.E.Denot g.row.H.Denot). position passes (entries z) ≡ None) view (missed-own hash cur ws olds inv.arrays c.search_in.ensures.routed passes c.args.hash i same_hash routed within down (sym c.search_in.ensures.place ∙ none))

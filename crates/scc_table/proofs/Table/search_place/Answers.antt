@@ -5,6 +5,7 @@ use Rattle.scc_common.specs.Routing.{bucket_number}
 use Rattle.scc_buckets.proofs.FindingLemmas.{HashOf}
 use Rattle.scc_buckets.proofs.Standing.{along}
 use Rattle.scc_table.specs.Places.{spot_of}
+use Rattle.scc_table.proofs.resizes.Installation.{number-within}
 use Rattle.scc_table.proofs.places.ListFinds.{listed-found, unlisted-missed}
 use Rattle.scc_table.proofs.Table.search_place.Goals as goal
 
@@ -15,11 +16,9 @@ returns g c =
     let passes : g.row.E.Denot → Bool = λ e. g.E.Key.PartialEq.eq c.args.key.now (g.E.Keyed.key_of e) in
     let i : ℕ = bucket_number (settings_of now).skipped (bucket_count now) c.args.hash in
     let same : HashOf passes hash c.args.hash = record { same = λ e w. sym (c.requires ∙ ap (hash_of g.H.BuildHasher g.H.Hasher.Hasher (settings_of now).hasher) (g.met.E.Key.Hash.respects_eq c.args.key.now (g.E.Keyed.key_of e) w)) } in
-    let value = c.bucket_at.ensures.value in
     along c.search.result (unlisted-missed now passes i)
     (λ q f.
     let b = f.within.bucket in
-    let there = c.bucket_at.ensures.within (omega arith) in
-    let l : i < bucket_count now = omega arith in
-    listed-found now hash c.bucket_at.ensures.routed passes c.args.hash i same refl (spot_of now q) f l)
+    let l : i < bucket_count now = number-within (settings_of now).skipped (bucket_count now) c.args.hash (omega arith) in
+    listed-found now hash c.search.ensures.routed passes c.args.hash i same refl (spot_of now q) f l)
     c.search.ensures.place

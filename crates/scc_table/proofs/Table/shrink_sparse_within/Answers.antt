@@ -7,7 +7,7 @@ use Rattle.scc_buckets.specs.Pour.{IsRegrouped, destined_for}
 use Rattle.scc_common.specs.Sizes.{IsBucketCount, IsSmaller}
 use Rattle.scc_buckets.proofs.Powers.{max-array, smaller-to, smaller-only}
 use Rattle.scc_table.proofs.arrays.SameParts.{count-same}
-use Rattle.scc_table.proofs.relocations.ShortLists.{listed-anew, listed-later, listed-resized, routed-before, short-listed}
+use Rattle.scc_table.proofs.relocations.ShortLists.{listed-anew, listed-later, listed-resized, short-listed}
 use Rattle.scc_table.proofs.resizes.Attempts.{spreads-all, spreads-less}
 use Rattle.scc_table.proofs.Table.shrink_sparse_within.Goals as goal
 
@@ -59,9 +59,8 @@ returns-in-Ok-clause-listed g c =
       bounded = c.resize_to.ensures.bounded c.requires.listed.bounded (short-listed hash a c.requires.listed);
     } in
     let settings = c.resize_to.ensures.settings in
-    let routed = routed-before (λ s (e : g.row.E.Denot). hash_of g.H.BuildHasher g.H.Hasher.Hasher s.hasher (g.E.Key.Hash.hash_input (g.E.Keyed.key_of e))) a d settings c.list_facts.ensures.routed in
     listed-anew (λ s (e : g.row.E.Denot). hash_of g.H.BuildHasher g.H.Hasher.Hasher s.hasher (g.E.Key.Hash.hash_input (g.E.Keyed.key_of e))) a d settings
-    (listed-resized hash a d resized routed (subst (λ m. (i : ℕ) → i < m → length (destined_for hash (settings_of a).skipped m i (entries a)) ≤ 32) (sym size) short))
+    (listed-resized hash a d resized (subst (λ m. (i : ℕ) → i < m → length (destined_for hash (settings_of a).skipped m i (entries a)) ≤ 32) (sym size) short))
 
 pub returns-in-Ok-clause-spreads : goal.returns-in-Ok-clause-spreads
 returns-in-Ok-clause-spreads g c =

@@ -67,7 +67,7 @@ returns-then-place-count-clause-small g c =
     let p = c.args.place in
     let at = own-here c.self.invariant c.args.place c.self.view_is c.requires (omega (arith, c.bucket_count-count.ensures.count)) in
     let l = slot-below cur p at.0 in
-    omega (arith, c.len.ensures.len, c.len.ensures.most, c.bucket_count-count.ensures.most, c.bucket_count-count.ensures.count, inv.few)
+    omega (arith, c.bucket_count-count.ensures.few, c.bucket_count-count.ensures.most, c.bucket_count-count.ensures.count, inv.few)
 
 pub entry_at-entry-requires-clause-bucket : goal.entry_at-entry-requires-clause-bucket
 entry_at-entry-requires-clause-bucket g c =

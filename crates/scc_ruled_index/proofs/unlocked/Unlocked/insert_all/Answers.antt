@@ -11,11 +11,11 @@ loop-at-init g c = let start = reached-first c.args.from.now c.first_place-at.re
 pub loop-at-smaller : goal.loop-at-smaller
 loop-at-smaller g c =
     let within : IsPlace c.args.from.now c.in-Some.place = rw c.in-Some.is at c.loop-at.invariant.within in
-    let next = reached-at c.args.from.now (suc (index_of c.args.from.now c.in-Some.place)) c.next_place-at.result (rw c.look-index.ensures.same at c.next_place-at.ensures) in
+    let next = reached-at c.args.from.now (suc (index_of c.args.from.now c.in-Some.place)) c.next_place-at.result (rw c.look-index.ensures.same at c.next_place-at.ensures.place) in
     rw c.in-Some.is (nearer c.args.from.now c.in-Some.place c.next_place-at.result within next.0)
 
 pub loop-at-preserved : goal.loop-at-preserved
-loop-at-preserved g c = let next = reached-at c.args.from.now (suc (index_of c.args.from.now c.in-Some.place)) c.next_place-at.result (rw c.look-index.ensures.same at c.next_place-at.ensures) in record { within = next.1; hasher = search rules }
+loop-at-preserved g c = let next = reached-at c.args.from.now (suc (index_of c.args.from.now c.in-Some.place)) c.next_place-at.result (rw c.look-index.ensures.same at c.next_place-at.ensures.place) in record { within = next.1; hasher = search rules }
 
 pub next_place-at-requires : goal.next_place-at-requires
 next_place-at-requires g c =

@@ -16,7 +16,7 @@ returns-in_err-_entry-in-Vacant-clause-vacant c =
 pub returns-in_err-_entry-in-Vacant-clause-refused : goal.returns-in_err-_entry-in-Vacant-clause-refused
 returns-in_err-_entry-in-Vacant-clause-refused c =
     let at = rw c.self.view_is at c.in-Vacant.ensures.entry in
-    let f : (hash : ℕ → ℕ) (d : Contents (ℕ × Route) (BuildHasherDefault FoldHasher)) → RestsRefused nat_eq hash c.in-Vacant.free.guard.now c.in-Vacant.free.key.key d → IsAsBefore c.args.self.now d = rw at.key (offer_refused c.args.self.now c.args.destination c.args.route c.in-Vacant.free at) in
+    let f : (hash : ℕ → ℕ) (d : Contents (ℕ × Route) (BuildHasherDefault FoldHasher)) → RestsRefused nat_eq hash c.in-Vacant.free.guard.now c.in-Vacant.free.key d → IsAsBefore c.args.self.now d = rw at.key (offer_refused c.args.self.now c.args.destination c.args.route c.in-Vacant.free at) in
     search (rules, f)
 
 pub returns-clause-offered : goal.returns-clause-offered

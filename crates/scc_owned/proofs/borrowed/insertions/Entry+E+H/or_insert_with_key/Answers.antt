@@ -15,7 +15,7 @@ returns-in-Occupied g c = (
       full = tt;
       growth = rw c.in-Occupied.is tt;
       relocates = rw c.in-Occupied.is (ap (λ m. waiting_of m.now) c.at.ensures.guard);
-      unique = rw c.at.ensures.guard c.at.ensures.unique;
+      unique = c.at.result.unique;
     };
     kept = tt;
   },

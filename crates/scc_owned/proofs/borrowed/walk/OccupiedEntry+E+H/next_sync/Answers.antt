@@ -5,7 +5,7 @@ use Rattle.scc_owned.proofs.EntrySteps.{next-at}
 use Rattle.scc_owned.proofs.borrowed.walk.OccupiedEntry+E+H.next_sync.Goals as goal
 
 pub returns-in-Some : goal.returns-in-Some
-returns-in-Some g c = ((same-name c.at.ensures.guard, λ w. refl, tt), record { next = next-at c.args.self c.at.result _ _ c.at.ensures.guard c.at.ensures.place refl refl c.in-Some.ensures.index; last = tt; kept = tt })
+returns-in-Some g c = ((same-name c.at.ensures.guard, λ w. refl, tt), record { next = next-at c.args.self c.at.result _ _ c.at.ensures.guard c.at.ensures.place refl refl c.in-Some.ensures.place.index; last = tt; kept = tt })
 
 pub returns-in-None : goal.returns-in-None
-returns-in-None g c = ((refl, λ _. tt, refl), record { next = tt; last = back-none _ _ c.in-None.ensures; kept = tt })
+returns-in-None g c = ((refl, λ _. tt, refl), record { next = tt; last = back-none _ _ c.in-None.ensures.place; kept = tt })

@@ -17,14 +17,14 @@ pub loop-at-smaller : goal.loop-at-smaller
 loop-at-smaller g c =
     let m = c.args.self.now in
     let within = rw c.in-Some.is at c.loop-at.invariant.within in
-    let next = reached-at m (suc (index_of m c.in-Some.place)) c.next_place-at.result c.next_place-at.ensures in
+    let next = reached-at m (suc (index_of m c.in-Some.place)) c.next_place-at.result c.next_place-at.ensures.place in
     rw c.in-Some.is (nearer m c.in-Some.place c.next_place-at.result within next.0)
 
 pub loop-at-preserved : goal.loop-at-preserved
 loop-at-preserved g c =
     let m = c.args.self.now in
-    let got = rw c.self.view_is at c.entry_at.ensures in
-    let next = reached-at m (suc (index_of m c.in-Some.place)) c.next_place-at.result c.next_place-at.ensures in
+    let got = rw c.self.view_is at c.entry_at.ensures.entry in
+    let next = reached-at m (suc (index_of m c.in-Some.place)) c.next_place-at.result c.next_place-at.ensures.place in
     let listed = rw c.in-Some.is at c.loop-at.invariant.listed in
     record {
       within = next.1;

@@ -30,7 +30,7 @@ returns-then-p-clause-place g c =
 pub loop-at-smaller : goal.loop-at-smaller
 loop-at-smaller g c =
     let within : IsPlace c.args.self.now c.in-Some.place = rw c.in-Some.is at c.loop-at.invariant.within in
-    let next = reached-at c.args.self.now (suc (index_of c.args.self.now c.in-Some.place)) c.next_place-at.result c.next_place-at.ensures in
+    let next = reached-at c.args.self.now (suc (index_of c.args.self.now c.in-Some.place)) c.next_place-at.result c.next_place-at.ensures.place in
     rw c.in-Some.is (nearer c.args.self.now c.in-Some.place c.next_place-at.result within next.0)
 
 pub loop-at-preserved : goal.loop-at-preserved
@@ -39,7 +39,7 @@ loop-at-preserved g c =
     let declines = rw c.in-Some.is at c.loop-at.invariant.declines in
     let callable = rw c.in-Some.is at c.loop-at.invariant.callable in
     let here = c.pair_at.ensures in
-    let next = reached-at m (suc (index_of m c.in-Some.place)) c.next_place-at.result c.next_place-at.ensures in
+    let next = reached-at m (suc (index_of m c.in-Some.place)) c.next_place-at.result c.next_place-at.ensures.place in
     record {
       callable = rw next.0 (turn-others _ _ (rw (drop-here (entries m) (index_of m c.in-Some.place) _ here) at callable) record { key = _; value = _; shows = refl; called = c.if-p.ensures });
       within = next.1;

@@ -22,7 +22,7 @@ f-requires g c =
 pub loop-at-smaller-then-f : goal.loop-at-smaller-then-f
 loop-at-smaller-then-f g c =
     let within = rw c.in-Some.is at c.loop-at.invariant.within in
-    let next = reached-at c.loop-at.self (suc (index_of c.loop-at.self c.in-Some.place)) c.next_place-at.result c.next_place-at.ensures in
+    let next = reached-at c.loop-at.self (suc (index_of c.loop-at.self c.in-Some.place)) c.next_place-at.result c.next_place-at.ensures.place in
     rw c.in-Some.is (nearer c.loop-at.self c.in-Some.place c.next_place-at.result within next.0)
 
 pub loop-at-preserved-then-f : goal.loop-at-preserved-then-f
@@ -30,7 +30,7 @@ loop-at-preserved-then-f g c =
     let m = c.loop-at.self in
     let within = rw c.in-Some.is at c.loop-at.invariant.within in
     let got = c.pair_at.ensures in
-    let next = reached-at m (suc (index_of m c.in-Some.place)) c.next_place-at.result c.next_place-at.ensures in
+    let next = reached-at m (suc (index_of m c.in-Some.place)) c.next_place-at.result c.next_place-at.ensures.place in
     record {
       callable = turn-kept m c.in-Some.place _ within got (rw c.in-Some.is at c.loop-at.invariant.callable) (_, record { key = _; value = _; shows = refl; called = c.if-f.ensures }) c.next_place-at.result next.0;
       within = next.1;

@@ -11,7 +11,7 @@ returns-in-Occupied g c = record {
   full = tt;
   growth = rw c.in-Occupied.is tt;
   relocates = rw (c.in-Occupied.is, c.at.ensures.guard) refl;
-  unique = rw c.at.ensures.guard c.at.ensures.unique;
+  unique = c.at.result.unique;
 }
 
 pub returns-in-Vacant : goal.returns-in-Vacant

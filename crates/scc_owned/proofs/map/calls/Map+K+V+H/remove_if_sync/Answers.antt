@@ -1,11 +1,11 @@
-use Rattle.std.proofs.Common.{◌≡◌, Some, refl, sym, ap, ◌∙◌, rules, true, false, ◌+◌}
+use Rattle.std.proofs.Common.{◌≡◌, Some, refl, ap, rules, true, false, ◌+◌}
 use Rattle.scc_common.specs.Contents.{entries}
-use Rattle.scc_common.specs.Pairs.{find}
 use Rattle.scc_table.specs.Placed.{IsPlace-with_write_at}
 use Rattle.scc_common.specs.Pairs.{with_pair_value}
 use Rattle.scc_owned.proofs.CallerLemmas.{finds-without}
+use Rattle.scc_owned.proofs.Found.{found-here, found-pair, found-taken, found-written}
 use Rattle.scc_buckets.proofs.Lookups.{find-position_none}
-use Rattle.scc_table.proofs.places.Entries.{place-found, value-written, value-unique, written-taken_out, written-pair, noted-write}
+use Rattle.scc_table.proofs.places.Entries.{noted-write}
 use Rattle.scc_buckets.proofs.Resizes.{shrinks-after}
 use Rattle.scc_table.proofs.relocations.AfterWrites.{removed-after, waiting-write}
 use Rattle.scc_owned.proofs.map.calls.Map+K+V+H.remove_if_sync.Goals as goal
@@ -25,109 +25,61 @@ returns-in_err-place-clause-array g c =
 
 pub returns-then-f-clause-step : goal.returns-then-f-clause-step
 returns-then-f-clause-step g c =
-    let laws = g.met.K.Eq.laws in
-    let m = c.args.self.now in
-    let found = rw c.self.view_is at c.in_ok-place.ensures.place in
-    let unique = rw c.self.view_is at c.in_ok-place.ensures.unique in
-    let f = place-found g.K.PartialEq.eq m c.args.k.now c.in_ok-place.place found in
+    let at = rw c.self.view_is at c.in_ok-place.ensures in
     let v = c.value_mut_at.ensures.value in
-    let same : Some f.0 ≡ Some v.0 = sym f.1 ∙ v.1 in
-    let first : f.0 ≡ v.0 = cc in
-    let here : find g.K.PartialEq.eq (entries m) c.args.k.now ≡ Some v.0 = f.2 ∙ same in
-    rw here (
+    rw (found-here g.K.PartialEq.eq c.args.self.now c.args.k.now c.in_ok-place.place at.place v.0 v.1) (
       true,
       c.f.new.arg2,
       record { shown = c.value_mut_at.result; shows = v.2; left = _; met = c.if-f.ensures; leaves = refl },
       (
-        ap Some (written-pair laws m c.in_ok-place.place found.within c.args.k.now unique f c.f.new.arg2 c.remove_at.result c.remove_at.ensures.pair ∙ ap (λ q. (q.0, c.f.new.arg2)) first),
-        written-taken_out laws m c.in_ok-place.place found.within c.args.k.now unique f c.f.new.arg2 c.remove_at.new.self c.remove_at.ensures.others,
+        ap Some (found-pair g.K.PartialEq.eq _ _ _ at.place g.met.K.Eq.laws at.unique v.0 v.1 c.f.new.arg2 c.remove_at.result c.remove_at.ensures.pair),
+        found-taken g.K.PartialEq.eq _ _ _ at.place g.met.K.Eq.laws at.unique c.f.new.arg2 c.remove_at.new.self c.remove_at.ensures.others,
       ),
     )
 
 pub returns-then-f-clause-finds : goal.returns-then-f-clause-finds
 returns-then-f-clause-finds g c =
-    let laws = g.met.K.Eq.laws in
-    let m = c.args.self.now in
-    let found = rw c.self.view_is at c.in_ok-place.ensures.place in
-    let unique = rw c.self.view_is at c.in_ok-place.ensures.unique in
-    let f = place-found g.K.PartialEq.eq m c.args.k.now c.in_ok-place.place found in
-    finds-without laws m c.remove_at.new.self c.args.k.now (written-taken_out laws m c.in_ok-place.place found.within c.args.k.now unique f c.f.new.arg2 c.remove_at.new.self c.remove_at.ensures.others) unique c.remove_at.ensures.unique
+    let at = rw c.self.view_is at c.in_ok-place.ensures in
+    finds-without g.met.K.Eq.laws _ _ _ (found-taken g.K.PartialEq.eq _ _ _ at.place g.met.K.Eq.laws at.unique c.f.new.arg2 c.remove_at.new.self c.remove_at.ensures.others) at.unique c.remove_at.ensures.unique
 
 pub returns-then-f-clause-array : goal.returns-then-f-clause-array
 returns-then-f-clause-array g c =
+    let at = rw c.self.view_is at c.in_ok-place.ensures in
+    let m = c.args.self.now in
+    let x = found-written g.K.PartialEq.eq m c.args.k.now c.in_ok-place.place at.place g.met.K.Eq.laws at.unique c.f.new.arg2 in
     record {
-      smaller = (
-          let laws = g.met.K.Eq.laws in
-          let m = c.args.self.now in
-          let found = rw c.self.view_is at c.in_ok-place.ensures.place in
-          let unique = rw c.self.view_is at c.in_ok-place.ensures.unique in
-          let f = place-found g.K.PartialEq.eq m c.args.k.now c.in_ok-place.place found in
-          let x = value-written laws m c.in_ok-place.place found.within c.args.k.now unique f c.f.new.arg2 in
-          rw (x.buckets, x.settings) at c.remove_at.ensures.array.smaller);
-      due = (
-          let laws = g.met.K.Eq.laws in
-          let m = c.args.self.now in
-          let found = rw c.self.view_is at c.in_ok-place.ensures.place in
-          let unique = rw c.self.view_is at c.in_ok-place.ensures.unique in
-          let f = place-found g.K.PartialEq.eq m c.args.k.now c.in_ok-place.place found in
-          λ _. shrinks-after m _ c.remove_at.new.self (value-written laws m c.in_ok-place.place found.within c.args.k.now unique f c.f.new.arg2).buckets (noted-write with_pair_value m c.in_ok-place.place c.f.new.arg2) (c.remove_at.ensures.array.due tt));
+      smaller = rw (x.buckets, x.settings) at c.remove_at.ensures.array.smaller;
+      due = λ _. shrinks-after m _ c.remove_at.new.self x.buckets (noted-write with_pair_value m c.in_ok-place.place c.f.new.arg2) (c.remove_at.ensures.array.due tt);
       noted = (search rules);
-      relocates = (
-          let laws = g.met.K.Eq.laws in
-          let m = c.args.self.now in
-          let found = rw c.self.view_is at c.in_ok-place.ensures.place in
-          let unique = rw c.self.view_is at c.in_ok-place.ensures.unique in
-          let f = place-found g.K.PartialEq.eq m c.args.k.now c.in_ok-place.place found in
-          let x = value-written laws m c.in_ok-place.place found.within c.args.k.now unique f c.f.new.arg2 in
-          λ _. removed-after m _ c.remove_at.new.self x.buckets (ap (λ s. s.asked + s.reserved) x.settings) (waiting-write with_pair_value m c.in_ok-place.place c.f.new.arg2) (c.remove_at.ensures.array.relocates tt));
+      relocates = λ _. removed-after m _ c.remove_at.new.self x.buckets (ap (λ s. s.asked + s.reserved) x.settings) (waiting-write with_pair_value m c.in_ok-place.place c.f.new.arg2) (c.remove_at.ensures.array.relocates tt);
       waiting = (search rules);
     }
 
 pub returns-else-f-clause-step : goal.returns-else-f-clause-step
 returns-else-f-clause-step g c =
-    let laws = g.met.K.Eq.laws in
-    let m = c.args.self.now in
-    let found = rw c.self.view_is at c.in_ok-place.ensures.place in
-    let unique = rw c.self.view_is at c.in_ok-place.ensures.unique in
-    let f = place-found g.K.PartialEq.eq m c.args.k.now c.in_ok-place.place found in
+    let at = rw c.self.view_is at c.in_ok-place.ensures in
     let v = c.value_mut_at.ensures.value in
-    let here : find g.K.PartialEq.eq (entries m) c.args.k.now ≡ Some v.0 = f.2 ∙ sym f.1 ∙ v.1 in
-    rw here (false, c.f.new.arg2, record { shown = c.value_mut_at.result; shows = v.2; left = _; met = c.if-f.ensures; leaves = refl }, (refl, value-written laws m c.in_ok-place.place found.within c.args.k.now unique f c.f.new.arg2))
+    rw (found-here g.K.PartialEq.eq c.args.self.now c.args.k.now c.in_ok-place.place at.place v.0 v.1) (false, c.f.new.arg2, record { shown = c.value_mut_at.result; shows = v.2; left = _; met = c.if-f.ensures; leaves = refl }, (refl, found-written g.K.PartialEq.eq _ _ _ at.place g.met.K.Eq.laws at.unique c.f.new.arg2))
 
 pub returns-else-f-clause-unique : goal.returns-else-f-clause-unique
-returns-else-f-clause-unique g c =
-    let laws = g.met.K.Eq.laws in
-    let m = c.args.self.now in
-    let found = rw c.self.view_is at c.in_ok-place.ensures.place in
-    let unique = rw c.self.view_is at c.in_ok-place.ensures.unique in
-    let f = place-found g.K.PartialEq.eq m c.args.k.now c.in_ok-place.place found in
-    value-unique laws m c.in_ok-place.place found.within c.args.k.now unique f c.f.new.arg2
+returns-else-f-clause-unique g c = c.value_mut_at.ensures.unique c.f.new.arg2
 
 pub returns-else-f-clause-array : goal.returns-else-f-clause-array
 returns-else-f-clause-array g c =
+    let at = rw c.self.view_is at c.in_ok-place.ensures in
     record {
-      smaller = (
-          let laws = g.met.K.Eq.laws in
-          let m = c.args.self.now in
-          let found = rw c.self.view_is at c.in_ok-place.ensures.place in
-          let unique = rw c.self.view_is at c.in_ok-place.ensures.unique in
-          let f = place-found g.K.PartialEq.eq m c.args.k.now c.in_ok-place.place found in
-          λ n. absurd (n (value-written laws m c.in_ok-place.place found.within c.args.k.now unique f c.f.new.arg2).buckets));
+      smaller = λ n. absurd (n (found-written g.K.PartialEq.eq c.args.self.now c.args.k.now c.in_ok-place.place at.place g.met.K.Eq.laws at.unique c.f.new.arg2).buckets);
       due = (search rules);
-      noted = (λ _. noted-write with_pair_value c.args.self.now c.in_ok-place.place c.f.new.arg2);
+      noted = λ _. noted-write with_pair_value c.args.self.now c.in_ok-place.place c.f.new.arg2;
       relocates = (search rules);
-      waiting = (λ _. waiting-write with_pair_value c.args.self.now c.in_ok-place.place c.f.new.arg2);
+      waiting = λ _. waiting-write with_pair_value c.args.self.now c.in_ok-place.place c.f.new.arg2;
     }
 
 pub f-requires : goal.f-requires
 f-requires g c =
-    let laws = g.met.K.Eq.laws in
-    let m = c.args.self.now in
-    let found = rw c.self.view_is at c.in_ok-place.ensures.place in
-    let unique = rw c.self.view_is at c.in_ok-place.ensures.unique in
-    let f = place-found g.K.PartialEq.eq m c.args.k.now c.in_ok-place.place found in
+    let at = rw c.self.view_is at c.in_ok-place.ensures in
     let v = c.value_mut_at.ensures.value in
-    c.requires v.0 (f.2 ∙ sym f.1 ∙ v.1) c.value_mut_at.result v.2
+    c.requires v.0 (found-here g.K.PartialEq.eq c.args.self.now c.args.k.now c.in_ok-place.place at.place v.0 v.1) c.value_mut_at.result v.2
 
 pub remove_at-requires : goal.remove_at-requires
 remove_at-requires g c =

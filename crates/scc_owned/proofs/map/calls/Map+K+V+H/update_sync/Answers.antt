@@ -6,37 +6,19 @@ pub update-requires-clause-takes : goal.update-requires-clause-takes
 update-requires-clause-takes g c = λ e a b found key value. c.requires a b (rw (← c.self.view_is) (found ∙ ap Some (sym (ap (λ x. (x, b.now)) key ∙ ap (λ x. (e.0, x)) value))))
 
 pub returns-clause-step : goal.returns-clause-step
-returns-clause-step g c =
-    let h = rw c.self.view_is at c.update.ensures.step in
-    let u = rw c.self.view_is at c.update.ensures.unique in
-    updated-step g.U.FnOnce c.args.u g.met.K.Eq.laws c.args.self.now c.update.new.self c.args.k.now u c.update.result h
+returns-clause-step g c = rw (← c.self.view_is) (updated-step g.U.FnOnce c.args.u g.met.K.Eq.laws c.self.inside.table c.update.new.self c.args.k.now c.update.ensures.unique c.update.result c.update.ensures.step)
 
 pub returns-clause-finds : goal.returns-clause-finds
-returns-clause-finds g c =
-    let h = rw c.self.view_is at c.update.ensures.step in
-    let u = rw c.self.view_is at c.update.ensures.unique in
-    updated-finds g.U.FnOnce c.args.u g.met.K.Eq.laws c.args.self.now c.update.new.self c.args.k.now u c.update.result h
+returns-clause-finds g c = rw (← c.self.view_is) (updated-finds g.U.FnOnce c.args.u g.met.K.Eq.laws c.self.inside.table c.update.new.self c.args.k.now c.update.ensures.unique c.update.result c.update.ensures.step)
 
 pub returns-clause-missing : goal.returns-clause-missing
-returns-clause-missing g c =
-    let h = rw c.self.view_is at c.update.ensures.step in
-    let u = rw c.self.view_is at c.update.ensures.unique in
-    updated-missing g.U.FnOnce c.args.u g.met.K.Eq.laws c.args.self.now c.update.new.self c.args.k.now u c.update.result h
+returns-clause-missing g c = rw (← c.self.view_is) (updated-missing g.U.FnOnce c.args.u g.met.K.Eq.laws c.self.inside.table c.update.new.self c.args.k.now c.update.ensures.unique c.update.result c.update.ensures.step)
 
 pub returns-clause-noted : goal.returns-clause-noted
-returns-clause-noted g c =
-    let h = rw c.self.view_is at c.update.ensures.step in
-    let u = rw c.self.view_is at c.update.ensures.unique in
-    updated-noted g.U.FnOnce c.args.u g.met.K.Eq.laws c.args.self.now c.update.new.self c.args.k.now u c.update.result h
+returns-clause-noted g c = rw (← c.self.view_is) (updated-noted g.U.FnOnce c.args.u g.met.K.Eq.laws c.self.inside.table c.update.new.self c.args.k.now c.update.ensures.unique c.update.result c.update.ensures.step)
 
 pub returns-clause-waiting : goal.returns-clause-waiting
-returns-clause-waiting g c =
-    let h = rw c.self.view_is at c.update.ensures.step in
-    let u = rw c.self.view_is at c.update.ensures.unique in
-    updated-waiting g.U.FnOnce c.args.u g.met.K.Eq.laws c.args.self.now c.update.new.self c.args.k.now u c.update.result h
+returns-clause-waiting g c = rw (← c.self.view_is) (updated-waiting g.U.FnOnce c.args.u g.met.K.Eq.laws c.self.inside.table c.update.new.self c.args.k.now c.update.ensures.unique c.update.result c.update.ensures.step)
 
 pub returns-clause-unique : goal.returns-clause-unique
-returns-clause-unique g c =
-    let h = rw c.self.view_is at c.update.ensures.step in
-    let u = rw c.self.view_is at c.update.ensures.unique in
-    updated-unique g.U.FnOnce c.args.u g.met.K.Eq.laws c.args.self.now c.update.new.self c.args.k.now u c.update.result h
+returns-clause-unique g c = updated-unique g.U.FnOnce c.args.u g.met.K.Eq.laws c.self.inside.table c.update.new.self c.args.k.now c.update.ensures.unique c.update.result c.update.ensures.step

@@ -1,10 +1,11 @@
-use Rattle.std.proofs.Common.{◌≡◌, Some, sym, ap, ◌∙◌, rules, subst}
+use Rattle.std.proofs.Common.{Some, sym, ap, ◌∙◌, rules, subst}
 use Rattle.scc_common.specs.Contents.{entries}
-use Rattle.scc_common.specs.Pairs.{find, with_pair_value}
+use Rattle.scc_common.specs.Pairs.{with_pair_value}
 use Rattle.scc_owned.proofs.CallerLemmas.{finds-rearranged, finds-set_value}
+use Rattle.scc_owned.proofs.Found.{found-equal, found-here, found-written}
 use Rattle.scc_buckets.proofs.Lookups.{find-position_none, finds-added}
 use Rattle.scc_buckets.proofs.KeyWrites.{grows-same}
-use Rattle.scc_table.proofs.places.Entries.{noted-write, place-found, value-written, value-unique}
+use Rattle.scc_table.proofs.places.Entries.{noted-write}
 use Rattle.scc_table.specs.Relocations.{RelocatesTwo}
 use Rattle.scc_table.proofs.relocations.AfterWrites.{waiting-write}
 use Rattle.scc_owned.proofs.map.calls.Map+K+V+H.upsert_sync.Goals as goal
@@ -12,70 +13,40 @@ use Rattle.scc_owned.proofs.map.calls.Map+K+V+H.upsert_sync.Goals.{in-Ok, in-Err
 
 pub returns-in-Some-clause-step : goal.returns-in-Some-clause-step
 returns-in-Some-clause-step g c =
-    (
-    let laws = g.met.K.Eq.laws in
-    let m = c.args.self.now in
-    let found = rw c.self.view_is at c.in-Some.ensures.place in
-    let unique = rw c.self.view_is at c.in-Some.ensures.unique in
-    let f = place-found g.K.PartialEq.eq m c.args.k c.in-Some.place found in
+    let at = rw c.self.view_is at c.in-Some.ensures in
     let v = c.value_mut_at.ensures.value in
-    let here : find g.K.PartialEq.eq (entries m) c.args.k ≡ Some (v.0.0, c.replace.result) = f.2 ∙ sym f.1 ∙ v.1 ∙ ap (λ x. Some (v.0.0, x)) (sym (c.replace.ensures.value ∙ v.2)) in
-    (v.0.0, here, rw c.replace.ensures.after (value-written laws m c.in-Some.place found.within c.args.k unique f c.args.v)))
+    let here = found-here g.K.PartialEq.eq c.args.self.now c.args.k c.in-Some.place at.place v.0 v.1 ∙ ap (λ x. Some (v.0.0, x)) (sym (c.replace.ensures.value ∙ v.2)) in
+    (v.0.0, here, rw c.replace.ensures.after (found-written g.K.PartialEq.eq _ _ _ at.place g.met.K.Eq.laws at.unique c.args.v))
 
 pub returns-in-Some-clause-finds : goal.returns-in-Some-clause-finds
 returns-in-Some-clause-finds g c =
-    (
-    let laws = g.met.K.Eq.laws in
-    let m = c.args.self.now in
-    let found = rw c.self.view_is at c.in-Some.ensures.place in
-    let unique = rw c.self.view_is at c.in-Some.ensures.unique in
-    let f = place-found g.K.PartialEq.eq m c.args.k c.in-Some.place found in
-    (f.0.0, f.3, finds-set_value laws m _ c.args.k f.0 c.args.v f.2 (rw c.replace.ensures.after (value-written laws m c.in-Some.place found.within c.args.k unique f c.args.v))))
+    let at = rw c.self.view_is at c.in-Some.ensures in
+    let v = c.value_mut_at.ensures.value in (
+      v.0.0,
+      found-equal g.K.PartialEq.eq _ _ _ at.place v.0 v.1,
+      finds-set_value g.met.K.Eq.laws _ _ _ v.0 c.args.v (found-here g.K.PartialEq.eq _ _ _ at.place v.0 v.1) (rw c.replace.ensures.after (found-written g.K.PartialEq.eq _ _ _ at.place g.met.K.Eq.laws at.unique c.args.v)),
+    )
 
 pub returns-in-Some-clause-unique : goal.returns-in-Some-clause-unique
-returns-in-Some-clause-unique g c =
-    (
-    let laws = g.met.K.Eq.laws in
-    let m = c.args.self.now in
-    let found = rw c.self.view_is at c.in-Some.ensures.place in
-    let unique = rw c.self.view_is at c.in-Some.ensures.unique in
-    let f = place-found g.K.PartialEq.eq m c.args.k c.in-Some.place found in
-    value-unique laws m c.in-Some.place found.within c.args.k unique f c.replace.new.dest)
+returns-in-Some-clause-unique g c = c.value_mut_at.ensures.unique c.replace.new.dest
 
 pub returns-in-Some-clause-array : goal.returns-in-Some-clause-array
 returns-in-Some-clause-array g c =
+    let m = c.args.self.now in
+    let at = rw c.self.view_is at c.in-Some.ensures in
+    let v = c.value_mut_at.ensures.value in
+    let here = found-here g.K.PartialEq.eq m c.args.k c.in-Some.place at.place v.0 v.1 in
+    let same = (found-written g.K.PartialEq.eq m c.args.k c.in-Some.place at.place g.met.K.Eq.laws at.unique c.replace.new.dest).buckets in
     record {
-      growth = (
-          let laws = g.met.K.Eq.laws in
-          let m = c.args.self.now in
-          let found = rw c.self.view_is at c.in-Some.ensures.place in
-          let unique = rw c.self.view_is at c.in-Some.ensures.unique in
-          let f = place-found g.K.PartialEq.eq m c.args.k c.in-Some.place found in
-          grows-same m _ (value-written laws m c.in-Some.place found.within c.args.k unique f c.replace.new.dest).buckets);
-      kept = (
-          let f = place-found g.K.PartialEq.eq c.args.self.now c.args.k c.in-Some.place (rw c.self.view_is at c.in-Some.ensures.place) in
-          λ none. let here = rw f.2 at none in cc);
-      once = (
-          let laws = g.met.K.Eq.laws in
-          let m = c.args.self.now in
-          let found = rw c.self.view_is at c.in-Some.ensures.place in
-          let unique = rw c.self.view_is at c.in-Some.ensures.unique in
-          let f = place-found g.K.PartialEq.eq m c.args.k c.in-Some.place found in
-          λ _. (value-written laws m c.in-Some.place found.within c.args.k unique f c.replace.new.dest).buckets);
-      due = (
-          let f = place-found g.K.PartialEq.eq c.args.self.now c.args.k c.in-Some.place (rw c.self.view_is at c.in-Some.ensures.place) in
-          λ none. let here = rw f.2 at none in cc);
-      first = (
-          let f = place-found g.K.PartialEq.eq c.args.self.now c.args.k c.in-Some.place (rw c.self.view_is at c.in-Some.ensures.place) in
-          λ none. let here = rw f.2 at none in cc);
-      noted = (λ _. noted-write with_pair_value c.args.self.now c.in-Some.place c.replace.new.dest);
-      relocates = (
-          let f = place-found g.K.PartialEq.eq c.args.self.now c.args.k c.in-Some.place (rw c.self.view_is at c.in-Some.ensures.place) in
-          λ none. let here = rw f.2 at none in cc);
-      two = (
-          let f = place-found g.K.PartialEq.eq c.args.self.now c.args.k c.in-Some.place (rw c.self.view_is at c.in-Some.ensures.place) in
-          λ none. let here = rw f.2 at none in cc);
-      waiting = (λ _. waiting-write with_pair_value c.args.self.now c.in-Some.place c.replace.new.dest);
+      growth = grows-same m _ same;
+      kept = λ none. let found = rw here at none in cc;
+      once = λ _. same;
+      due = λ none. let found = rw here at none in cc;
+      first = λ none. let found = rw here at none in cc;
+      noted = λ _. noted-write with_pair_value m c.in-Some.place c.replace.new.dest;
+      relocates = λ none. let found = rw here at none in cc;
+      two = λ none. let found = rw here at none in cc;
+      waiting = λ _. waiting-write with_pair_value m c.in-Some.place c.replace.new.dest;
     }
 
 pub returns-after-insert_new-clause-step : goal.returns-after-insert_new-clause-step

@@ -9,7 +9,7 @@ use Rattle.scc_table.proofs.walk.pairs.Table+SharedVersion+K+V+H.walk_versions.G
 
 pub loop-at-init : goal.loop-at-init
 loop-at-init g c =
-    let start = reached-first c.args.self.now c.first_place-at.result c.first_place-at.ensures in
+    let start = reached-first c.args.self.now c.first_place-at.result c.first_place-at.ensures.place in
     record { callable = rw start.0 c.requires; within = start.1; walked = rw start.0 ended }
 
 pub f-requires : goal.f-requires
@@ -29,7 +29,7 @@ returns-then-not-f g c =
 pub loop-at-smaller : goal.loop-at-smaller
 loop-at-smaller g c =
     let within : IsPlace c.args.self.now c.in-Some.place = rw c.in-Some.is at c.loop-at.invariant.within in
-    let next = reached-at c.args.self.now (suc (index_of c.args.self.now c.in-Some.place)) c.next_place-at.result c.next_place-at.ensures in
+    let next = reached-at c.args.self.now (suc (index_of c.args.self.now c.in-Some.place)) c.next_place-at.result c.next_place-at.ensures.place in
     rw c.in-Some.is (nearer c.args.self.now c.in-Some.place c.next_place-at.result within next.0)
 
 pub loop-at-preserved : goal.loop-at-preserved
@@ -38,7 +38,7 @@ loop-at-preserved g c =
     let walked = rw c.in-Some.is at c.loop-at.invariant.walked in
     let callable = rw c.in-Some.is at c.loop-at.invariant.callable in
     let here = c.version_at-version.ensures in
-    let next = reached-at m (suc (index_of m c.in-Some.place)) c.next_place-at.result c.next_place-at.ensures in
+    let next = reached-at m (suc (index_of m c.in-Some.place)) c.next_place-at.result c.next_place-at.ensures.place in
     record {
       callable = rw next.0 (turn-others _ _ (rw (drop-here (entries m) (index_of m c.in-Some.place) _ here) at callable) record { key = _; value = _; shows = (let s : (c.key.result.now, c.value.result.now) ≡ c.version_at-version.result.now = rw (c.key.ensures, c.value.ensures) refl in s); called = c.if-not-f.ensures });
       within = next.1;

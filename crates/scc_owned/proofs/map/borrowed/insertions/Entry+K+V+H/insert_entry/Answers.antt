@@ -4,14 +4,14 @@ use Rattle.scc_owned.proofs.MapEntries.{within-after, waiting-put, written-after
 use Rattle.scc_owned.proofs.map.borrowed.insertions.Entry+K+V+H.insert_entry.Goals as goal
 
 pub invariant_of-self : goal.invariant_of-self
-invariant_of-self g c = record { within = within-after c.in-Occupied.entry c.in-Occupied.entry.guard.now c.write_at-old.new.self c.args.value refl c.write_at-old.ensures.new }
+invariant_of-self g c = record { within = within-after c.in-Occupied.entry c.in-Occupied.entry.guard.now c.write_at-old.new.self c.args.value refl c.write_at-old.ensures.new; unique = c.write_at-old.ensures.unique }
 
 pub returns-in-Occupied : goal.returns-in-Occupied
 returns-in-Occupied g c = (
   (refl, λ w. refl, tt),
   record {
     inserts = record {
-      entry = rw c.in-Occupied.is (written-after c.in-Occupied.entry c.in-Occupied.entry.guard.now c.write_at-old.new.self c.args.value refl c.write_at-old.ensures.new _);
+      entry = rw c.in-Occupied.is (written-after c.in-Occupied.entry c.in-Occupied.entry.guard.now c.write_at-old.new.self c.args.value refl c.write_at-old.ensures.new _ _);
       refused = tt;
       vacant = tt;
       full = tt;

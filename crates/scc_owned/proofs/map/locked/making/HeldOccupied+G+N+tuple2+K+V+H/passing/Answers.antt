@@ -4,8 +4,8 @@ use Rattle.scc_owned.proofs.map.locked.making.HeldOccupied+G+N+tuple2+K+V+H.pass
 pub first_passing-requires : goal.first_passing-requires
 first_passing-requires g c = rw c.look.ensures c.requires
 
-pub at-requires : goal.at-requires
-at-requires g c = let at = rw c.look.ensures at c.in-Some.ensures.place in at.0
+pub at-requires-clause-within : goal.at-requires-clause-within
+at-requires-clause-within g c = let at = rw c.look.ensures at c.in-Some.ensures.place in at.0
 
 pub returns-in-Some-clause-here : goal.returns-in-Some-clause-here
 returns-in-Some-clause-here g c = stands-in c.at.result _ c.at.ensures.guard

@@ -14,7 +14,7 @@ use Rattle.scc_owned.proofs.map.walk.take.Map+K+V+H.take_walk.Goals as goal
 
 pub loop-at-init : goal.loop-at-init
 loop-at-init g c =
-    let start = first-spot c.args.self.now c.first_place-at.result (rw c.self.view_is at c.first_place-at.ensures) in
+    let start = first-spot c.args.self.now c.first_place-at.result (rw c.self.view_is at c.first_place-at.ensures.place) in
     record { callable = rw start.0 c.requires; within = start.1; buckets = refl; settings = refl; noted = refl; waiting = refl; room = omega arith; calls = ([], sym (append-nil _), λ stay next r last run. rw start.0 (rw start.0 at run)) }
 
 pub returns-in-Err-clause-step : goal.returns-in-Err-clause-step
@@ -42,7 +42,7 @@ loop-at-smaller-in-Keep g c =
     let x = c.in-Keep.ensures in
     let within = rw c.in-Some.is at c.loop-at.invariant.within in
     let v = visited c.loop-at.self (spot_of c.loop-at.self c.in-Some.place) x.0 x.1 c.visit.new.self within x.2 x.4 in
-    let next = kept-spot c.loop-at.self c.in-Some.place x.0 x.1 c.visit.new.self x.4 v c.next_place-at.result c.next_place-at.ensures in
+    let next = kept-spot c.loop-at.self c.in-Some.place x.0 x.1 c.visit.new.self x.4 v c.next_place-at.result c.next_place-at.ensures.place in
     rw c.in-Some.is (kept-nearer c.loop-at.self (spot_of c.loop-at.self c.in-Some.place) x.0 x.1 c.visit.new.self v (walk_spot c.visit.new.self c.next_place-at.result) within next.0)
 
 pub loop-at-preserved-in-Keep : goal.loop-at-preserved-in-Keep
@@ -51,7 +51,7 @@ loop-at-preserved-in-Keep g c =
     let within = rw c.in-Some.is at c.loop-at.invariant.within in
     let calls = rw c.in-Some.is at c.loop-at.invariant.calls in
     let v = visited c.loop-at.self (spot_of c.loop-at.self c.in-Some.place) x.0 x.1 c.visit.new.self within x.2 x.4 in
-    let next = kept-spot c.loop-at.self c.in-Some.place x.0 x.1 c.visit.new.self x.4 v c.next_place-at.result c.next_place-at.ensures in
+    let next = kept-spot c.loop-at.self c.in-Some.place x.0 x.1 c.visit.new.self x.4 v c.next_place-at.result c.next_place-at.ensures.place in
     record {
       callable = turn-kept c.loop-at.self (spot_of c.loop-at.self c.in-Some.place) x.0 x.1 c.visit.new.self v (rw c.in-Some.is at c.loop-at.invariant.callable) (_, x.1, tt, x.3) (walk_spot c.visit.new.self c.next_place-at.result) next.0;
       within = next.1;

@@ -1,6 +1,6 @@
 use Rattle.std.proofs.Common.{◌≡◌, rules, sym, ap, ◌∙◌, subst, true, false, [], append-nil}
 use Rattle.scc_array.proofs.Gets.{get-is}
-use Rattle.scc_array.proofs.columns.Columns.find.Goals as goal
+use Rattle.scc_array.proofs.columns.Columns.search.Goals as goal
 use Rattle.scc_array.specs.Windows.{window_of}
 use Rattle.scc_array.proofs.Search.{hits_next, missed_slots, found_slot, none_is}
 

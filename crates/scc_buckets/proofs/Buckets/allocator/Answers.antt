@@ -1,13 +1,11 @@
 use Rattle.scc_common.specs.Hashing.{hash_of}
-use Rattle.scc_buckets.proofs.Bounds.{listed-view, routed-view}
-use Rattle.scc_buckets.proofs.Views.{entries-view, settings-view}
-use Rattle.scc_buckets.proofs.Buckets.list_facts.Goals as goal
+use Rattle.scc_buckets.proofs.Bounds.{routed-view}
+use Rattle.scc_buckets.proofs.Views.{entries-view, settings-view, spilled-view}
+use Rattle.scc_buckets.proofs.Buckets.allocator.Goals as goal
 
-pub returns-clause-listed : goal.returns-clause-listed
-returns-clause-listed g c =
-    λ bounded.
-    rw (settings-view c.self.inside.buckets _ c.args.self.now c.self.view_is)
-    (listed-view (λ e. hash_of g.H.BuildHasher g.H.Hasher.Hasher c.self.inside.hasher (g.E.Key.Hash.hash_input (g.E.Keyed.key_of e))) _ _ c.self.inside.buckets _ c.args.self.now c.self.view_is c.self.invariant.table bounded)
+pub returns-clause-few : goal.returns-clause-few
+returns-clause-few g c =
+    rw (spilled-view c.self.inside.buckets _ c.args.self.now c.self.view_is, ← c.self.invariant.table.spilled) c.self.invariant.table.few
 
 pub returns-clause-unique : goal.returns-clause-unique
 returns-clause-unique g c = rw (entries-view c.self.inside.buckets _ c.args.self.now c.self.view_is) c.self.invariant.unique

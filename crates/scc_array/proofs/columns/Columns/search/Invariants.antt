@@ -1,6 +1,6 @@
 use Rattle.std.proofs.Common.{◌≡◌, ◌<◌, ℕ, length}
 use Rattle.std.specs.Int.{bit_at}
-use Rattle.scc_array.proofs.columns.Columns.find.Given as goal
+use Rattle.scc_array.proofs.columns.Columns.search.Given as goal
 use Rattle.scc_array.specs.Windows.{window_of}
 use Rattle.scc_array.proofs.Search.{HitsLeft}
 
