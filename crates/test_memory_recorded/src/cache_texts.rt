@@ -139,10 +139,12 @@ impl Trial<Names> for Puts {
     fn run<L: Ledger, M: Site<Shared<Zero>>, R: AllocGlobal + Abort + Print + Wait>(
         rt: &R,
         refusal: &mut Refusal,
-        recorded: Recorded<Names, L, M>,
-        passes: Vec<Pass<Names, L>>,
+        opened: &mut Option<(Recorded<Names, L, M>, Vec<Pass<Names, L>>)>,
     ) {
-        for mut pass in passes {
+        let Some((recorded, handed)) = opened.take() else {
+            return expect(rt, false);
+        };
+        for mut pass in handed {
             for key in 0..33 {
                 expect_put(rt, refusal, &recorded, &mut pass, key);
             }

@@ -152,10 +152,12 @@ where
     fn run<L: Ledger, M: Site<C::Hasher>, R: AllocGlobal + Abort + Print + Wait>(
         rt: &R,
         refusal: &mut Refusal,
-        recorded: Recorded<C, L, M>,
-        passes: Vec<Pass<C, L>>,
+        opened: &mut Option<(Recorded<C, L, M>, Vec<Pass<C, L>>)>,
     ) {
-        let mut passes = passes;
+        let Some((recorded, handed)) = opened.take() else {
+            return expect(rt, false);
+        };
+        let mut passes = handed;
         for pass in passes.as_mut_slice() {
             call_all(rt, refusal, &recorded, pass);
         }

@@ -17,12 +17,12 @@ pub(crate) trait Trial<C: Calls + Drop> {
     /// Returns the hasher that the container is made with.
     fn hasher(hasher: Shared<Zero>) -> C::Hasher;
 
-    /// Tries the container with its only pass.
+    /// Takes the container with its only pass, and tries it. A trait's method can't be proved if it is handed such a
+    /// container by value.
     fn run<L: Ledger, M: Site<C::Hasher>, R: AllocGlobal + Abort + Print + Wait>(
         rt: &R,
         refusal: &mut Refusal,
-        recorded: Recorded<C, L, M>,
-        passes: Vec<Pass<C, L>>,
+        opened: &mut Option<(Recorded<C, L, M>, Vec<Pass<C, L>>)>,
     );
 }
 
@@ -63,8 +63,8 @@ where
     requires stripes { IsStripes stripes }
 {
     match Recorded::<C, L, M>::open(rt.alloc(), setup, stripes, 1, receipts, records) {
-        Ok((recorded, passes)) => {
-            T::run(rt, refusal, recorded, passes);
+        Ok(opened) => {
+            T::run(rt, refusal, &mut Some(opened));
             true
         }
         Err(_) => false,

@@ -175,10 +175,12 @@ impl Trial<Names> for ThreeCalls {
     fn run<L: Ledger, M: Site<Shared<Zero>>, R: AllocGlobal + Abort + Print + Wait>(
         rt: &R,
         refusal: &mut Refusal,
-        recorded: Recorded<Names, L, M>,
-        passes: Vec<Pass<Names, L>>,
+        opened: &mut Option<(Recorded<Names, L, M>, Vec<Pass<Names, L>>)>,
     ) {
-        let mut passes = passes;
+        let Some((recorded, handed)) = opened.take() else {
+            return expect(rt, false);
+        };
+        let mut passes = handed;
         for pass in passes.as_mut_slice() {
             for number in 0..3 {
                 expect_answer(rt, refusal, &recorded, pass, number);

@@ -82,10 +82,12 @@ impl Trial<Map> for Insertion {
     fn run<L: Ledger, M: Site<Shared<Zero>>, R: AllocGlobal + Abort + Print + Wait>(
         rt: &R,
         refusal: &mut Refusal,
-        recorded: Recorded<Map, L, M>,
-        passes: Vec<Pass<Map, L>>,
+        opened: &mut Option<(Recorded<Map, L, M>, Vec<Pass<Map, L>>)>,
     ) {
-        let mut passes = passes;
+        let Some((recorded, handed)) = opened.take() else {
+            return expect(rt, false);
+        };
+        let mut passes = handed;
         let mut what = What::Finish;
         for pass in passes.as_mut_slice() {
             if insert(rt, refusal, &recorded, pass) {
