@@ -5,11 +5,12 @@ ghost use Rattle.scc_recorded.specs.Setups.{request_of};
 
 use crate::finished::finish_as_plain;
 use crate::kinds::{Cache, Index, Map, Set};
-use crate::turns::{Turns, all_turns, callers_of, passes_of};
+use crate::turns::{all_turns, callers_of, passes_of};
 use scc_calls::Calls;
 use scc_common::{CloneOwner, Shared};
 use scc_recorded::{Pass, Recorded, Setup, Site};
 use scc_script::same::Same;
+use scc_workers::{Open, run};
 use std::alloc::{AllocError, Global};
 use std::marker::Brand;
 use std::sync::ledger::{Blank, Ledger};
@@ -45,87 +46,161 @@ where
     }
 }
 
-/// Lets eight workers call a container. Returns the number of call records if all went as in one thread.
-fn work_on<
-    C: Turns,
+/// Lets eight workers call a map. Returns the number of call records if all went as in one thread.
+fn work_on_map<
     L: Ledger + Send + Sync,
-    M: Site<C::Hasher> + Send + Sync,
+    M: Site<Shared<Same>> + Send + Sync,
     R: Threads + Wait + Sync,
 >(
     rt: &R,
     alloc: Global,
-    hasher: C::Hasher,
+    hasher: Shared<Same>,
     receipts: Blank,
     records: Blank,
 ) -> Result<Option<usize>, AllocError>
-where
-    C::Hasher: CloneOwner + Drop,
     requires receipts { (receipts.name ≡ L.name) × (receipts.parts ≡ L.parts) × (receipts.parts ≡ 8) }
     requires records { (records.name ≡ M.name) × (records.parts ≡ M.parts) × (records.parts ≡ 1) }
     requires site { (M.chosen ≡ Some (request_of 0 128 hasher 1)) × (M.all ≡ 1) }
 {
-    let (recorded, handed) = opened::<C, L, M>(alloc, hasher, receipts, records)?;
-    match worked(rt, alloc, &recorded, handed)? {
-        Some(passes) => finish_as_plain(alloc, recorded, passes),
-        None => Ok(None),
+    let lists = all_turns::<Map>(alloc)?;
+    let (recorded, handed) = opened::<Map, L, M>(alloc, hasher, receipts, records)?;
+    let mut callers = callers_of(rt, alloc, &recorded, handed, lists.as_slice())?;
+    let ended = run(rt, alloc, callers.as_mut_slice(), &Open).is_ok();
+    match passes_of(alloc, callers)? {
+        Some(passes) if ended => finish_as_plain(alloc, recorded, passes),
+        _ => Ok(None),
     }
 }
 
-/// Lets the workers of a kind make their calls. Returns their passes if each reply on their own keys was that of a
-/// single thread.
-fn worked<
-    C: Turns,
+fn of_map<R: Threads + Wait + Sync>(rt: &R, alloc: Global) -> Result<bool, AllocError> {
+    let records = work_on_map::<Brand, Brand, _>(
+        rt,
+        alloc,
+        shared(alloc)?,
+        Blank::new(8),
+        Blank::new(1),
+    )?;
+    Ok(records == Some(1600))
+}
+
+/// Lets eight workers call a set. Returns the number of call records if all went as in one thread.
+fn work_on_set<
     L: Ledger + Send + Sync,
-    M: Site<C::Hasher> + Send + Sync,
+    M: Site<Shared<Same>> + Send + Sync,
     R: Threads + Wait + Sync,
 >(
     rt: &R,
     alloc: Global,
-    recorded: &Recorded<C, L, M>,
-    handed: Vec<Pass<C, L>>,
-) -> Result<Option<Vec<Pass<C, L>>>, AllocError> {
-    let lists = all_turns::<C>(alloc)?;
-    let mut callers = callers_of(rt, alloc, recorded, handed, lists.as_slice())?;
-    let ended = C::work(rt, alloc, callers.as_mut_slice());
-    let passes = passes_of(alloc, callers)?;
-    Ok(if ended { passes } else { None })
+    hasher: Shared<Same>,
+    receipts: Blank,
+    records: Blank,
+) -> Result<Option<usize>, AllocError>
+    requires receipts { (receipts.name ≡ L.name) × (receipts.parts ≡ L.parts) × (receipts.parts ≡ 8) }
+    requires records { (records.name ≡ M.name) × (records.parts ≡ M.parts) × (records.parts ≡ 1) }
+    requires site { (M.chosen ≡ Some (request_of 0 128 hasher 1)) × (M.all ≡ 1) }
+{
+    let lists = all_turns::<Set>(alloc)?;
+    let (recorded, handed) = opened::<Set, L, M>(alloc, hasher, receipts, records)?;
+    let mut callers = callers_of(rt, alloc, &recorded, handed, lists.as_slice())?;
+    let ended = run(rt, alloc, callers.as_mut_slice(), &Open).is_ok();
+    match passes_of(alloc, callers)? {
+        Some(passes) if ended => finish_as_plain(alloc, recorded, passes),
+        _ => Ok(None),
+    }
 }
 
-/// Returns whether the workers of a kind made all their calls, and all went as in one thread.
-fn holds<C: Turns, R: Threads + Wait + Sync>(
-    rt: &R,
-    alloc: Global,
-    hasher: C::Hasher,
-) -> Result<bool, AllocError>
-where
-    C::Hasher: CloneOwner + Drop,
-{
-    let records = work_on::<C, Brand, Brand, R>(rt, alloc, hasher, Blank::new(8), Blank::new(1))?;
+fn of_set<R: Threads + Wait + Sync>(rt: &R, alloc: Global) -> Result<bool, AllocError> {
+    let records = work_on_set::<Brand, Brand, _>(
+        rt,
+        alloc,
+        shared(alloc)?,
+        Blank::new(8),
+        Blank::new(1),
+    )?;
     Ok(records == Some(1600))
 }
 
-/// Prints a line for a kind. Returns its status.
-fn run_crew<C: Turns, R: Threads + Wait + Sync + AllocGlobal + Print>(
+/// Lets eight workers call an index. Returns the number of call records if all went as in one thread.
+fn work_on_index<
+    L: Ledger + Send + Sync,
+    M: Site<Shared<Same>> + Send + Sync,
+    R: Threads + Wait + Sync,
+>(
     rt: &R,
-    name: &str,
-    hasher: Result<C::Hasher, AllocError>,
-) -> u8
-where
-    C::Hasher: CloneOwner + Drop,
+    alloc: Global,
+    hasher: Shared<Same>,
+    receipts: Blank,
+    records: Blank,
+) -> Result<Option<usize>, AllocError>
+    requires receipts { (receipts.name ≡ L.name) × (receipts.parts ≡ L.parts) × (receipts.parts ≡ 8) }
+    requires records { (records.name ≡ M.name) × (records.parts ≡ M.parts) × (records.parts ≡ 1) }
+    requires site { (M.chosen ≡ Some (request_of 0 128 hasher 1)) × (M.all ≡ 1) }
 {
-    let outcome = match hasher {
-        Ok(hasher) => holds::<C, R>(rt, rt.alloc(), hasher),
-        Err(refused) => Err(refused),
-    };
-    say(rt, name, "eight workers on one stripe", outcome)
+    let lists = all_turns::<Index>(alloc)?;
+    let (recorded, handed) = opened::<Index, L, M>(alloc, hasher, receipts, records)?;
+    let mut callers = callers_of(rt, alloc, &recorded, handed, lists.as_slice())?;
+    let ended = run(rt, alloc, callers.as_mut_slice(), &Open).is_ok();
+    match passes_of(alloc, callers)? {
+        Some(passes) if ended => finish_as_plain(alloc, recorded, passes),
+        _ => Ok(None),
+    }
+}
+
+fn of_index<R: Threads + Wait + Sync>(rt: &R, alloc: Global) -> Result<bool, AllocError> {
+    let records = work_on_index::<Brand, Brand, _>(
+        rt,
+        alloc,
+        shared(alloc)?,
+        Blank::new(8),
+        Blank::new(1),
+    )?;
+    Ok(records == Some(1600))
+}
+
+/// Lets eight workers call a cache. Returns the number of call records if all went as in one thread.
+fn work_on_cache<
+    L: Ledger + Send + Sync,
+    M: Site<Shared<Same>> + Send + Sync,
+    R: Threads + Wait + Sync,
+>(
+    rt: &R,
+    alloc: Global,
+    hasher: Shared<Same>,
+    receipts: Blank,
+    records: Blank,
+) -> Result<Option<usize>, AllocError>
+    requires receipts { (receipts.name ≡ L.name) × (receipts.parts ≡ L.parts) × (receipts.parts ≡ 8) }
+    requires records { (records.name ≡ M.name) × (records.parts ≡ M.parts) × (records.parts ≡ 1) }
+    requires site { (M.chosen ≡ Some (request_of 0 128 hasher 1)) × (M.all ≡ 1) }
+{
+    let lists = all_turns::<Cache>(alloc)?;
+    let (recorded, handed) = opened::<Cache, L, M>(alloc, hasher, receipts, records)?;
+    let mut callers = callers_of(rt, alloc, &recorded, handed, lists.as_slice())?;
+    let ended = run(rt, alloc, callers.as_mut_slice(), &Open).is_ok();
+    match passes_of(alloc, callers)? {
+        Some(passes) if ended => finish_as_plain(alloc, recorded, passes),
+        _ => Ok(None),
+    }
+}
+
+fn of_cache<R: Threads + Wait + Sync>(rt: &R, alloc: Global) -> Result<bool, AllocError> {
+    let records = work_on_cache::<Brand, Brand, _>(
+        rt,
+        alloc,
+        shared(alloc)?,
+        Blank::new(8),
+        Blank::new(1),
+    )?;
+    Ok(records == Some(1600))
 }
 
 /// Prints a line for each kind. Returns the worst status.
 pub(crate) fn run_crews<R: Threads + Wait + Sync + AllocGlobal + Print>(rt: &R) -> u8 {
     let alloc = rt.alloc();
-    let map = run_crew::<Map, R>(rt, "recorded map", shared(alloc));
-    let set = run_crew::<Set, R>(rt, "recorded set", shared(alloc));
-    let index = run_crew::<Index, R>(rt, "recorded index", shared(alloc));
-    let cache = run_crew::<Cache, R>(rt, "recorded cache", shared(alloc));
+    let what = "eight workers on one stripe";
+    let map = say(rt, "recorded map", what, of_map(rt, alloc));
+    let set = say(rt, "recorded set", what, of_set(rt, alloc));
+    let index = say(rt, "recorded index", what, of_index(rt, alloc));
+    let cache = say(rt, "recorded cache", what, of_cache(rt, alloc));
     map.max(set).max(index).max(cache)
 }

@@ -2,16 +2,11 @@
 //! are on keys that all workers share.
 
 use crate::plain::Plain;
-use crate::turns::{Caller, Turns};
+use crate::turns::Turns;
 use scc_calls::{CacheCall, IndexCall, MapCall, Reply, SetCall};
 use scc_common::Shared;
-use scc_recorded::Site;
 use scc_script::same::Same;
-use scc_workers::{Open, run};
 use std::alloc::{AllocError, Global};
-use std::sync::Wait;
-use std::sync::ledger::Ledger;
-use std::thread::Threads;
 
 pub(crate) type Map = scc_owned::map::Owned<u64, u64, Shared<Same>>;
 
@@ -75,14 +70,6 @@ impl Turns for Map {
         }
     }
 
-    fn work<L: Ledger + Send + Sync, M: Site<Shared<Same>> + Send + Sync, R: Threads + Wait + Sync>(
-        rt: &R,
-        alloc: Global,
-        callers: &mut [Caller<'_, Map, L, M, R>],
-    ) -> bool {
-        run(rt, alloc, callers, &Open).is_ok()
-    }
-
     fn plays(
         _alloc: Global,
         plain: &mut Plain,
@@ -143,14 +130,6 @@ impl Turns for Set {
             5 => SetCall::Read(key),
             _ => SetCall::Insert(key),
         }
-    }
-
-    fn work<L: Ledger + Send + Sync, M: Site<Shared<Same>> + Send + Sync, R: Threads + Wait + Sync>(
-        rt: &R,
-        alloc: Global,
-        callers: &mut [Caller<'_, Set, L, M, R>],
-    ) -> bool {
-        run(rt, alloc, callers, &Open).is_ok()
     }
 
     fn plays(
@@ -221,14 +200,6 @@ impl Turns for Index {
         }
     }
 
-    fn work<L: Ledger + Send + Sync, M: Site<Shared<Same>> + Send + Sync, R: Threads + Wait + Sync>(
-        rt: &R,
-        alloc: Global,
-        callers: &mut [Caller<'_, Index, L, M, R>],
-    ) -> bool {
-        run(rt, alloc, callers, &Open).is_ok()
-    }
-
     fn plays(
         _alloc: Global,
         plain: &mut Plain,
@@ -290,14 +261,6 @@ impl Turns for Cache {
             5 => CacheCall::Get(key),
             _ => CacheCall::Put(key, j),
         }
-    }
-
-    fn work<L: Ledger + Send + Sync, M: Site<Shared<Same>> + Send + Sync, R: Threads + Wait + Sync>(
-        rt: &R,
-        alloc: Global,
-        callers: &mut [Caller<'_, Cache, L, M, R>],
-    ) -> bool {
-        run(rt, alloc, callers, &Open).is_ok()
     }
 
     fn plays(

@@ -6,11 +6,12 @@ ghost use Rattle.scc_recorded.specs.Setups.{request_of};
 use crate::crews::shared;
 use crate::finished::{finish_late, has_each_place};
 use crate::kinds::Map;
-use crate::turns::{Turns, callers_of, passes_of};
+use crate::turns::{callers_of, passes_of};
 use scc_calls::{MapCall, Reply};
 use scc_common::Shared;
 use scc_recorded::{Finished, Pass, Recorded, Setup, Site};
 use scc_script::same::Same;
+use scc_workers::{Open, run};
 use std::alloc::{AllocError, Global};
 use std::marker::Brand;
 use std::sync::Wait;
@@ -54,7 +55,7 @@ fn work_alone<
     let mut handed = Vec::new(alloc);
     handed.push(pass)?;
     let mut callers = callers_of(rt, alloc, recorded, handed, lists.as_slice())?;
-    let ended = Map::work(rt, alloc, callers.as_mut_slice());
+    let ended = run(rt, alloc, callers.as_mut_slice(), &Open).is_ok();
     match passes_of(alloc, callers)? {
         Some(mut passes) if ended => Ok(passes.pop()),
         _ => Ok(None),

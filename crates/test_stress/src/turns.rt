@@ -8,7 +8,6 @@ use scc_workers::Work;
 use std::alloc::{AllocError, Global};
 use std::sync::Wait;
 use std::sync::ledger::Ledger;
-use std::thread::Threads;
 
 pub(crate) const WORKERS: u64 = 8;
 
@@ -25,14 +24,6 @@ pub(crate) trait Turns: Calls + Drop {
 
     /// Returns the call of turn `j` on a key that all workers share.
     fn shared_turn(key: u64, j: u64) -> Self::Call;
-
-    /// Lets workers make their turns, each on a thread. Returns whether all made them. A thread may be handed only a value
-    /// whose type is known in full, so each kind starts its threads.
-    fn work<L: Ledger + Send + Sync, M: Site<Self::Hasher> + Send + Sync, R: Threads + Wait + Sync>(
-        rt: &R,
-        alloc: Global,
-        callers: &mut [Caller<'_, Self, L, M, R>],
-    ) -> bool;
 
     /// Makes a call on a plain list. Returns whether `reply` is right.
     fn plays(
