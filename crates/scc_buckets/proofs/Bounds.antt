@@ -13,7 +13,7 @@ use Rattle.scc_array.proofs.ListsLemmas.{get-below, get-is}
 use Rattle.scc_buckets.specs.Bounded.{IsBounded, IsListed, IsResized, IsUnlisted, HasList, HasListsOf}
 use Rattle.scc_common.specs.Routing.{bucket_number}
 use Rattle.scc_common.specs.Sizes.{IsBucketCount}
-use Rattle.scc_common.specs.Contents.{Contents, Settings, entries, bucket_count, settings_of, refused_of, list_of, lists_of, overflow_of, IsRouted}
+use Rattle.scc_common.specs.Contents.{Contents, Settings, entries, bucket_count, settings_of, notes_of, list_of, lists_of, overflow_of, IsRouted}
 use Rattle.scc_buckets.specs.OneList.{IsPutIn}
 use Rattle.scc_buckets.specs.declared.place.Place.{Place}
 use Rattle.scc_buckets.specs.Tables.{AllEmpty, IsBuckets, overflow_in}
@@ -105,7 +105,7 @@ module _ {E S : Type 0} (bs : List (Shelf E)) (s : Settings S) (c : Contents E S
 
   -- a change of one bucket is a change of one list
   pub has-list : (d : Shelf E) (es : List E) → shelf_entries d ≡ es → length d.overflow ≡ length b.overflow → HasList c i es (view_of f (set bs i d) s)
-  unfolding lists_of overflow_of settings_of refused_of
+  unfolding lists_of overflow_of settings_of notes_of
   has-list d es w o = record {
     lists = map-set shelf_entries bs i d ∙ ap (set (map shelf_entries bs) i) w ∙ ap (λ z. set z i es) (sym (lists-view bs s c view));
     settings = sym (settings-view bs s c view);

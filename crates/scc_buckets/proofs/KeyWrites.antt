@@ -3,7 +3,7 @@ use Rattle.std.proofs.Common.{◌≡◌, ℕ, zero, suc, ◌+◌, Bool, true, Li
 use Rattle.std.specs.Cmp.{IsEquivalence}
 use Rattle.std.specs.List.{IsDistinct, flat_map, slice_get, slice_set, remove}
 use Rattle.std.specs.Map.{keys_of, set_value, set_key}
-use Rattle.scc_common.specs.Contents.{Contents, entries, bucket_count, refused_of, list_of}
+use Rattle.scc_common.specs.Contents.{Contents, entries, bucket_count, notes_of, list_of}
 use Rattle.scc_common.specs.Pairs.{without, with_pair_value, with_pair_key}
 use Rattle.scc_buckets.specs.Places.{IsSpot, IsFoundAtSpot, index_of_spot}
 use Rattle.scc_common.specs.Steps.{Grows, Holds, HoldsExactly}
@@ -17,8 +17,8 @@ use Rattle.scc_buckets.proofs.PairWrites.{IsPlaceOf}
 use Rattle.scc_buckets.proofs.PairSplits.{set_value-at, set_key-at, without-at}
 
 -- a write doesn't change the note of refused memory
-pub noted-write : {E S X : Type 0} (put : E → X → E) (c : Contents E S) (p : Place) (w : X) → refused_of (with_write_at_spot put c p w) ≡ refused_of c
-unfolding refused_of with_write_at_spot
+pub noted-write : {E S X : Type 0} (put : E → X → E) (c : Contents E S) (p : Place) (w : X) → notes_of (with_write_at_spot put c p w) ≡ notes_of c
+unfolding notes_of with_write_at_spot
 noted-write put c p w = refl
 
 pub write-parts : {E X : Type 0} (put : E → X → E) (es : List E) (i : ℕ) (e : E) (w : X) → slice_get es i ≡ Some e → write_at put es i w ≡ take i es ++ put e w ∷ drop (suc i) es

@@ -4,7 +4,7 @@ use Rattle.std.specs.Prelude.{count_by}
 use Rattle.std.specs.List.{flat_map, fold, slice_index_or}
 use Rattle.std.proofs.lemmas.List.{length-map, map-append}
 use Rattle.std.proofs.lemmas.List.Sorted.{IsPermutation-map}
-use Rattle.scc_common.specs.Contents.{Contents, Settings, entries, bucket_count, settings_of, refused_of, pending_of, list_of, HasRoomBy, bucket_of}
+use Rattle.scc_common.specs.Contents.{Contents, Settings, entries, bucket_count, settings_of, notes_of, pending_of, list_of, HasRoomBy, bucket_of}
 use Rattle.scc_common.specs.Mapped.{mapped}
 use Rattle.scc_buckets.specs.Places.{IsSpot, index_of_spot}
 use Rattle.scc_buckets.specs.Standing.{StandsAtSpot}
@@ -45,9 +45,9 @@ module _ {E F S : Type 0} (f : E → F) where
   unfolding mapped settings_of
   settings_of-mapped c = refl
 
-  pub refused_of-mapped : (c : Contents E S) → refused_of (mapped f c) ≡ refused_of c
-  unfolding mapped refused_of
-  refused_of-mapped c = refl
+  pub notes_of-mapped : (c : Contents E S) → notes_of (mapped f c) ≡ notes_of c
+  unfolding mapped notes_of
+  notes_of-mapped c = refl
 
   pub pending_of-mapped : (c : Contents E S) → pending_of (mapped f c) ≡ pending_of c
   unfolding mapped pending_of
@@ -118,10 +118,10 @@ module _ {E F S : Type 0} (f : E → F) where
   FirstArrayWhenDue-mapped c d h = record { made = rw (bucket_count-mapped c, bucket_count-mapped d, settings_of-mapped c) h.made }
 
   pub ShrinksWhenDue-mapped : (c d : Contents E S) → ShrinksWhenDue c d → ShrinksWhenDue (mapped f c) (mapped f d)
-  ShrinksWhenDue-mapped c d h = record { shrunk = rw (bucket_count-mapped c, bucket_count-mapped d, settings_of-mapped d, length-mapped d, refused_of-mapped d) h.shrunk; raised = rw (bucket_count-mapped c, settings_of-mapped d, length-mapped d, refused_of-mapped c, refused_of-mapped d) h.raised; lowered = rw (bucket_count-mapped c, bucket_count-mapped d, refused_of-mapped c, refused_of-mapped d) h.lowered; down = rw (bucket_count-mapped c, bucket_count-mapped d, refused_of-mapped d) h.down; marked = rw (refused_of-mapped c, refused_of-mapped d) h.marked }
+  ShrinksWhenDue-mapped c d h = record { shrunk = rw (bucket_count-mapped c, bucket_count-mapped d, settings_of-mapped d, length-mapped d, notes_of-mapped d) h.shrunk; raised = rw (bucket_count-mapped c, settings_of-mapped d, length-mapped d, notes_of-mapped c, notes_of-mapped d) h.raised; lowered = rw (bucket_count-mapped c, bucket_count-mapped d, notes_of-mapped c, notes_of-mapped d) h.lowered; down = rw (bucket_count-mapped c, bucket_count-mapped d, notes_of-mapped d) h.down; marked = rw (notes_of-mapped c, notes_of-mapped d) h.marked }
 
   pub ReachesMinimumWhenDue-mapped : (c d : Contents E S) → ReachesMinimumWhenDue c d → ReachesMinimumWhenDue (mapped f c) (mapped f d)
-  ReachesMinimumWhenDue-mapped c d h = record { reached = rw (bucket_count-mapped c, bucket_count-mapped d, settings_of-mapped d, refused_of-mapped d) h.reached; raised = rw (bucket_count-mapped c, settings_of-mapped d, refused_of-mapped c, refused_of-mapped d) h.raised; lowered = rw (bucket_count-mapped c, bucket_count-mapped d, refused_of-mapped c, refused_of-mapped d) h.lowered; down = rw (bucket_count-mapped c, bucket_count-mapped d, refused_of-mapped d) h.down; marked = rw (refused_of-mapped c, refused_of-mapped d) h.marked }
+  ReachesMinimumWhenDue-mapped c d h = record { reached = rw (bucket_count-mapped c, bucket_count-mapped d, settings_of-mapped d, notes_of-mapped d) h.reached; raised = rw (bucket_count-mapped c, settings_of-mapped d, notes_of-mapped c, notes_of-mapped d) h.raised; lowered = rw (bucket_count-mapped c, bucket_count-mapped d, notes_of-mapped c, notes_of-mapped d) h.lowered; down = rw (bucket_count-mapped c, bucket_count-mapped d, notes_of-mapped d) h.down; marked = rw (notes_of-mapped c, notes_of-mapped d) h.marked }
 
   HoldsWith-mapped : (c : Contents E S) (s : Settings S) (d : Contents E S) → HoldsWith c s d → HoldsWith (mapped f c) s (mapped f d)
   HoldsWith-mapped c s d h = record {
@@ -173,10 +173,10 @@ module _ {E F S : Type 0} (f : E → F) where
 
     pub GrowsWhenDue-mapped : (hash : K → ℕ) (c : Contents E S) (k : K) (d : Contents E S) → GrowsWhenDue hash (λ e. key (f e)) c k d → GrowsWhenDue hash key (mapped f c) k (mapped f d)
     GrowsWhenDue-mapped hash c k d h = record {
-      doubled = λ due down. rw (bucket_count-mapped c, bucket_count-mapped d) (h.doubled (IsGrowthDue-from_mapped hash c k due) (rw (refused_of-mapped d) at down));
-      raised = λ low up. IsGrowthDue-mapped hash c k (h.raised (rw (refused_of-mapped c) at low) (rw (refused_of-mapped d) at up));
-      unmarked = λ due. ap (λ x. x.1) (refused_of-mapped d) ∙ h.unmarked (IsGrowthDue-from_mapped hash c k due);
-      marked = rw (refused_of-mapped c, refused_of-mapped d) h.marked;
-      lowered = rw (bucket_count-mapped c, bucket_count-mapped d, refused_of-mapped c, refused_of-mapped d) h.lowered;
-      down = rw (bucket_count-mapped c, bucket_count-mapped d, refused_of-mapped d) h.down;
+      doubled = λ due down. rw (bucket_count-mapped c, bucket_count-mapped d) (h.doubled (IsGrowthDue-from_mapped hash c k due) (rw (notes_of-mapped d) at down));
+      raised = λ low up. IsGrowthDue-mapped hash c k (h.raised (rw (notes_of-mapped c) at low) (rw (notes_of-mapped d) at up));
+      unmarked = λ due. ap (λ x. x.1) (notes_of-mapped d) ∙ h.unmarked (IsGrowthDue-from_mapped hash c k due);
+      marked = rw (notes_of-mapped c, notes_of-mapped d) h.marked;
+      lowered = rw (bucket_count-mapped c, bucket_count-mapped d, notes_of-mapped c, notes_of-mapped d) h.lowered;
+      down = rw (bucket_count-mapped c, bucket_count-mapped d, notes_of-mapped d) h.down;
     }

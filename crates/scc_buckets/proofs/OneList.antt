@@ -8,7 +8,7 @@ use Rattle.std.proofs.lemmas.List.Sums.{sum_by-set}
 use native.Mathlib.Decide.{dec_lt}
 use Rattle.scc_array.specs.Shelf.{Shelf, shelf_entries, with_entry, next_slot, without_slot, swapped_out}
 use Rattle.scc_array.proofs.Swaps.{entries-swapped, overflow-swapped}
-use Rattle.scc_common.specs.Contents.{Contents, Settings, list_of, lists_of, settings_of, refused_of, overflow_of}
+use Rattle.scc_common.specs.Contents.{Contents, Settings, list_of, lists_of, settings_of, notes_of, overflow_of}
 use Rattle.scc_buckets.specs.OneList.{HasSameLists, IsPutIn, IsSwappedOutOf, IsTakenFrom}
 use Rattle.scc_buckets.specs.Tables.{overflow_in}
 use Rattle.scc_buckets.proofs.Inserts.{entries_insert, overflow_push, place_le}
@@ -32,7 +32,7 @@ module _ {E S : Type 0} (bs : List (Shelf E)) (s : Settings S) {f : Bool × Bool
   pub one-settings : (d : Shelf E) → settings_of (view_of f (set bs i d) s) ≡ settings_of c
   one-settings d = settings-view (set bs i d) s (view_of f (set bs i d) s) refl ∙ sym (settings-view bs s c view)
 
-  pub one-refused : (d : Shelf E) → refused_of (view_of f (set bs i d) s) ≡ refused_of c
+  pub one-refused : (d : Shelf E) → notes_of (view_of f (set bs i d) s) ≡ notes_of c
   one-refused d = refused-view (set bs i d) s (view_of f (set bs i d) s) refl ∙ sym (refused-view bs s c view)
 
   pub put-in-list : (d : Shelf E) (e : E) (t slot : ℕ) → length b.slots ≤ 32 → d ≡ record (with_entry b e t) { room = d.room } → slot ≡ next_slot b → IsPutIn c i e (view_of f (set bs i d) s) (record { bucket = i; slot = slot })

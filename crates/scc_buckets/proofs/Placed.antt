@@ -2,7 +2,7 @@
 use Rattle.std.proofs.Common.{◌≡◌, ℕ, zero, suc, List, [], ◌∷◌, ◌++◌, length, take, drop, None, Some, refl, sym, ap, ◌∙◌, arith}
 use native.Mathlib.Bridge.{le_prop}
 use Rattle.std.specs.List.{slice_get, remove}
-use Rattle.scc_common.specs.Contents.{Contents, entries, list_of, refused_of}
+use Rattle.scc_common.specs.Contents.{Contents, entries, list_of, notes_of}
 use Rattle.scc_buckets.specs.Places.{IsSpot, IsInsertedAtSpot, index_of_spot}
 use Rattle.scc_buckets.specs.Placed.{at, at-get, entry_of_spot, front_of_spot, back_of_spot, SplitsAtSpot, IsWrittenAtSpot, IsPutAtSpot, IsNextSpot, IsNextSpotPastRemoved}
 use Rattle.scc_array.specs.ShelfWrites.{write_at}
@@ -84,7 +84,7 @@ module _ {E S : Type 0} where
           buckets = rw now exact.buckets;
           settings = rw now exact.settings;
         };
-        noted = ap refused_of now ∙ noted-write put c p w;
+        noted = ap notes_of now ∙ noted-write put c p w;
         here = entry_of-is d p j _ (ap (slice_get (entries d)) index ∙ ap (λ z. slice_get z (index_of_spot c p)) es ∙ get-write_at put (entries c) (index_of_spot c p) (entry_of_spot c p h) w (entry_of-get c p h));
         front = ap (λ i. take i (entries d)) index ∙ ap (take (index_of_spot c p)) es ∙ front-write put (entries c) (index_of_spot c p) w;
         back = ap (λ i. drop (suc i) (entries d)) index ∙ ap (drop (suc (index_of_spot c p))) es ∙ back-write put (entries c) (index_of_spot c p) w;
@@ -125,7 +125,7 @@ module _ {E S : Type 0} where
   left-there c p d others = record { exact = others.exact ∙ removed-parts (entries c) (index_of_spot c p); buckets = others.buckets; settings = others.settings }
 
   -- after the entry at a place was taken out, the place with an equal index has the entry that stood next
-  pub past-there : (c : Contents E S) (p : Place) (d : Contents E S) (q : Place) (j : IsSpot d q) → HoldsExactly c (remove (entries c) (index_of_spot c p)) d → refused_of d ≡ refused_of c → index_of_spot d q ≡ index_of_spot c p → IsNextSpotPastRemoved c p d q j
+  pub past-there : (c : Contents E S) (p : Place) (d : Contents E S) (q : Place) (j : IsSpot d q) → HoldsExactly c (remove (entries c) (index_of_spot c p)) d → notes_of d ≡ notes_of c → index_of_spot d q ≡ index_of_spot c p → IsNextSpotPastRemoved c p d q j
   unfolding front_of_spot back_of_spot
   past-there c p d q j others noted index = record {
     contents = left-there c p d others;

@@ -5,7 +5,7 @@ use Rattle.std.specs.List.Sorted.{IsPermutation}
 use Rattle.std.proofs.lemmas.List.Elements.{All-cons}
 use Rattle.std.proofs.lemmas.List.Sorted.{length_permutation, All-permutation, IsPermutation-cons, IsPermutation-refl, IsPermutation-trans}
 use native.Mathlib.Decide.{dec_lt}
-use Rattle.scc_common.specs.Contents.{Contents, entries, bucket_count, settings_of, minimum_of, refused_of, IsMarked, IsNoteDown, IsNoteUp}
+use Rattle.scc_common.specs.Contents.{Contents, entries, bucket_count, settings_of, minimum_of, notes_of, IsMarked, IsNoteDown, IsNoteUp}
 use Rattle.scc_buckets.specs.Places.{IsInsertedAtSpot}
 use Rattle.scc_buckets.specs.Pour.{IsRegrouped}
 use Rattle.scc_common.specs.Sizes.{IsBucketCount, IsArraySize, IsSmaller}
@@ -113,7 +113,7 @@ module _ {E S : Type 0} where
   }
 
   -- after a change that kept the buckets and the note of refused memory, a try to shrink still does all that is due
-  pub shrinks-after : (a b c : Contents E S) → bucket_count b ≡ bucket_count a → refused_of b ≡ refused_of a → ShrinksWhenDue b c → ShrinksWhenDue a c
+  pub shrinks-after : (a b c : Contents E S) → bucket_count b ≡ bucket_count a → notes_of b ≡ notes_of a → ShrinksWhenDue b c → ShrinksWhenDue a c
   shrinks-after a b c same noted h = record {
     shrunk = λ m n am an few less down. h.shrunk m n am an (omega (arith, same)) (omega (arith, same)) down;
     raised = λ low up m n am an. let r = h.raised (ap (λ (x : Bool × Bool). x.0) noted ∙ low) up m n am an in (omega (arith, same, r.0), omega (arith, same, r.1));

@@ -2,7 +2,7 @@
 use Rattle.std.proofs.Common.{◌≡◌, ℕ, ◌<◌, Bool, List, [], ◌∷◌, ◌++◌, length, map, get_or, refl, sym, ap, ◌∙◌}
 use Rattle.std.specs.List.{flat_map}
 use Rattle.std.proofs.lemmas.List.{get_or-map, length-map}
-use Rattle.scc_common.specs.Contents.{Contents, Settings, entries, bucket_count, settings_of, refused_of, list_of, lists_of, overflow_of, waiting_of, owed_of}
+use Rattle.scc_common.specs.Contents.{Contents, Settings, entries, bucket_count, settings_of, notes_of, list_of, lists_of, overflow_of, waiting_of, owed_of}
 use Rattle.scc_buckets.specs.Tables.{overflow_in}
 use Rattle.scc_array.specs.Shelf.{Shelf, shelf_entries}
 
@@ -27,8 +27,8 @@ module _ {E S : Type 0} (bs : List (Shelf E)) (s : Settings S) {f : Bool × Bool
   unfolding settings_of
   settings-view = ap (λ (x : Contents E S). x.settings) (sym view)
 
-  pub refused-view : refused_of c ≡ f
-  unfolding refused_of
+  pub refused-view : notes_of c ≡ f
+  unfolding notes_of
   refused-view = ap (λ (x : Contents E S). x.refused) (sym view)
 
   pub list-view : (i : ℕ) (b : Shelf E) → i < length bs → b ≡ get_or bs i b → list_of c i ≡ shelf_entries b

@@ -1,7 +1,7 @@
 -- Tables whose buckets hold at most 32 entries each, in the order of their lists, with empty overflow lists.
 use Rattle.std.specs.Prelude.{◌≡◌, ℕ, Bool, ◌*◌, ◌<◌, ◌≤◌, List, [], ◌∷◌, ◌++◌, length, Option, None, Some}
 use Rattle.std.specs.List.{slice_get, slice_set, position}
-use Rattle.scc_common.specs.Contents.{Contents, entries, bucket_count, settings_of, minimum_of, refused_of, list_of, lists_of, overflow_of, IsMarked, IsNoteDown, IsNoteUp}
+use Rattle.scc_common.specs.Contents.{Contents, entries, bucket_count, settings_of, minimum_of, notes_of, list_of, lists_of, overflow_of, IsMarked, IsNoteDown, IsNoteUp}
 use Rattle.scc_buckets.specs.Places.{IsSpot}
 use Rattle.scc_buckets.specs.Pour.{IsRegrouped, destined_for}
 use Rattle.scc_common.specs.Routing.{bucket_number}
@@ -42,7 +42,7 @@ module _ {E S : Type 0} where
   pub record HasList (c : Contents E S) (i : ℕ) (es : List E) (d : Contents E S) : Type 0 where
     pub lists : lists_of d ≡ slice_set (lists_of c) i es
     pub settings : settings_of d ≡ settings_of c
-    pub refused : refused_of d ≡ refused_of c
+    pub refused : notes_of d ≡ notes_of c
     pub bounded : IsBounded d
 
   -- e is put at the end of list i; if the list held 32 entries, its first entry is taken out and returned

@@ -2,7 +2,7 @@
 use Rattle.std.specs.Prelude.{◌≡◌, ◌<◌, ℕ, Bool, None, length, Result, IfOk, IfErr}
 use Rattle.std.specs.List.{position}
 use Rattle.std.specs.Result.{OnOk, OnErr}
-use Rattle.scc_common.specs.Contents.{Contents, bucket_count, entries, list_of, refused_of, settings_of, HasRoomBy, IsUniqueBy}
+use Rattle.scc_common.specs.Contents.{Contents, bucket_count, entries, list_of, notes_of, settings_of, HasRoomBy, IsUniqueBy}
 use Rattle.scc_common.specs.Routing.{bucket_number}
 use Rattle.scc_common.specs.Steps.{FirstArrayWhenDue, Grows, IsUnchanged}
 use Rattle.scc_buckets.specs.Bounded.{IsBounded}
@@ -42,7 +42,7 @@ module _ {E K S : Type 0} (eq : K → K → Bool) (key : E → K) where
     -- the number of buckets stays
     pub buckets : bucket_count d ≡ bucket_count c
     -- the note and the mark stay
-    pub refused : refused_of d ≡ refused_of c
+    pub refused : notes_of d ≡ notes_of c
     -- no two keys are equal
     pub unique : IsUniqueBy eq key d
 
@@ -60,7 +60,7 @@ module _ {E K S : Type 0} (eq : K → K → Bool) (key : E → K) where
       -- the number of buckets stays
       pub buckets : bucket_count d ≡ bucket_count c
       -- the note and the mark stay
-      pub refused : refused_of d ≡ refused_of c
+      pub refused : notes_of d ≡ notes_of c
       -- no two keys are equal
       pub unique : IsUniqueBy eq key d
 
@@ -75,6 +75,6 @@ module _ {E K S : Type 0} (eq : K → K → Bool) (key : E → K) where
       -- on success, the array has the size of the minimum
       pub first : OnOk result (FirstArrayWhenDue c d)
       -- the note and the mark stay
-      pub noted : refused_of d ≡ refused_of c
+      pub noted : notes_of d ≡ notes_of c
       -- no two keys are equal
       pub unique : IsUniqueBy eq key d

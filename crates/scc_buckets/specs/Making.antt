@@ -2,7 +2,7 @@
 use Rattle.std.specs.Prelude.{◌≡◌, ◌<◌, ◌*◌, ℕ, [], List, false, map, Result, IsOk, IfOk}
 use Rattle.std.specs.Result.{OnOk, OnErr}
 use Rattle.scc_array.specs.Shelf.{Shelf, shelf_entries}
-use Rattle.scc_common.specs.Contents.{Contents, entries, bucket_count, lists_of, minimum_of, owed_of, refused_of, settings_of, overflow_of, waiting_of}
+use Rattle.scc_common.specs.Contents.{Contents, entries, bucket_count, lists_of, minimum_of, owed_of, notes_of, settings_of, overflow_of, waiting_of}
 use Rattle.scc_common.specs.Sizes.{IsBucketCount, IsArraySize}
 use Rattle.scc_common.specs.Steps.{IsUnchanged}
 use Rattle.scc_buckets.specs.Bounded.{IsListed, IsResized}
@@ -21,7 +21,7 @@ module _ {E S : Type 0} where
       -- the hasher and the skipped bits are the arguments; no slots are asked for or reserved
       pub settings : settings_of d ≡ record { hasher = hasher; skipped = skipped; asked = 0; reserved = 0 }
       -- no refused memory is noted, and no growth is marked
-      pub noted : refused_of d ≡ (false, false)
+      pub noted : notes_of d ≡ (false, false)
       -- no bucket waits
       pub waiting : waiting_of d ≡ []
 
@@ -40,7 +40,7 @@ module _ {E S : Type 0} where
       -- the call succeeds for 0 slots
       pub succeeds : slots ≡ 0 → IsOk result
       -- no refused memory is noted, and no growth is marked
-      pub noted : IfOk result (λ t. refused_of t ≡ (false, false))
+      pub noted : IfOk result (λ t. notes_of t ≡ (false, false))
       -- no bucket waits
       pub waiting : IfOk result (λ t. waiting_of t ≡ [])
 
@@ -58,7 +58,7 @@ module _ {E S : Type 0} where
       -- the settings stay
       pub settings : settings_of d ≡ settings_of c
       -- the note and the mark stay
-      pub noted : refused_of d ≡ refused_of c
+      pub noted : notes_of d ≡ notes_of c
       -- on failure, entries, buckets and settings stay
       pub refused : OnErr result (IsUnchanged c d)
       -- on success, each list of the array has the entries that belong to it
@@ -74,7 +74,7 @@ module _ {E S : Type 0} where
       -- the settings stay
       pub settings : settings_of d ≡ settings_of c
       -- the note and the mark stay
-      pub noted : refused_of d ≡ refused_of c
+      pub noted : notes_of d ≡ notes_of c
       -- `over` entries stand in overflow lists
       pub spilled : overflow_of d ≡ over
       -- the waiting buckets stay
@@ -101,4 +101,4 @@ module _ {E S : Type 0} where
     -- `reserved` slots are reserved
     pub settings : settings_of d ≡ record (settings_of c) { reserved = reserved }
     -- the note and the mark stay
-    pub noted : refused_of d ≡ refused_of c
+    pub noted : notes_of d ≡ notes_of c

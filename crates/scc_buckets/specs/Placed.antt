@@ -1,7 +1,7 @@
 -- The entry at a place, the entries before and after it, and what a change at the place leaves.
 use Rattle.std.specs.Prelude.{◌≡◌, ℕ, zero, suc, ◌<◌, List, [], ◌∷◌, ◌++◌, length, take, drop, Some, slice_get, refl}
 use Rattle.std.proofs.Common.{arith}
-use Rattle.scc_common.specs.Contents.{Contents, entries, list_of, refused_of}
+use Rattle.scc_common.specs.Contents.{Contents, entries, list_of, notes_of}
 use Rattle.scc_buckets.specs.Places.{IsSpot, index_of_spot}
 use Rattle.scc_common.specs.Steps.{Holds, HoldsExactly}
 use Rattle.scc_buckets.specs.declared.place.Place.{Place}
@@ -38,7 +38,7 @@ module _ {E S : Type 0} where
   -- d is c with e instead of the entry at p, and e stands at q; the note and the mark stay
   pub record IsWrittenAtSpot (c : Contents E S) (p : Place) (e : E) (d : Contents E S) (q : Place) (j : IsSpot d q) : Type 0 where
     pub contents : HoldsExactly c (front_of_spot c p ++ e ∷ back_of_spot c p) d
-    pub noted : refused_of d ≡ refused_of c
+    pub noted : notes_of d ≡ notes_of c
     pub here : entry_of_spot d q j ≡ e
     pub front : front_of_spot d q ≡ front_of_spot c p
     pub back : back_of_spot d q ≡ back_of_spot c p
@@ -58,6 +58,6 @@ module _ {E S : Type 0} where
   -- note and the mark stay
   pub record IsNextSpotPastRemoved (c : Contents E S) (p : Place) (d : Contents E S) (q : Place) (j : IsSpot d q) : Type 0 where
     pub contents : HoldsExactly c (front_of_spot c p ++ back_of_spot c p) d
-    pub noted : refused_of d ≡ refused_of c
+    pub noted : notes_of d ≡ notes_of c
     pub front : front_of_spot d q ≡ front_of_spot c p
     pub back : entry_of_spot d q j ∷ back_of_spot d q ≡ back_of_spot c p

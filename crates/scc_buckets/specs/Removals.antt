@@ -2,7 +2,7 @@
 use Rattle.std.specs.Prelude.{◌≡◌, ◌≤◌, ◌<◌, Bool, Some, None, length, slice_get, remove}
 use Rattle.std.specs.List.{position}
 use Rattle.std.specs.List.Sorted.{IsPermutation}
-use Rattle.scc_common.specs.Contents.{Contents, entries, bucket_count, list_of, refused_of, settings_of, IsUniqueBy}
+use Rattle.scc_common.specs.Contents.{Contents, entries, bucket_count, list_of, notes_of, settings_of, IsUniqueBy}
 use Rattle.scc_common.specs.Steps.{HoldsExactly}
 use Rattle.scc_buckets.specs.Bounded.{HasList, IsBounded}
 use Rattle.scc_buckets.specs.OneList.{IsSwappedOutOf, IsTakenFrom}
@@ -21,7 +21,7 @@ module _ {E K S : Type 0} (eq : K → K → Bool) (key : E → K) where
     -- the others keep their order
     pub others : HoldsExactly c (remove (entries c) (index_of_spot c p)) d
     -- the note and the mark stay
-    pub noted : refused_of d ≡ refused_of c
+    pub noted : notes_of d ≡ notes_of c
     -- the result stood in the list of its bucket
     pub listed : slice_get (list_of c p.bucket) p.slot ≡ Some result
     -- its key is missing in d
@@ -47,7 +47,7 @@ module _ {E K S : Type 0} (eq : K → K → Bool) (key : E → K) where
     -- the number of buckets stays
     pub buckets : bucket_count d ≡ bucket_count c
     -- the note and the mark stay
-    pub noted : refused_of d ≡ refused_of c
+    pub noted : notes_of d ≡ notes_of c
     -- the settings stay
     pub settings : settings_of d ≡ settings_of c
     -- no two keys are equal

@@ -2,7 +2,7 @@
 ghost use Rattle.scc_array.specs.Shelf.{shelf_entries};
 ghost use Rattle.scc_array.specs.Shelves.{shelf_of};
 ghost use Rattle.scc_common.specs.Clones.{AddsClones, HasClones};
-ghost use Rattle.scc_common.specs.Contents.{entries, bucket_count, refused_of, settings_of, waiting_of};
+ghost use Rattle.scc_common.specs.Contents.{entries, bucket_count, notes_of, settings_of, waiting_of};
 ghost use Rattle.std.specs.Prelude.{◌≡◌, ◌*◌, ◌^◌, ◌<◌, [], ◌∷◌, false, length, IfOk, OnOk};
 
 use crate::Buckets;
@@ -24,7 +24,7 @@ where
         E: Clone,
         H: Clone,
         ensures clones { IfOk result (HasClones E.is_clone H.is_clone self.now) }
-        ensures noted { IfOk result (λ t. refused_of t ≡ (false, false)) }
+        ensures noted { IfOk result (λ t. notes_of t ≡ (false, false)) }
         ensures waiting { IfOk result (λ t. waiting_of t ≡ []) }
     {
         let Ok(hasher) = self.hasher.clone() else {
@@ -49,7 +49,7 @@ where
               asked = 32 * bucket_count self.now;
               reserved = 0;
             }) }
-        ensures noted { IfOk result (λ t. refused_of t ≡ (false, false)) }
+        ensures noted { IfOk result (λ t. notes_of t ≡ (false, false)) }
         ensures waiting { IfOk result (λ t. waiting_of t ≡ []) }
     {
         let alloc = self.buckets.allocator();

@@ -2,7 +2,7 @@
 ghost use Rattle.scc_array.specs.Shelf.{shelf_entries};
 ghost use Rattle.scc_buckets.specs.Making.{AreNewBuckets, MakesBuckets, InstallsFirstArray, InstallsBuckets};
 ghost use Rattle.scc_buckets.specs.Tables.{AllEmpty, IsBuckets};
-ghost use Rattle.scc_common.specs.Contents.{entries, bucket_count, settings_of, key_hash, refused_of};
+ghost use Rattle.scc_common.specs.Contents.{entries, bucket_count, settings_of, key_hash, notes_of};
 ghost use Rattle.std.specs.List.{flat_map, IsDistinct};
 ghost use Rattle.std.specs.Prelude.{◌≡◌, ◌<◌, ◌≤◌, ◌+◌, ◌*◌, ◌^◌, [], false, length, IfOk, map};
 
@@ -96,7 +96,7 @@ where
         ensures still { entries self.new ≡ [] }
         ensures buckets { bucket_count self.new ≡ 0 }
         ensures settings { settings_of self.new ≡ settings_of self.old }
-        ensures noted { refused_of self.new ≡ refused_of self.old }
+        ensures noted { notes_of self.new ≡ notes_of self.old }
     {
         self.length = 0;
         self.overflowing = 0;

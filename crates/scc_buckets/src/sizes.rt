@@ -1,6 +1,6 @@
 //! The sizes of an array, the minimum, and the note and the mark of a resize whose memory was refused.
 ghost use Rattle.scc_buckets.specs.Making.{SetsReservedSlots};
-ghost use Rattle.scc_common.specs.Contents.{settings_of, refused_of, minimum_of, lists_of, overflow_of, IsUniqueBy, mark_of};
+ghost use Rattle.scc_common.specs.Contents.{settings_of, notes_of, minimum_of, lists_of, overflow_of, IsUniqueBy, mark_of};
 ghost use Rattle.scc_common.specs.Sizes.{IsBucketCount, IsArraySize};
 ghost use Rattle.scc_common.specs.Steps.{IsUnchanged};
 ghost use Rattle.std.specs.Prelude.{◌≡◌, ◌*◌, ◌≤◌, ◌<◌, ◌+◌, ◌-◌, ◌^◌, false};
@@ -67,7 +67,7 @@ where
         ensures lists { lists_of self.new ≡ lists_of self.old }
         ensures settings { settings_of self.new ≡ settings_of self.old }
         ensures spilled { overflow_of self.new ≡ overflow_of self.old }
-        ensures noted { refused_of self.new ≡ (refused, false) }
+        ensures noted { notes_of self.new ≡ (refused, false) }
     {
         self.refused = refused;
         self.marked = false;
@@ -88,7 +88,7 @@ where
         ensures lists { lists_of self.new ≡ lists_of self.old }
         ensures settings { settings_of self.new ≡ settings_of self.old }
         ensures spilled { overflow_of self.new ≡ overflow_of self.old }
-        ensures noted { refused_of self.new ≡ (refused, marked) }
+        ensures noted { notes_of self.new ≡ (refused, marked) }
     {
         self.refused = refused;
         self.marked = marked;

@@ -6,7 +6,7 @@ use Rattle.std.specs.Option.{option_map}
 use native.Mathlib.Decide.{dec_lt}
 use lib.Pow.{pow_mono, pow-add}
 use Rattle.scc_buckets.specs.Bounded.{HasList, IsUnlisted, PutsLast, IsListed, ShrinksBounded, stays_wide, denied_narrow, narrows}
-use Rattle.scc_common.specs.Contents.{Contents, entries, bucket_count, settings_of, refused_of, minimum_of, list_of, lists_of, waiting_of, owed_of}
+use Rattle.scc_common.specs.Contents.{Contents, entries, bucket_count, settings_of, notes_of, minimum_of, list_of, lists_of, waiting_of, owed_of}
 use Rattle.scc_common.specs.Pairs.{IsUnique}
 use Rattle.scc_buckets.proofs.Bounds.{absent-rest, has-list-of, keeps-count}
 use Rattle.scc_buckets.proofs.FindingLemmas.{position_hit, position_cons}
@@ -148,7 +148,7 @@ module _ {K V S : Type 0} (eq : K → K → Bool) where
   puts-pair number c d i p (Some x) missing e some h =
       (missing, subst (λ j. 32 ≤ length (slice_index_or c.lists j [])) e h.0, (h.1.0, subst (λ j. slice_index_or c.lists j [] ≡ x ∷ h.1.0) e h.1.1, subst (λ j. d.lists ≡ slice_set c.lists j (h.1.0 ++ p ∷ [])) e h.1.2.lists))
 
-  pub puts-refused : (c d : Contents (K × V) S) (i : ℕ) (p : K × V) (x : Option (K × V)) → PutsLast c i p x d → refused_of d ≡ refused_of c
+  pub puts-refused : (c d : Contents (K × V) S) (i : ℕ) (p : K × V) (x : Option (K × V)) → PutsLast c i p x d → notes_of d ≡ notes_of c
   puts-refused c d i p None h = h.1.refused
   puts-refused c d i p (Some x) h = h.1.2.refused
 

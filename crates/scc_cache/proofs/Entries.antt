@@ -9,7 +9,7 @@ use Rattle.std.specs.declared.cmp.PartialEq as eq
 use Rattle.std.specs.declared.hash.Hash as hash
 use Rattle.std.specs.declared.hash.Hasher as hasher
 use Rattle.std.specs.declared.hash.BuildHasher as builder
-use Rattle.scc_common.specs.Contents.{Contents, bucket_count, settings_of, refused_of, list_of, lists_of, waiting_of, key_hash}
+use Rattle.scc_common.specs.Contents.{Contents, bucket_count, settings_of, notes_of, list_of, lists_of, waiting_of, key_hash}
 use Rattle.scc_common.specs.Pairs.{with_pair_key, with_pair_value}
 use Rattle.scc_buckets.specs.Placed as spots
 use Rattle.scc_buckets.specs.Placed.{at-get}
@@ -49,7 +49,7 @@ module _ {E S : Type 0} (c : Contents E S) (p : Place) (h : IsPlace c p) where
 module _ {K V S : Type 0} (c : Cached (K × V) S) (p : Place) (h : IsPlace c.contents p) where
   -- a write of a value is a change of one list
   pub changes-written : (v : V) → ChangesLists (λ ls ms. ms ≡ slice_set ls (spot_of c.contents p).bucket (slice_set (slice_index_or ls (spot_of c.contents p).bucket []) (spot_of c.contents p).slot ((entry_of c.contents p h).0, v))) c (with_value_at c p v)
-  unfolding writes.with_write_at_spot lists_of list_of settings_of refused_of
+  unfolding writes.with_write_at_spot lists_of list_of settings_of notes_of
   changes-written v = record {
     lists = ap (slice_set c.contents.lists (spot_of c.contents p).bucket) (write-set with_pair_value (slice_index_or c.contents.lists (spot_of c.contents p).bucket []) (spot_of c.contents p).slot v (entry_of c.contents p h) (listed-entry c.contents p h));
     settings = refl;
@@ -86,7 +86,7 @@ moved-last number same k p q r ls ms ns b s (i, there, e) at within last made =
 
 -- if a pair is moved to the end of its list, and k is then written over its key, the pair is moved with k as its key
 pub moved-key : {K V S : Type 0} (hash : K → ℕ) (same : K → K → Bool) (c d : Cached (K × V) S) (k : K) (p : Place) (f : IsLastAt hash same c k d p) → ChangesLists (RefreshesAs (list_number hash c.contents) same k f.pair (k, f.pair.1)) c (with_key_at d p k)
-unfolding writes.with_write_at_spot lists_of list_of settings_of refused_of bucket_count
+unfolding writes.with_write_at_spot lists_of list_of settings_of notes_of bucket_count
 moved-key hash same c d k p f =
     let at = spot_of d.contents p in
     record {
@@ -98,7 +98,7 @@ moved-key hash same c d k p f =
 
 -- a write of v over the value of the pair of k is a change of one list
 pub changes-value : {K V S : Type 0} (hash : K → ℕ) (same : K → K → Bool) (c : Cached (K × V) S) (k : K) (p : Place) (f : IsFound hash same c.contents k p) (v : V) → ChangesLists (Rewrites (list_number hash c.contents) same k f.pair (f.pair.0, v)) c (with_value_at c p v)
-unfolding writes.with_write_at_spot lists_of list_of settings_of refused_of bucket_count
+unfolding writes.with_write_at_spot lists_of list_of settings_of notes_of bucket_count
 changes-value hash same c k p f v = record {
   lists = ((spot_of c.contents p).slot, f.there, ap (slice_set c.contents.lists (spot_of c.contents p).bucket) (write-set with_pair_value (slice_index_or c.contents.lists (spot_of c.contents p).bucket []) (spot_of c.contents p).slot v f.pair f.here) ∙ ap (λ j. slice_set c.contents.lists j (slice_set (slice_index_or c.contents.lists j []) (spot_of c.contents p).slot (f.pair.0, v))) f.bucket);
   settings = refl;

@@ -3,7 +3,7 @@ use Rattle.std.proofs.Common.{◌≡◌, ◌≢◌, ◌==◌, ℕ, ◌+◌, ◌<
 use Rattle.std.specs.Prelude.{OnSome, MatchOption}
 use Rattle.std.specs.List.{count_by, filter, position, range_with_len}
 use Rattle.scc_buckets.specs.Bounded.{MayShrinkWithin, ShrinksBounded, stays_wide, denied_narrow, narrows}
-use Rattle.scc_common.specs.Contents.{Contents, Settings, entries, bucket_count, lists_of, pending_of, refused_of, settings_of, waiting_of}
+use Rattle.scc_common.specs.Contents.{Contents, Settings, entries, bucket_count, lists_of, pending_of, notes_of, settings_of, waiting_of}
 use Rattle.scc_common.specs.Routing.{bucket_number}
 use Rattle.scc_common.specs.Sizes.{IsLawful}
 use Rattle.scc_buckets.specs.Writes as writes
@@ -111,7 +111,7 @@ any-some None p = tt
 any-some (Some x) p = p
 
 -- the result of a get in a bucket that was relocated first: a is the cache before the relocation, b the cache after it
-module _ {K V S : Type 0} (hash : Settings S → K → ℕ) (eq : K → K → Bool) (a b d : Cached (K × V) S) (k : K) (lists : lists_of b.contents ≡ lists_of a.contents) (settings : settings_of b.contents ≡ settings_of a.contents) (refused : refused_of b.contents ≡ refused_of a.contents) (maximum : b.maximum ≡ a.maximum) where
+module _ {K V S : Type 0} (hash : Settings S → K → ℕ) (eq : K → K → Bool) (a b d : Cached (K × V) S) (k : K) (lists : lists_of b.contents ≡ lists_of a.contents) (settings : settings_of b.contents ≡ settings_of a.contents) (refused : notes_of b.contents ≡ notes_of a.contents) (maximum : b.maximum ≡ a.maximum) where
   changes-from : (p : K × V) → ChangesLists (Refreshes (list_number (hash (settings_of b.contents)) b.contents) eq k p) b d → ChangesLists (Refreshes (list_number (hash (settings_of a.contents)) a.contents) eq k p) a d
   changes-from p c = record {
     lists =

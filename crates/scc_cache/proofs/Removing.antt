@@ -4,7 +4,7 @@ use Rattle.std.specs.Borrow.{MutBor}
 use Rattle.std.specs.Cmp.{IsEquivalence}
 use Rattle.std.specs.Fn.{Once, FnOnceReturnsAtMut}
 use Rattle.std.specs.List.{remove, slice_get, slice_set, slice_index_or}
-use Rattle.scc_common.specs.Contents.{Contents, Settings, entries, bucket_count, list_of, lists_of, settings_of, refused_of}
+use Rattle.scc_common.specs.Contents.{Contents, Settings, entries, bucket_count, list_of, lists_of, settings_of, notes_of}
 use Rattle.scc_common.specs.Pairs.{find, with_pair_value, FindsInstead, IsUnique}
 use Rattle.scc_array.specs.ShelfWrites.{write_at}
 use Rattle.scc_buckets.specs.Writes.{with_write_at_spot}
@@ -54,7 +54,7 @@ module _ {K V S : Type 0} {hash : K → ℕ} {eq : K → K → Bool} (c : Cached
 -- a removal of the pair of k after a write of its value is a removal of the pair of k
 pub takes-written : {K V S : Type 0} (hash : Settings S → K → ℕ) (eq : K → K → Bool) (c : Cached (K × V) S) (k : K) (p : Place) (f : IsFound (hash (settings_of c.contents)) eq c.contents k p) (w : V) (d : Cached (K × V) S)
     → TakesAt (hash (settings_of (with_value_at c p w).contents)) (with_value_at c p w) p d → TakesThen (hash (settings_of c.contents)) eq c k f.pair d
-unfolding bucket_count lists_of list_of settings_of refused_of with_write_at_spot
+unfolding bucket_count lists_of list_of settings_of notes_of with_write_at_spot
 takes-written hash eq c k p f w d (left, change, shrinks) =
     let ls = c.contents.lists in
     let r = spot_of c.contents p in

@@ -5,7 +5,7 @@ use Rattle.std.proofs.lemmas.List.{append-nil}
 use Rattle.std.proofs.lemmas.List.Elements.{filter-append}
 use Rattle.std.proofs.lemmas.List.Sorted.{IsPermutation-refl}
 use Rattle.scc_buckets.specs.Bounded.{IsListed}
-use Rattle.scc_common.specs.Contents.{Contents, Settings, entries, bucket_count, list_of, refused_of, settings_of, waiting_of}
+use Rattle.scc_common.specs.Contents.{Contents, Settings, entries, bucket_count, list_of, notes_of, settings_of, waiting_of}
 use Rattle.scc_buckets.specs.Pour.{destined_for}
 use Rattle.scc_common.specs.Routing.{bucket_number}
 use Rattle.scc_common.specs.Steps.{HoldsExactly}
@@ -75,7 +75,7 @@ module _ {K V S : Type 0} (hash : K → ℕ) where
   goes-over c h = record { same = IsPermutation-refl (entries c); order = listed-bound (λ p. hash p.0) c h }
 
   -- if a walk in the order of the pairs left the pairs es, d is the cache that the walk leaves
-  pub leaves-pairs : (c d : Cached (K × V) S) (es : List (K × V)) → IsListed (λ p. hash p.0) d.contents → HoldsExactly c.contents es d.contents → refused_of d.contents ≡ refused_of c.contents → d.maximum ≡ c.maximum → LeavesPairs hash c es d
+  pub leaves-pairs : (c d : Cached (K × V) S) (es : List (K × V)) → IsListed (λ p. hash p.0) d.contents → HoldsExactly c.contents es d.contents → notes_of d.contents ≡ notes_of c.contents → d.maximum ≡ c.maximum → LeavesPairs hash c es d
   leaves-pairs c d es h held refused maximum = record {
     buckets = held.buckets;
     pairs = subst (λ z. GoesOver hash d.contents z) held.exact (goes-over d.contents h);
@@ -87,13 +87,13 @@ module _ {K V S : Type 0} (hash : K → ℕ) where
 -- d is the cache after a call at a place
 pub record Stepped {K V S : Type 0} (c : Cached (K × V) S) (p : Place) (q : K × V) (w : V) (d : Cached (K × V) S) : Type 0 where
   pub now : Visited c.contents (spot_of c.contents p) q w d.contents
-  pub refused : refused_of d.contents ≡ refused_of c.contents
+  pub refused : notes_of d.contents ≡ notes_of c.contents
   pub maximum : d.maximum ≡ c.maximum
   pub made : d.contents ≡ (with_value_at c p w).contents
   pub waiting : waiting_of d.contents ≡ waiting_of c.contents
 
 pub visits : {K V S : Type 0} (c : Cached (K × V) S) (p : Place) (q : K × V) (w : V) (d : Cached (K × V) S) → IsPlace c.contents p → slice_get (entries c.contents) (index_of c.contents p) ≡ Some q → d ≡ with_value_at c p w → Stepped c p q w d
-unfolding refused_of waiting_of with_write_at_spot
+unfolding notes_of waiting_of with_write_at_spot
 visits c p q w d within got new = record {
   now = visited c.contents (spot_of c.contents p) q w d.contents within got (ap (λ x. x.contents) new);
   refused = ap (λ x. x.contents.refused) new;

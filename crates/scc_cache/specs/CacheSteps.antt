@@ -4,7 +4,7 @@ use Rattle.std.specs.List.{position, slice_index_or, slice_set}
 use Rattle.std.specs.Borrow.{Bor}
 use Rattle.std.specs.Fn.{Once}
 use Rattle.scc_buckets.specs.Bounded.{IsListed, ShrinksBounded}
-use Rattle.scc_common.specs.Contents.{Contents, entries, bucket_count, list_of, lists_of, pending_of, refused_of, settings_of, waiting_of, IsMarked, IsNoteUp, note_of}
+use Rattle.scc_common.specs.Contents.{Contents, entries, bucket_count, list_of, lists_of, pending_of, notes_of, settings_of, waiting_of, IsMarked, IsNoteUp, note_of}
 use Rattle.scc_common.specs.Routing.{bucket_number}
 use Rattle.scc_buckets.specs.declared.place.Place.{Place}
 use Rattle.scc_table.specs.Bounded.{GrowsBelow, IsPreparedBelow}
@@ -19,14 +19,14 @@ module _ {E S : Type 0} where
   pub record ChangesLists (R : List (List E) → List (List E) → Type 0) (c d : Cached E S) : Type 0 where
     pub lists : R (lists_of c.contents) (lists_of d.contents)
     pub settings : settings_of d.contents ≡ settings_of c.contents
-    pub refused : refused_of d.contents ≡ refused_of c.contents
+    pub refused : notes_of d.contents ≡ notes_of c.contents
     pub maximum : d.maximum ≡ c.maximum
 
   -- the lists change as R says; the settings, the maximum and the note stay, and the mark goes
   pub record ChangesListsUnmarked (R : List (List E) → List (List E) → Type 0) (c d : Cached E S) : Type 0 where
     pub lists : R (lists_of c.contents) (lists_of d.contents)
     pub settings : settings_of d.contents ≡ settings_of c.contents
-    pub refused : refused_of d.contents ≡ (note_of c.contents, false)
+    pub refused : notes_of d.contents ≡ (note_of c.contents, false)
     pub maximum : d.maximum ≡ c.maximum
 
   -- the growth that comes first if a new pair goes to list i

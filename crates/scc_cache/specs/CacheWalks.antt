@@ -3,7 +3,7 @@ use Rattle.std.specs.Prelude.{◌≡◌, ℕ, ◌<◌, Bool, true, false, List, 
 use Rattle.std.specs.Borrow.{MutBor}
 use Rattle.std.specs.Fn.{Once, FnOnceReturnsAtMut}
 use Rattle.std.specs.List.Sorted.{IsPermutation}
-use Rattle.scc_common.specs.Contents.{Contents, entries, bucket_count, list_of, refused_of, settings_of}
+use Rattle.scc_common.specs.Contents.{Contents, entries, bucket_count, list_of, notes_of, settings_of}
 use Rattle.scc_buckets.specs.Pour.{destined_for}
 use Rattle.scc_cache.specs.CacheSteps.{ChangesLists, IsAbsent, ShrinksTo, TakesThen, list_number}
 use Rattle.scc_cache.specs.Caches.{Cached}
@@ -21,7 +21,7 @@ module _ {K V S : Type 0} (hash : K → ℕ) where
     pub buckets : bucket_count d.contents ≡ bucket_count c.contents
     pub pairs : GoesOver d.contents es
     pub settings : settings_of d.contents ≡ settings_of c.contents
-    pub refused : refused_of d.contents ≡ refused_of c.contents
+    pub refused : notes_of d.contents ≡ notes_of c.contents
     pub maximum : d.maximum ≡ c.maximum
 
   -- the array may shrink if a pair was taken

@@ -2,7 +2,7 @@
 use Rattle.std.specs.Prelude.{◌≡◌, ℕ, ◌*◌, ◌<◌, Bool, false, List, [], length, max, Option, Result}
 use Rattle.std.specs.List.{FoldsTo}
 use Rattle.std.specs.Result.{OnOk}
-use Rattle.scc_common.specs.Contents.{Contents, entries, bucket_count, settings_of, refused_of, waiting_of}
+use Rattle.scc_common.specs.Contents.{Contents, entries, bucket_count, settings_of, notes_of, waiting_of}
 use Rattle.scc_common.specs.Sizes.{IsArraySize}
 use Rattle.scc_common.specs.declared.errors.InsertError.{InsertError}
 use Rattle.scc_cache.specs.Caches.{Cached}
@@ -36,7 +36,7 @@ module _ {K V S : Type 0} (eq : K → K → Bool) (hash : Contents (K × V) S �
     pub asked : (settings_of made.contents).asked ≡ 32 * bucket_count made.contents
     pub reserved : (settings_of made.contents).reserved ≡ 0
     pub skipped : (settings_of made.contents).skipped ≡ 0
-    pub noted : refused_of made.contents ≡ (false, false)
+    pub noted : notes_of made.contents ≡ (false, false)
     pub waiting : waiting_of made.contents ≡ []
     pub settings : settings_of d.contents ≡ settings_of made.contents
     pub most : d.maximum ≡ made.maximum

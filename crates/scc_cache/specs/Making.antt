@@ -1,6 +1,6 @@
 -- What a newly made cache holds.
 use Rattle.std.specs.Prelude.{◌≡◌, ℕ, ◌*◌, ◌<◌, false, [], max, Result, IsOk, IfOk}
-use Rattle.scc_common.specs.Contents.{entries, bucket_count, settings_of, refused_of, waiting_of}
+use Rattle.scc_common.specs.Contents.{entries, bucket_count, settings_of, notes_of, waiting_of}
 use Rattle.scc_common.specs.Sizes.{IsArraySize}
 use Rattle.scc_cache.specs.Caches.{Cached}
 
@@ -16,7 +16,7 @@ module _ {E S : Type 0} where
     -- the maximum is 256 slots
     pub maximum : c.maximum ≡ 256
     -- no resize is noted as refused, and none is marked
-    pub noted : refused_of c.contents ≡ (false, false)
+    pub noted : notes_of c.contents ≡ (false, false)
     -- no bucket waits
     pub waiting : waiting_of c.contents ≡ []
 
@@ -36,6 +36,6 @@ module _ {E S : Type 0} where
     -- it succeeds if no slots were asked for
     pub succeeds : capacity ≡ 0 → IsOk result
     -- no resize is noted as refused, and none is marked
-    pub noted : IfOk result (λ c. refused_of c.contents ≡ (false, false))
+    pub noted : IfOk result (λ c. notes_of c.contents ≡ (false, false))
     -- no bucket waits
     pub waiting : IfOk result (λ c. waiting_of c.contents ≡ [])

@@ -5,7 +5,7 @@ use Rattle.std.specs.Result.{OnErr}
 use Rattle.std.specs.Vec.{vec_len, vec_capacity}
 use Rattle.std.specs.declared.vec.Vec.{Vec}
 use Rattle.scc_buckets.specs.declared.place.Place.{Place}
-use Rattle.scc_common.specs.Contents.{entries, refused_of, settings_of, waiting_of}
+use Rattle.scc_common.specs.Contents.{entries, notes_of, settings_of, waiting_of}
 use Rattle.scc_common.specs.Pairs.{IsUnique}
 use Rattle.scc_common.specs.Steps.{HoldsExactly}
 use Rattle.scc_table.specs.Places.{StandsAt, index_of}
@@ -37,7 +37,7 @@ module _ {K V S Z X : Type 0} where
     -- what it does to the pairs
     pub step : Step
     -- note and mark stay
-    pub refused : refused_of d.contents ≡ refused_of c.contents
+    pub refused : notes_of d.contents ≡ notes_of c.contents
     -- the maximum stays
     pub maximum : d.maximum ≡ c.maximum
     -- the same buckets wait as before
@@ -56,7 +56,7 @@ module _ {K V S : Type 0} where
     -- the others stay in their order
     pub others : HoldsExactly c.contents (remove (entries c.contents) (index_of c.contents place)) d.contents
     -- note and mark stay
-    pub refused : refused_of d.contents ≡ refused_of c.contents
+    pub refused : notes_of d.contents ≡ notes_of c.contents
     -- the maximum stays
     pub maximum : d.maximum ≡ c.maximum
     -- the same buckets wait as before
@@ -72,7 +72,7 @@ module _ {K V S : Type 0} where
     -- the others stay in their order
     pub others : HoldsExactly c.contents (remove (entries c.contents) (index_of c.contents place)) d.contents
     -- note and mark stay
-    pub refused : refused_of d.contents ≡ refused_of c.contents
+    pub refused : notes_of d.contents ≡ notes_of c.contents
     -- the maximum stays
     pub maximum : d.maximum ≡ c.maximum
     -- the same buckets wait as before

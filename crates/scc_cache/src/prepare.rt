@@ -1,7 +1,7 @@
 //! What a put would have to make first, made before it, and what the put would evict.
 ghost use Rattle.scc_cache.specs.CacheSteps.{DrivesNoneOut, DrivesOut, IsAbsent, IsPresent, PreparesPut};
 ghost use Rattle.scc_cache.specs.Caches.{IsCacheState};
-ghost use Rattle.scc_common.specs.Contents.{bucket_count, hash_in, list_of, lists_of, refused_of, settings_of, waiting_of, note_of};
+ghost use Rattle.scc_common.specs.Contents.{bucket_count, hash_in, list_of, lists_of, notes_of, settings_of, waiting_of, note_of};
 ghost use Rattle.scc_common.specs.Routing.{bucket_number};
 ghost use Rattle.std.specs.Prelude.{◌≡◌, ◌<◌, ◌≤◌, false, length, Some, IsOk, IfSome, IfNone, slice_get};
 ghost use Rattle.std.specs.Result.{OnErr, OnOk};
@@ -43,7 +43,7 @@ impl<K: Eq + Hash, V, H: BuildHasher> Owned<K, V, H> {
     pub fn drop_room(&mut self)
         ensures lists { lists_of self.new.contents ≡ lists_of self.old.contents }
         ensures settings { settings_of self.new.contents ≡ settings_of self.old.contents }
-        ensures noted { refused_of self.new.contents ≡ (note_of self.old.contents, false) }
+        ensures noted { notes_of self.new.contents ≡ (note_of self.old.contents, false) }
         ensures waiting { waiting_of self.new.contents ≡ waiting_of self.old.contents }
         ensures maximum { self.new.maximum ≡ self.old.maximum }
         ensures state { IsCacheState K.eq (hash_in ⟦<H as Hashes<K>>⟧.hash_of self.new.contents) self.new }

@@ -7,7 +7,7 @@ use Rattle.scc_common.specs.Contents.{Contents, entries, bucket_count}
 use Rattle.scc_common.specs.Sizes.{IsBucketCount}
 use Rattle.scc_common.specs.Steps.{Holds, HoldsExactly, IsUnchanged, KeepsSize}
 use Rattle.scc_calls.specs.Resized.{MovesResized}
-use Rattle.scc_calls.specs.States.{State, ResizesTo, state_of, setting_of}
+use Rattle.scc_calls.specs.States.{State, ResizesTo, state_of, run_setting}
 
 module _ {E H : Type 0} where
   pub unchanged-state : (c d : Contents E H) → IsUnchanged c d → state_of d ≡ state_of c
@@ -20,11 +20,11 @@ module _ {E H : Type 0} where
     -- a call that may turn the entries into es with any number of buckets is one call with at most one resize
     pub holds-changes : (c d : Contents E H) (es : List E) → Holds c es d
         → ((number : ℕ) (l : List E) → IsPermutation es l → moves (entries c, number) call reply (l, number))
-        → MovesResized (λ s. s.1) moves (ResizesTo (setting_of c)) (state_of c) call reply (state_of d)
+        → MovesResized (λ s. s.1) moves (ResizesTo (run_setting c)) (state_of c) call reply (state_of d)
     holds-changes c d es h m =
-        elim (cases_order (bucket_count d) (bucket_count c)) as (λ _. MovesResized (λ (s : State E). s.1) moves (ResizesTo (setting_of c)) (state_of c) call reply (state_of d)) [
+        elim (cases_order (bucket_count d) (bucket_count c)) as (λ _. MovesResized (λ (s : State E). s.1) moves (ResizesTo (run_setting c)) (state_of c) call reply (state_of d)) [
           | inl e ↦ inl (e, let P : ℕ → Type 0 = λ n. moves (state_of c) call reply (entries d, n) in subst P (sym e) (m (bucket_count c) (entries d) h.same))
-          | inr o ↦ elim o as (λ _. MovesResized (λ (s : State E). s.1) moves (ResizesTo (setting_of c)) (state_of c) call reply (state_of d)) [
+          | inr o ↦ elim o as (λ _. MovesResized (λ (s : State E). s.1) moves (ResizesTo (run_setting c)) (state_of c) call reply (state_of d)) [
             | inl less ↦ inr (inr (
               less,
               (
@@ -46,10 +46,10 @@ module _ {E H : Type 0} where
 
     -- a call that changes nothing
     pub unchanged-changes : (c d : Contents E H) → IsUnchanged c d → (state_of d ≡ state_of c → moves (state_of c) call reply (state_of d))
-        → MovesResized (λ s. s.1) moves (ResizesTo (setting_of c)) (state_of c) call reply (state_of d)
+        → MovesResized (λ s. s.1) moves (ResizesTo (run_setting c)) (state_of c) call reply (state_of d)
     unchanged-changes c d h m = inl (h.buckets, m (unchanged-state c d h))
 
     -- a call that changes entries in their places
     pub exactly-changes : (c d : Contents E H) (es : List E) → HoldsExactly c es d → (entries d ≡ es → bucket_count d ≡ bucket_count c → moves (state_of c) call reply (state_of d))
-        → MovesResized (λ s. s.1) moves (ResizesTo (setting_of c)) (state_of c) call reply (state_of d)
+        → MovesResized (λ s. s.1) moves (ResizesTo (run_setting c)) (state_of c) call reply (state_of d)
     exactly-changes c d es h m = inl (h.buckets, m h.exact h.buckets)

@@ -8,13 +8,13 @@ use Rattle.scc_calls.specs.Copies.{MayNotClone}
 abbrev pub MayNotReply : {S C R : Type 0} → (S → ℕ) → (S → ℕ → S → Type 0) → (S → C → R) → (R → Type 0) → S → C → Type 0
 MayNotReply {S} size resizes answer is_infallible s call = (t : S) × Stays size resizes s t × MayNotClone is_infallible (answer t call)
 
-module _ {T G S K C R X : Type 0} (setting_of : T → G) (state_of : T → S) (size : S → ℕ) (key_of : C → Option K) (gives : G → S → C → R) (resizes : G → S → ℕ → S → Type 0) (may_refuse : G → S → C → Type 0) (may_add : C → Type 0) (is_prepared : T → C → R → Type 0) (is_infallible : R → Type 0) where
+module _ {T G S K C R X : Type 0} (run_setting : T → G) (state_of : T → S) (size : S → ℕ) (key_of : C → Option K) (gives : G → S → C → R) (resizes : G → S → ℕ → S → Type 0) (may_refuse : G → S → C → Type 0) (may_add : C → Type 0) (is_prepared : T → C → R → Type 0) (is_infallible : R → Type 0) where
   -- what `ready` of the call, with this result, does to the container c, which becomes d
   pub record PreparesCallByRule (is_marked : T → Bool) (c : T) (call : C) (result : Result (R × R) X) (d : T) : Type 0 where
     -- the setting stays
-    pub setting : setting_of d ≡ setting_of c
+    pub setting : run_setting d ≡ run_setting c
     -- the state stays, or one resize was made
-    pub stays : Stays size (resizes (setting_of c)) (state_of c) (state_of d)
+    pub stays : Stays size (resizes (run_setting c)) (state_of c) (state_of d)
     -- the number of buckets doesn't fall
     pub grows : size (state_of c) ≤ size (state_of d)
     -- the number of buckets changes only if the call may add a key
@@ -23,24 +23,24 @@ module _ {T G S K C R X : Type 0} (setting_of : T → G) (state_of : T → S) (s
     pub ready : IfOk result (λ r. is_prepared d call r.0 × is_prepared d call r.1)
     -- it fails only if memory for the call may be refused, or if the call has a key and a clone of its reply may be
     -- refused
-    pub refused : OnErr result (may_refuse (setting_of c) (state_of c) call ⊎ (IsSome (key_of call) × MayNotClone is_infallible (gives (setting_of d) (state_of d) call)))
+    pub refused : OnErr result (may_refuse (run_setting c) (state_of c) call ⊎ (IsSome (key_of call) × MayNotClone is_infallible (gives (run_setting d) (state_of d) call)))
     -- if it fails, it leaves no mark but one that was there before
     pub unmarked : OnErr result (is_marked d ≡ true → is_marked c ≡ true)
     -- if memory for the call may be refused in the state of d, it may be refused in the state of c
-    pub still : may_refuse (setting_of c) (state_of d) call → may_refuse (setting_of c) (state_of c) call
+    pub still : may_refuse (run_setting c) (state_of d) call → may_refuse (run_setting c) (state_of c) call
 
   -- what the call, with this result, does to the container c, which becomes d. `moves` relates states by the call and
   -- its reply; `eq` says which replies are equal
   pub record CallsByRule (moves : G → S → C → R → S → Type 0) (eq : R → R → Bool) (c : T) (call : C) (result : Result R X) (d : T) : Type 0 where
     -- the setting stays
-    pub setting : setting_of d ≡ setting_of c
+    pub setting : run_setting d ≡ run_setting c
     -- if it succeeds, this very call was made with this very reply, and with at most one resize
-    pub ok : IfOk result (λ r. MovesResized size (moves (setting_of c)) (resizes (setting_of c)) (state_of c) call r (state_of d))
+    pub ok : IfOk result (λ r. MovesResized size (moves (run_setting c)) (resizes (run_setting c)) (state_of c) call r (state_of d))
     -- if it fails, the state stays, or one resize was made
-    pub err : OnErr result (Stays size (resizes (setting_of c)) (state_of c) (state_of d))
+    pub err : OnErr result (Stays size (resizes (run_setting c)) (state_of c) (state_of d))
     -- it fails only if memory for the call may be refused, or if the call has a key and a clone of its reply may be
     -- refused
-    pub refused : OnErr result (may_refuse (setting_of c) (state_of c) call ⊎ (IsSome (key_of call) × MayNotClone is_infallible (gives (setting_of c) (state_of c) call)))
+    pub refused : OnErr result (may_refuse (run_setting c) (state_of c) call ⊎ (IsSome (key_of call) × MayNotClone is_infallible (gives (run_setting c) (state_of c) call)))
     -- if the call was prepared with a copy, its reply equals the copy
     pub answer : (copy : R) → is_prepared c call copy → IfOk result (λ r. eq r copy ≡ true)
     -- if the call was prepared, it makes no growth

@@ -9,7 +9,7 @@ use Rattle.scc_calls.specs.Resized.{Stays}
 use Rattle.scc_calls.specs.IndexCalls.{index_adds, IndexIsMade, IndexIsMadeFor, IndexMayRefuse}
 use Rattle.scc_calls.specs.MapCalls.{map_adds, MapIsMade, MapIsMadeFor, MapMayRefuse, MapRefuses}
 use Rattle.scc_calls.specs.SetCalls.{set_adds, SetIsMade, SetIsMadeFor, SetMayRefuse, SetRefuses}
-use Rattle.scc_calls.specs.States.{State, ResizesTo, setting_of, state_of}
+use Rattle.scc_calls.specs.States.{State, ResizesTo, run_setting, state_of}
 use Rattle.scc_calls.specs.declared.calls_as_values.CacheCall.{CacheCall}
 use Rattle.scc_calls.specs.declared.calls_as_values.IndexCall.{IndexCall}
 use Rattle.scc_calls.specs.declared.calls_as_values.MapCall.{MapCall}
@@ -59,19 +59,19 @@ module _ {G S X R : Type 0} (size : S → ℕ) (resizes : S → ℕ → S → Ty
 module _ {K V H X R : Type 0} (eq : K → K → Bool) (hash : H → K → ℕ) where
   -- what the preparation of the insertion of k into a map does
   abbrev pub MapPreparesKey : Contents (K × V) H → K → Result X R → Contents (K × V) H → Type 0
-  MapPreparesKey c k result d = PreparesKey (λ (s : State (K × V)). s.1) (ResizesTo (setting_of c)) (MapIsMadeFor eq (hash (settings_of d).hasher) d k) (IsMarked d → IsMarked c) (λ s. MapRefuses eq hash (setting_of c) s k) (settings_of c) (state_of c) result (settings_of d) (state_of d)
+  MapPreparesKey c k result d = PreparesKey (λ (s : State (K × V)). s.1) (ResizesTo (run_setting c)) (MapIsMadeFor eq (hash (settings_of d).hasher) d k) (IsMarked d → IsMarked c) (λ s. MapRefuses eq hash (run_setting c) s k) (settings_of c) (state_of c) result (settings_of d) (state_of d)
 
   -- what the preparation of a call of a map does
   abbrev pub MapPreparesCall : Contents (K × V) H → MapCall K V → Result X R → Contents (K × V) H → Type 0
-  MapPreparesCall c call result d = PreparesCall (λ (s : State (K × V)). s.1) (ResizesTo (setting_of c)) (MapIsMade eq (hash (settings_of d).hasher) d call) (map_adds call) (IsMarked d → IsMarked c) (λ s. MapMayRefuse eq hash (setting_of c) s call) (settings_of c) (state_of c) result (settings_of d) (state_of d)
+  MapPreparesCall c call result d = PreparesCall (λ (s : State (K × V)). s.1) (ResizesTo (run_setting c)) (MapIsMade eq (hash (settings_of d).hasher) d call) (map_adds call) (IsMarked d → IsMarked c) (λ s. MapMayRefuse eq hash (run_setting c) s call) (settings_of c) (state_of c) result (settings_of d) (state_of d)
 
   -- what the preparation of the insertion of k into an index does
   abbrev pub IndexPreparesKey : Contents (K × V) H → K → Result X R → Contents (K × V) H → Type 0
-  IndexPreparesKey c k result d = PreparesKey (λ (s : State (K × V)). s.1) (ResizesTo (setting_of c)) (IndexIsMadeFor eq (hash (settings_of d).hasher) d k) (IsMarked d → IsMarked c) (λ s. find eq s.0 k ≡ None) (settings_of c) (state_of c) result (settings_of d) (state_of d)
+  IndexPreparesKey c k result d = PreparesKey (λ (s : State (K × V)). s.1) (ResizesTo (run_setting c)) (IndexIsMadeFor eq (hash (settings_of d).hasher) d k) (IsMarked d → IsMarked c) (λ s. find eq s.0 k ≡ None) (settings_of c) (state_of c) result (settings_of d) (state_of d)
 
   -- what the preparation of a call of an index does
   abbrev pub IndexPreparesCall : Contents (K × V) H → IndexCall K V → Result X R → Contents (K × V) H → Type 0
-  IndexPreparesCall c call result d = PreparesCall (λ (s : State (K × V)). s.1) (ResizesTo (setting_of c)) (IndexIsMade eq (hash (settings_of d).hasher) d call) (index_adds call) (IsMarked d → IsMarked c) (λ s. IndexMayRefuse eq s call) (settings_of c) (state_of c) result (settings_of d) (state_of d)
+  IndexPreparesCall c call result d = PreparesCall (λ (s : State (K × V)). s.1) (ResizesTo (run_setting c)) (IndexIsMade eq (hash (settings_of d).hasher) d call) (index_adds call) (IsMarked d → IsMarked c) (λ s. IndexMayRefuse eq s call) (settings_of c) (state_of c) result (settings_of d) (state_of d)
 
   -- what the preparation of a call of a cache does
   abbrev pub CachePreparesCall : Cached (K × V) H → CacheCall K V → Result X R → Cached (K × V) H → Type 0
@@ -80,8 +80,8 @@ module _ {K V H X R : Type 0} (eq : K → K → Bool) (hash : H → K → ℕ) w
 module _ {K H X R : Type 0} (eq : K → K → Bool) (hash : H → K → ℕ) where
   -- what the preparation of the insertion of k into a set does
   abbrev pub SetPreparesKey : Contents K H → K → Result X R → Contents K H → Type 0
-  SetPreparesKey c k result d = PreparesKey (λ (s : State K). s.1) (ResizesTo (setting_of c)) (SetIsMadeFor eq (hash (settings_of d).hasher) d k) (IsMarked d → IsMarked c) (λ s. SetRefuses eq hash (setting_of c) s k) (settings_of c) (state_of c) result (settings_of d) (state_of d)
+  SetPreparesKey c k result d = PreparesKey (λ (s : State K). s.1) (ResizesTo (run_setting c)) (SetIsMadeFor eq (hash (settings_of d).hasher) d k) (IsMarked d → IsMarked c) (λ s. SetRefuses eq hash (run_setting c) s k) (settings_of c) (state_of c) result (settings_of d) (state_of d)
 
   -- what the preparation of a call of a set does
   abbrev pub SetPreparesCall : Contents K H → SetCall K → Result X R → Contents K H → Type 0
-  SetPreparesCall c call result d = PreparesCall (λ (s : State K). s.1) (ResizesTo (setting_of c)) (SetIsMade eq (hash (settings_of d).hasher) d call) (set_adds call) (IsMarked d → IsMarked c) (λ s. SetMayRefuse eq hash (setting_of c) s call) (settings_of c) (state_of c) result (settings_of d) (state_of d)
+  SetPreparesCall c call result d = PreparesCall (λ (s : State K). s.1) (ResizesTo (run_setting c)) (SetIsMade eq (hash (settings_of d).hasher) d call) (set_adds call) (IsMarked d → IsMarked c) (λ s. SetMayRefuse eq hash (run_setting c) s call) (settings_of c) (state_of c) result (settings_of d) (state_of d)

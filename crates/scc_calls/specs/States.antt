@@ -10,8 +10,8 @@ abbrev pub State : Type 0 → Type 0
 State E = List E × ℕ
 
 -- what no call changes
-abbrev pub setting_by : {H : Type 0} → Settings H → Setting H
-setting_by s = record { hasher = s.hasher; skipped = s.skipped; minimum = s.asked + s.reserved; maximum = 0 }
+abbrev pub run_setting_by : {H : Type 0} → Settings H → Setting H
+run_setting_by s = record { hasher = s.hasher; skipped = s.skipped; minimum = s.asked + s.reserved; maximum = 0 }
 
 module _ {E H : Type 0} where
   -- the state of a container: its entries and its number of buckets
@@ -19,8 +19,8 @@ module _ {E H : Type 0} where
   state_of c = (entries c, bucket_count c)
 
   -- the setting of a container: what a run must know of its settings
-  abbrev pub setting_of : Contents E H → Setting H
-  setting_of c = setting_by (settings_of c)
+  abbrev pub run_setting : Contents E H → Setting H
+  run_setting c = run_setting_by (settings_of c)
 
   -- a resize to `number` buckets: the same entries in some order; `number` is lawful and, if it is lower than before,
   -- not below the minimum

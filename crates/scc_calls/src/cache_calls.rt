@@ -29,7 +29,7 @@ impl<K: Eq + Hash + Clone, V: Clone + PartialEq, H: BuildHasher> Calls for Owned
     ghost use Rattle.scc_common.specs.Contents.{lists_of};
     ghost use Rattle.scc_common.specs.Hashing.{hash_of};
     ghost use Rattle.scc_common.specs.Sizes.{IsArraySize};
-    ghost use Rattle.scc_common.specs.Contents.{key_hash, refused_of};
+    ghost use Rattle.scc_common.specs.Contents.{key_hash, notes_of};
     ghost use Rattle.scc_calls.specs.CacheCalls.{cache_adds, cache_answer, cache_key, cache_setting, keys_in, number_by, CacheIsPrepared, CacheMoves, CacheMayRefuse, CacheResizes};
     ghost use Rattle.scc_calls.specs.Copies.{Answers, Means};
     ghost use Rattle.scc_calls.specs.Means.{means_alike, means_answer, means_keeps, means_whole};

@@ -33,13 +33,13 @@ impl<K: Eq + Hash + Clone, V: Clone + PartialEq, H: BuildHasher> Calls for Owned
     ghost use Rattle.scc_calls.specs.Stems.{index_stems_alike, IndexStems};
     ghost use Rattle.std.proofs.Common.{refl, rules};
     ghost use Rattle.scc_common.specs.Contents.{key_hash, mark_of};
-    ghost use Rattle.scc_calls.specs.States.{State, state_of, setting_of, ResizesTo};
+    ghost use Rattle.scc_calls.specs.States.{State, state_of, run_setting, ResizesTo};
 
     ghost State = { State (K × V) };
 
     ghost Whole = { List (K × V) };
 
-    ghost setting = { setting_of };
+    ghost setting = { run_setting };
 
     ghost state = { state_of };
 

@@ -34,16 +34,16 @@ impl<K: Eq + Hash + Clone, H: BuildHasher> Calls for Owned<K, H> {
     ghost use Rattle.scc_calls.specs.Means.{means_alike, means_answer, means_keeps, means_whole};
     ghost use Rattle.scc_calls.specs.Stems.{set_stems_alike, SetStems};
     ghost use Rattle.std.proofs.Common.{refl, rules};
-    ghost use Rattle.scc_common.specs.Contents.{key_hash, refused_of};
+    ghost use Rattle.scc_common.specs.Contents.{key_hash, notes_of};
     ghost use Rattle.scc_calls.specs.SetLaws.{set_call_is_whole, set_call_keeps, set_resize_keeps};
     ghost use Rattle.scc_calls.specs.SetWhole.{SetWholeMoves};
-    ghost use Rattle.scc_calls.specs.States.{State, state_of, setting_of, ResizesTo};
+    ghost use Rattle.scc_calls.specs.States.{State, state_of, run_setting, ResizesTo};
 
     ghost State = { State K };
 
     ghost Whole = { List K };
 
-    ghost setting = { setting_of };
+    ghost setting = { run_setting };
 
     ghost state = { state_of };
 

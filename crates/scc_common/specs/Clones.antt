@@ -2,7 +2,7 @@
 use Rattle.std.specs.Prelude.{◌≡◌, ◌*◌, List, ◌++◌}
 use Rattle.std.specs.List.{AllZip}
 use Rattle.std.specs.List.Sorted.{IsPermutation}
-use Rattle.scc_common.specs.Contents.{Contents, entries, bucket_count, refused_of, settings_of}
+use Rattle.scc_common.specs.Contents.{Contents, entries, bucket_count, notes_of, settings_of}
 
 module _ {E S : Type 0} where
   -- clones of the sources, by C, are added to the entries of c, and nothing else changes
@@ -12,7 +12,7 @@ module _ {E S : Type 0} where
     pub same : IsPermutation (copies ++ entries c) (entries d)
     pub buckets : bucket_count d ≡ bucket_count c
     pub settings : settings_of d ≡ settings_of c
-    pub noted : refused_of d ≡ refused_of c
+    pub noted : notes_of d ≡ notes_of c
 
   -- d has a clone of each entry of c, by C, in some order, and a clone of its hasher, by B; d has the number of buckets
   -- and the skipped bits of c, all its slots are asked for, and none are reserved

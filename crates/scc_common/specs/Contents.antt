@@ -50,32 +50,32 @@ module _ {E S : Type 0} where
 
   -- the note, which says that memory for the last resize that was due was refused, and the mark, which says that the
   -- next insertion doesn't try the growth
-  unfoldable pub refused_of : Contents E S → Bool × Bool
-  refused_of c = c.refused
+  unfoldable pub notes_of : Contents E S → Bool × Bool
+  notes_of c = c.refused
 
   -- the note: memory for the last resize that was due was refused
   abbrev pub note_of : Contents E S → Bool
-  note_of c = (refused_of c).0
+  note_of c = (notes_of c).0
 
   -- the mark: the next insertion doesn't try the growth
   abbrev pub mark_of : Contents E S → Bool
-  mark_of c = (refused_of c).1
+  mark_of c = (notes_of c).1
 
   -- the note is up
   abbrev pub IsNoteUp : Contents E S → Type 0
-  IsNoteUp c = (refused_of c).0 ≡ true
+  IsNoteUp c = (notes_of c).0 ≡ true
 
   -- the note is down
   abbrev pub IsNoteDown : Contents E S → Type 0
-  IsNoteDown c = (refused_of c).0 ≡ false
+  IsNoteDown c = (notes_of c).0 ≡ false
 
   -- a growth is marked
   abbrev pub IsMarked : Contents E S → Type 0
-  IsMarked c = (refused_of c).1 ≡ true
+  IsMarked c = (notes_of c).1 ≡ true
 
   -- no growth is marked
   abbrev pub IsUnmarked : Contents E S → Type 0
-  IsUnmarked c = (refused_of c).1 ≡ false
+  IsUnmarked c = (notes_of c).1 ≡ false
 
   -- the entries of bucket i, in order
   unfoldable pub list_of : Contents E S → ℕ → List E

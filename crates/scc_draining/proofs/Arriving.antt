@@ -6,7 +6,7 @@ use Rattle.std.proofs.lemmas.List.{map-set, length-map, get_or-map, set-get_or}
 use Rattle.std.proofs.lemmas.List.Elements.{filter_passes, All-get_or}
 use Rattle.scc_array.specs.Shelf.{Shelf, shelf_entries, empty_shelf}
 use Rattle.scc_buckets.proofs.Bare.{nil-left}
-use Rattle.scc_common.specs.Contents.{Contents, Settings, entries, bucket_count, list_of, lists_of, settings_of, refused_of, overflow_of, waiting_of, owed_of, IsUniqueBy}
+use Rattle.scc_common.specs.Contents.{Contents, Settings, entries, bucket_count, list_of, lists_of, settings_of, notes_of, overflow_of, waiting_of, owed_of, IsUniqueBy}
 use Rattle.scc_buckets.specs.Pour.{destined_for, Extends}
 use Rattle.scc_common.specs.Routing.{bucket_number, tag_of}
 use Rattle.scc_buckets.specs.Tables.{IsOwn, IsBuckets}
@@ -125,8 +125,8 @@ contents_with : {E S : Type 0} → List (List E) → Settings S → Bool × Bool
 contents_with ls s r n ws hs = record { lists = ls; settings = s; refused = r; spilled = n; waiting = ws; owed = hs }
 
 -- contents are equal if all their words are equal
-pub same-contents : {E S : Type 0} (c d : Contents E S) → lists_of d ≡ lists_of c → settings_of d ≡ settings_of c → refused_of d ≡ refused_of c → overflow_of d ≡ overflow_of c → waiting_of d ≡ waiting_of c → owed_of d ≡ owed_of c → d ≡ c
-unfolding lists_of settings_of refused_of overflow_of waiting_of owed_of contents_with
+pub same-contents : {E S : Type 0} (c d : Contents E S) → lists_of d ≡ lists_of c → settings_of d ≡ settings_of c → notes_of d ≡ notes_of c → overflow_of d ≡ overflow_of c → waiting_of d ≡ waiting_of c → owed_of d ≡ owed_of c → d ≡ c
+unfolding lists_of settings_of notes_of overflow_of waiting_of owed_of contents_with
 same-contents c d ls s r n ws hs =
     ap (λ z. contents_with z d.settings d.refused d.spilled d.waiting d.owed) ls ∙ ap (λ z. contents_with c.lists z d.refused d.spilled d.waiting d.owed) s ∙ ap (λ z. contents_with c.lists c.settings z d.spilled d.waiting d.owed) r
     ∙ ap (λ z. contents_with c.lists c.settings c.refused z d.waiting d.owed) n ∙ ap (λ z. contents_with c.lists c.settings c.refused c.spilled z d.owed) ws ∙ ap (λ z. contents_with c.lists c.settings c.refused c.spilled c.waiting z) hs

@@ -3,7 +3,7 @@ use Rattle.std.specs.Prelude.{◌≡◌, ◌==◌, ℕ, ◌+◌, ◌*◌, ◌^�
 use Rattle.std.specs.List.{filter, flat_map}
 use Rattle.scc_array.specs.Shelves.{shelf_of}
 use Rattle.scc_array.specs.Shelf.{Shelf, shelf_entries}
-use Rattle.scc_common.specs.Contents.{Contents, bucket_count, lists_of, refused_of, settings_of}
+use Rattle.scc_common.specs.Contents.{Contents, bucket_count, lists_of, notes_of, settings_of}
 use Rattle.scc_buckets.specs.Pour.{destined_for, Extends, IsPacked}
 use Rattle.scc_common.specs.Routing.{bucket_number}
 use Rattle.scc_buckets.specs.Tables.{IsOwn}
@@ -78,7 +78,7 @@ pub record TakesOver {E S : Type 0} (hash : E → ℕ) (i n : ℕ) (c : Contents
   pub lists : lists_of d ≡ slice_set (lists_of c) i (destined_for hash (settings_of c).skipped (bucket_count c) i (flat_map shelf_entries olds))
   pub moved : n ≡ length (destined_for hash (settings_of c).skipped (bucket_count c) i (flat_map shelf_entries olds))
   pub settings : settings_of d ≡ settings_of c
-  pub refused : refused_of d ≡ refused_of c
+  pub refused : notes_of d ≡ notes_of c
   pub count : length news ≡ length olds
   pub kept : (j : ℕ) → j < length olds → shelf_entries (shelf_of news j) ≡ others_for hash (settings_of c).skipped (bucket_count c) i (shelf_entries (shelf_of olds j))
   pub own : AreOwn hash (settings_of c).skipped news

@@ -5,7 +5,7 @@ use Rattle.std.specs.declared.cmp.PartialEq as eq
 use Rattle.std.specs.declared.hash.Hash as hash
 use Rattle.std.specs.declared.hash.Hasher as hasher
 use Rattle.std.specs.declared.hash.BuildHasher as builder
-use Rattle.scc_common.specs.Contents.{Contents, entries, refused_of}
+use Rattle.scc_common.specs.Contents.{Contents, entries, notes_of}
 use Rattle.scc_table.specs.Placed.{entry_of, back_of}
 use Rattle.scc_table.specs.Places.{IsPlace, index_of}
 use Rattle.scc_buckets.specs.declared.place.Place.{Place}
@@ -36,7 +36,7 @@ module _ {G N E S K T : Type 0} {d : guard.Ghosts G (Contents E S)} {y : keyed.G
   -- if the pair of o was removed from the container of x, and the place q stands at its index, an entry p with the guard x
   -- and the place q is the next entry after the removed entry
   pub next-past : (o p : HeldOccupied G N E S K T d y b w g h) (x : G) (q : Place) → p.guard ≡ x → p.place ≡ q → x ≡ d.with_inner o.guard (d.inner x) → HoldsExactly (d.inner o.guard) (remove (entries (d.inner o.guard)) (index_of (d.inner o.guard) o.place)) (d.inner x)
-      → refused_of (d.inner x) ≡ refused_of (d.inner o.guard) → index_of (d.inner x) q ≡ index_of (d.inner o.guard) o.place → IsNextPastRemoved o p
+      → notes_of (d.inner x) ≡ notes_of (d.inner o.guard) → index_of (d.inner x) q ≡ index_of (d.inner o.guard) o.place → IsNextPastRemoved o p
   next-past o p x q guarded placed same others noted index = record { same_guard = rw guarded same; at = past-there (d.inner o.guard) o.place (d.inner p.guard) p.place p.within (rw guarded others) (rw guarded noted) (rw (guarded, placed) index) }
 
 module _ {E S P : Type 0} (c : Contents E S) (p q : Place) where
@@ -44,7 +44,7 @@ module _ {E S P : Type 0} (c : Contents E S) (p q : Place) where
   pub none-after : (h : IsPlace c p) (j : IsPlace c q) → index_of c q ≡ suc (index_of c p) → back_of c p ≡ [] → P
   none-after h j index none = absurd (let e : entry_of c q j ∷ back_of c q ≡ [] = (next-there c p h c q j refl index).back ∙ none in cc)
 
-  pub none-past : (d : Contents E S) (j : IsPlace d q) → HoldsExactly c (remove (entries c) (index_of c p)) d → refused_of d ≡ refused_of c → index_of d q ≡ index_of c p → back_of c p ≡ [] → P
+  pub none-past : (d : Contents E S) (j : IsPlace d q) → HoldsExactly c (remove (entries c) (index_of c p)) d → notes_of d ≡ notes_of c → index_of d q ≡ index_of c p → back_of c p ≡ [] → P
   none-past d j others noted index none = absurd (let e : entry_of d q j ∷ back_of d q ≡ [] = (past-there c p d q j others noted index).back ∙ none in cc)
 
 module _ {G N K V S T : Type 0} {d : guard.Ghosts G (Contents (K × V) S)} {b : builder.Ghosts S T} {w : hasher.Ghosts T} {g : eq.Ghosts K} {h : hash.Ghosts K} where

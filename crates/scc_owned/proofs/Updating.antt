@@ -10,7 +10,7 @@ use Rattle.scc_table.proofs.places.Entries.{noted-write, place-found, value-writ
 use Rattle.scc_table.proofs.relocations.AfterWrites.{waiting-write}
 use Rattle.scc_owned.specs.MapSteps.{UpdatesAt}
 use Rattle.scc_owned.proofs.CallerLemmas.{finds-set_value}
-use Rattle.scc_common.specs.Contents.{Contents, bucket_count, entries, refused_of, settings_of, waiting_of}
+use Rattle.scc_common.specs.Contents.{Contents, bucket_count, entries, notes_of, settings_of, waiting_of}
 use Rattle.scc_common.specs.Pairs.{find, FindsInstead, IsUnique, with_pair_value}
 use Rattle.scc_common.specs.Steps.{HoldsExactly}
 use Rattle.scc_buckets.proofs.Lookups.{find-position_none}
@@ -51,9 +51,9 @@ module _ {F K V R S : Type 0} (g : Once F (Bor K × (MutBor V × Unit {0})) (R �
   updated-missing None (missed, stays) = find-position_none (eq k) (entries c) missed
   updated-missing (Some r) h = tt
 
-  pub updated-noted : (r : Option R) → Step r → refused_of d ≡ refused_of c
-  updated-noted None (missed, stays) = ap refused_of stays
-  updated-noted (Some r) (q, e, w, found, got, called, written) = ap refused_of written ∙ noted-write with_pair_value c q w
+  pub updated-noted : (r : Option R) → Step r → notes_of d ≡ notes_of c
+  updated-noted None (missed, stays) = ap notes_of stays
+  updated-noted (Some r) (q, e, w, found, got, called, written) = ap notes_of written ∙ noted-write with_pair_value c q w
 
   pub updated-waiting : (r : Option R) → Step r → waiting_of d ≡ waiting_of c
   updated-waiting None (missed, stays) = ap waiting_of stays

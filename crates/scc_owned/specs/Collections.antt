@@ -1,7 +1,7 @@
 -- A container that is made from items, or from another container's pairs.
 use Rattle.std.specs.Prelude.{◌≡◌, ◌*◌, ◌<◌, Bool, false, List, [], length, None, MatchOption}
 use Rattle.std.specs.Option.{IsSomeAnd}
-use Rattle.scc_common.specs.Contents.{Contents, entries, bucket_count, settings_of, refused_of, waiting_of}
+use Rattle.scc_common.specs.Contents.{Contents, entries, bucket_count, settings_of, notes_of, waiting_of}
 use Rattle.scc_common.specs.Pairs.{find}
 use Rattle.scc_common.specs.Sizes.{IsArraySize}
 
@@ -16,7 +16,7 @@ module _ {K V S : Type 0} (Run : Contents (K × V) S → List (K × V) → Conte
     pub asked : (settings_of made).asked ≡ 32 * bucket_count made
     pub reserved : (settings_of made).reserved ≡ 0
     pub skipped : (settings_of made).skipped ≡ 0
-    pub noted : refused_of made ≡ (false, false)
+    pub noted : notes_of made ≡ (false, false)
     pub waiting : waiting_of made ≡ []
     pub settings : settings_of d ≡ settings_of made
     pub run : Run made ps d

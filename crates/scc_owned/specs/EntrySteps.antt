@@ -6,7 +6,7 @@ use Rattle.std.specs.declared.cmp.PartialEq as eq
 use Rattle.std.specs.declared.hash.Hash as hash
 use Rattle.std.specs.declared.hash.Hasher as hasher
 use Rattle.std.specs.declared.hash.BuildHasher as builder
-use Rattle.scc_common.specs.Contents.{Contents, refused_of, waiting_of, IsUniqueBy}
+use Rattle.scc_common.specs.Contents.{Contents, notes_of, waiting_of, IsUniqueBy}
 use Rattle.scc_table.specs.Placed.{SplitsAt, IsNextAt, IsNextPastRemovedAt}
 use Rattle.scc_common.specs.Steps.{HoldsExactly}
 use Rattle.scc_common.specs.declared.entry.Keyed as keyed
@@ -46,7 +46,7 @@ module _ {G N E S K T : Type 0} {d : guard.Ghosts G (Contents E S)} {y : keyed.G
 
   -- the container behind o became n: it has the other pairs in their order, and note, mark and waiting buckets stay
   abbrev pub RestsWithout : (K → K → Bool) → HeldOccupied G N E S K T d y b w g h → Contents E S → Type 0
-  RestsWithout same o n = HoldsExactly (d.inner o.guard) (occupied_front o ++ occupied_back o) n × (refused_of n ≡ refused_of (d.inner o.guard)) × IsUniqueBy same y.key_of n × (waiting_of n ≡ waiting_of (d.inner o.guard))
+  RestsWithout same o n = HoldsExactly (d.inner o.guard) (occupied_front o ++ occupied_back o) n × (notes_of n ≡ notes_of (d.inner o.guard)) × IsUniqueBy same y.key_of n × (waiting_of n ≡ waiting_of (d.inner o.guard))
 
 module _ (E S K T : RattleType) (y : keyed.Ghosts E.Denot K.Denot) (key : HashMembers K.Denot) (build : builder.Ghosts S.Denot T.Denot) (feed : hasher.Ghosts T.Denot) {N : Type 0} {d : guard.Ghosts (MutBor (Contents E.Denot S.Denot)) (Contents E.Denot S.Denot)} {b : builder.Ghosts S.Denot T.Denot} {w : hasher.Ghosts T.Denot} {g : eq.Ghosts K.Denot} {h : hash.Ghosts K.Denot} where
   -- if r has no entry, the map behind o has the other pairs

@@ -2,7 +2,7 @@
 use Rattle.std.specs.Prelude.{◌≡◌, ◌≢◌, ◌≤◌, ◌++◌, ℕ, suc, List, [], ◌∷◌, Option, Result, length, remove, slice_get, Some, MatchOption, ⊤}
 use Rattle.std.specs.Result.{OnErr}
 use Rattle.scc_buckets.specs.declared.place.Place.{Place}
-use Rattle.scc_common.specs.Contents.{Contents, entries, bucket_count, minimum_of, refused_of, waiting_of}
+use Rattle.scc_common.specs.Contents.{Contents, entries, bucket_count, minimum_of, notes_of, waiting_of}
 use Rattle.scc_common.specs.Sizes.{IsSmaller}
 use Rattle.scc_common.specs.Steps.{Holds, HoldsExactly, ShrinksWhenDue}
 use Rattle.scc_table.specs.Arrays.{ShrinksByRule}
@@ -29,7 +29,7 @@ module _ {E S : Type 0} (Distinct : Contents E S → Type 0) where
     -- the others stay in their order
     pub others : HoldsExactly c (remove (entries c) (index_of c place)) d
     -- note and mark stay
-    pub noted : refused_of d ≡ refused_of c
+    pub noted : notes_of d ≡ notes_of c
     -- the same buckets wait as before
     pub waiting : waiting_of d ≡ waiting_of c
     -- the next place is the place of the pair that followed
@@ -68,7 +68,7 @@ module _ {E S L X R Q : Type 0} (Distinct : Contents E S → Type 0) (taken_of :
     -- if nothing was taken, the number of buckets stays
     pub still : taken_of after ≡ taken_of before → bucket_count d ≡ bucket_count c
     -- if nothing was taken, note and mark stay
-    pub noted : taken_of after ≡ taken_of before → refused_of d ≡ refused_of c
+    pub noted : taken_of after ≡ taken_of before → notes_of d ≡ notes_of c
     -- if nothing was taken, the same buckets wait as before
     pub rests : taken_of after ≡ taken_of before → waiting_of d ≡ waiting_of c
     -- the number of buckets changes only by a shrink to the size that the remaining pairs and the minimum name
@@ -95,7 +95,7 @@ module _ {E S L : Type 0} (taken_of : L → List E) (capacity_of : L → ℕ) wh
     -- the others stay in their order
     pub others : HoldsExactly c (remove (entries c) (index_of c place)) d
     -- note and mark stay
-    pub noted : refused_of d ≡ refused_of c
+    pub noted : notes_of d ≡ notes_of c
     -- the same buckets wait as before
     pub waiting : waiting_of d ≡ waiting_of c
     -- the next place is the place of the pair that followed

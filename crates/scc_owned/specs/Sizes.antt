@@ -1,7 +1,7 @@
 -- What the calls about sizes do to a container, by the reply.
 use Rattle.std.specs.Prelude.{◌≡◌, ℕ, ◌+◌, ◌-◌, ◌^◌, ◌<◌, ◌≤◌, ◌↔◌, ◌⊎◌, Option, None, Some, Result, Ok, Err, IsSome, IsOk, IfNone, OnSome}
 use Rattle.std.specs.Result.{OnOk, OnErr}
-use Rattle.scc_common.specs.Contents.{Contents, settings_of, minimum_of, refused_of, waiting_of}
+use Rattle.scc_common.specs.Contents.{Contents, settings_of, minimum_of, notes_of, waiting_of}
 use Rattle.scc_common.specs.Steps.{IsUnchanged, ReachesMinimumWhenDue, Releases, Reserves, ShrinksWhenDue}
 use Rattle.scc_table.specs.Relocates.{IsBelowMinimum, IsShrinkDue, Spreads}
 
@@ -27,7 +27,7 @@ module _ {E S : Type 0} (Distinct : Contents E S → Type 0) where
     -- an array with fewer slots than the new minimum grows to the minimum, unless memory was refused
     pub due : OnSome result (ReachesMinimumWhenDue c d)
     -- note and mark stay if there is no token
-    pub noted : IfNone result (refused_of d ≡ refused_of c)
+    pub noted : IfNone result (notes_of d ≡ notes_of c)
     -- if the array grew, all buckets wait; else only buckets that waited before
     pub spreads : OnSome result (Spreads (IsBelowMinimum (minimum_of d) c) c d)
     -- the same buckets wait as before if there is no token
@@ -44,7 +44,7 @@ module _ {E S : Type 0} (Distinct : Contents E S → Type 0) where
     -- a shrink that is then due is made, unless memory was refused
     pub due : OnOk result (ShrinksWhenDue c d)
     -- note and mark stay if the token comes back
-    pub noted : OnErr result (refused_of d ≡ refused_of c)
+    pub noted : OnErr result (notes_of d ≡ notes_of c)
     -- if the array shrank, all buckets wait; else only buckets that waited before
     pub spreads : OnOk result (Spreads (IsShrinkDue (minimum_of d) c) c d)
     -- the same buckets wait as before if the token comes back
@@ -61,6 +61,6 @@ module _ {E S : Type 0} (Distinct : Contents E S → Type 0) where
     -- a fall of the minimum is released, and a shrink that is due is made, unless memory is refused
     pub lowered : (settings_of c).asked ≤ share → share < minimum_of c → Releases (minimum_of c - share) c d × ShrinksWhenDue c d
     -- if `share` is less than the slots asked for, or is the minimum, nothing changes
-    pub same : (share < (settings_of c).asked) ⊎ (share ≡ minimum_of c) → IsUnchanged c d × (refused_of d ≡ refused_of c) × (waiting_of d ≡ waiting_of c)
+    pub same : (share < (settings_of c).asked) ⊎ (share ≡ minimum_of c) → IsUnchanged c d × (notes_of d ≡ notes_of c) × (waiting_of d ≡ waiting_of c)
     -- no two keys are equal
     pub unique : Distinct d

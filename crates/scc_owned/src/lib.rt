@@ -2,7 +2,7 @@
 //! containers. What both have is generic in the entry of the table: a pair in a map, a version in an index.
 #![tactic(auto)]
 
-ghost use Rattle.scc_common.specs.Contents.{entries, bucket_count, lists_of, refused_of, waiting_of, hash_in, note_of, HasRoomBy, IsUniqueBy};
+ghost use Rattle.scc_common.specs.Contents.{entries, bucket_count, lists_of, notes_of, waiting_of, hash_in, note_of, HasRoomBy, IsUniqueBy};
 ghost use Rattle.scc_common.specs.Steps.{IsUnchanged};
 ghost use Rattle.std.specs.Prelude.{◌≡◌, ◌*◌, ◌↔◌, [], length, IsTrue, ◌==◌, false};
 
@@ -116,7 +116,7 @@ where
         ensures same { IsUnchanged self.old self.new }
         ensures lists { lists_of self.new ≡ lists_of self.old }
         ensures waiting { waiting_of self.new ≡ waiting_of self.old }
-        ensures noted { refused_of self.new ≡ (note_of self.old, false) }
+        ensures noted { notes_of self.new ≡ (note_of self.old, false) }
         ensures unique { IsUniqueBy E.Key.eq E.key_of self.new }
     {
         self.table.drop_room();

@@ -1,5 +1,5 @@
 //! The calls at a place of a container, alike for maps and indexes.
-ghost use Rattle.scc_common.specs.Contents.{entries, hash_in, refused_of, waiting_of, IsUniqueBy};
+ghost use Rattle.scc_common.specs.Contents.{entries, hash_in, notes_of, waiting_of, IsUniqueBy};
 ghost use Rattle.scc_common.specs.Steps.{HoldsExactly};
 ghost use Rattle.scc_owned.specs.Shrinking.{ClearsByRule, TakesWithNextByRule};
 ghost use Rattle.scc_table.specs.Places.{IsFoundAt, IsPlace, StandsAt, index_of};
@@ -85,7 +85,7 @@ where
     where
         E: Drop,
         ensures step { HoldsExactly self.old [] self.new }
-        ensures noted { refused_of self.new ≡ refused_of self.old }
+        ensures noted { notes_of self.new ≡ notes_of self.old }
         ensures waiting { waiting_of self.new ≡ waiting_of self.old }
     {
         let mut at = self.table.first_place();

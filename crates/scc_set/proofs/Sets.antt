@@ -12,12 +12,12 @@ use Rattle.std.specs.Option.{option_map}
 use Rattle.std.specs.Set.{remove_key, swap_key}
 use Rattle.std.specs.declared.hash.Hasher as hasher
 use Rattle.std.specs.declared.hash.BuildHasher as builder
-use Rattle.scc_common.specs.Contents.{Contents, entries, bucket_count, settings_of, minimum_of, refused_of, pending_of, waiting_of, key_hash, bucket_of}
+use Rattle.scc_common.specs.Contents.{Contents, entries, bucket_count, settings_of, minimum_of, notes_of, pending_of, waiting_of, key_hash, bucket_of}
 use Rattle.scc_common.specs.Mapped.{mapped}
 use Rattle.scc_common.specs.Sizes.{IsSmaller}
 use Rattle.scc_common.specs.Steps.{Holds, HoldsExactly, IsUnchanged, GrowsWhenDue}
 use Rattle.scc_common.specs.Pairs.{find as find_pair, without as without_pair, FindsInstead as FindsPairInstead, HasRoom as HasRoomForPair, IsUnique as IsUniqueMap}
-use Rattle.scc_buckets.proofs.Mapped.{entries-mapped, bucket_count-mapped, settings_of-mapped, refused_of-mapped, pending_of-mapped, length-mapped, HoldsExactly-mapped, IsUnchanged-mapped, Holds-mapped, Rests-mapped, Reserves-mapped, Releases-mapped, HasRoomBy-mapped, HasRoomBy-from_mapped, GrowsWhenDue-mapped, ShrinksWhenDue-mapped}
+use Rattle.scc_buckets.proofs.Mapped.{entries-mapped, bucket_count-mapped, settings_of-mapped, notes_of-mapped, pending_of-mapped, length-mapped, HoldsExactly-mapped, IsUnchanged-mapped, Holds-mapped, Rests-mapped, Reserves-mapped, Releases-mapped, HasRoomBy-mapped, HasRoomBy-from_mapped, GrowsWhenDue-mapped, ShrinksWhenDue-mapped}
 use Rattle.scc_table.specs.Arrays.{ShrinksByRule}
 use Rattle.scc_table.specs.Relocations.{RelocatesTwo}
 use Rattle.scc_table.proofs.relocations.Mapped.{waiting_of-mapped, RelocatesNone-mapped, RelocatesTwo-mapped}
@@ -167,15 +167,15 @@ pub record Shows {K S : Type 0} (c : Contents (K × Unit {0}) S) (s : Contents K
   pub length : length (entries s) ≡ length (entries c)
   pub buckets : bucket_count s ≡ bucket_count c
   pub settings : settings_of s ≡ settings_of c
-  pub refused : refused_of s ≡ refused_of c
+  pub refused : notes_of s ≡ notes_of c
   pub pending : pending_of s ≡ pending_of c
   pub waiting : waiting_of s ≡ waiting_of c
 
 pub shows : {K S : Type 0} (c : Contents (K × Unit {0}) S) → Shows c (of_map c)
-shows {K} c = let f : K × Unit {0} → K = λ p. p.0 in record { keys = entries-mapped f c; length = length-mapped f c; buckets = bucket_count-mapped f c; settings = settings_of-mapped f c; refused = refused_of-mapped f c; pending = pending_of-mapped f c; waiting = waiting_of-mapped f c }
+shows {K} c = let f : K × Unit {0} → K = λ p. p.0 in record { keys = entries-mapped f c; length = length-mapped f c; buckets = bucket_count-mapped f c; settings = settings_of-mapped f c; refused = notes_of-mapped f c; pending = pending_of-mapped f c; waiting = waiting_of-mapped f c }
 
 -- if the note of refused memory stays in the map, it stays in the set
-pub noted-keys : {K S : Type 0} (c d : Contents (K × Unit {0}) S) → refused_of d ≡ refused_of c → refused_of (of_map d) ≡ refused_of (of_map c)
+pub noted-keys : {K S : Type 0} (c d : Contents (K × Unit {0}) S) → notes_of d ≡ notes_of c → notes_of (of_map d) ≡ notes_of (of_map c)
 noted-keys c d h = (shows d).refused ∙ h ∙ sym (shows c).refused
 
 -- if the waiting buckets stay in the map, they stay in the set

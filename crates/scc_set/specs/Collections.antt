@@ -2,7 +2,7 @@
 use Rattle.std.specs.Prelude.{◌≡◌, ℕ, ◌*◌, ◌<◌, Bool, false, List, [], ◌∷◌, ◌++◌, length, None, Result, Ok, Err, MatchOption}
 use Rattle.std.specs.List.{FoldsTo}
 use Rattle.std.specs.Option.{IsSomeAnd}
-use Rattle.scc_common.specs.Contents.{Contents, entries, bucket_count, settings_of, refused_of, waiting_of}
+use Rattle.scc_common.specs.Contents.{Contents, entries, bucket_count, settings_of, notes_of, waiting_of}
 use Rattle.scc_common.specs.Sizes.{IsArraySize}
 use Rattle.scc_common.specs.declared.errors.KeyError.{KeyError}
 use Rattle.scc_common.specs.declared.errors.KeyError.TheVariants.{Exists, Memory}
@@ -46,7 +46,7 @@ module _ {K S : Type 0} (eq : K → K → Bool) (hash : Contents K S → K → �
     pub asked : (settings_of made).asked ≡ 32 * bucket_count made
     pub reserved : (settings_of made).reserved ≡ 0
     pub skipped : (settings_of made).skipped ≡ 0
-    pub noted : refused_of made ≡ (false, false)
+    pub noted : notes_of made ≡ (false, false)
     pub waiting : waiting_of made ≡ []
     pub settings : settings_of d ≡ settings_of made
     pub run : InsertsAll made ks d

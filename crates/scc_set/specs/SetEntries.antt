@@ -6,7 +6,7 @@ use Rattle.std.specs.declared.cmp.PartialEq as eq
 use Rattle.std.specs.declared.hash.Hash as hash
 use Rattle.std.specs.declared.hash.Hasher as hasher
 use Rattle.std.specs.declared.hash.BuildHasher as builder
-use Rattle.scc_common.specs.Contents.{Contents, refused_of, waiting_of}
+use Rattle.scc_common.specs.Contents.{Contents, notes_of, waiting_of}
 use Rattle.scc_table.specs.Placed.{entry_of, front_of, back_of, SplitsAt, IsNextAt, IsNextPastRemovedAt}
 use Rattle.scc_common.specs.Steps.{HoldsExactly}
 use Rattle.scc_buckets.specs.declared.place.Place.{Place}
@@ -73,4 +73,4 @@ module _ (K S T : RattleType) (key : HashMembers K.Denot) (build : builder.Ghost
   -- if r has no entry, the set behind o has the other keys in their order, and note, mark and waiting buckets stay
   abbrev pub rests_removed : {A B : Type 0} {g : eq.Ghosts K.Denot} {h : hash.Ghosts K.Denot} {b : builder.Ghosts S.Denot T.Denot} {w : hasher.Ghosts T.Denot}
       → OccupiedEntry K.Denot S.Denot T.Denot g h b w → Result (A × OccupiedEntry K.Denot S.Denot T.Denot g h b w) B → Fml
-  rests_removed o r = RestsIfErr (set_row K S T key build feed) o.set (λ d. d.1.set.ghost_name) r (λ n. HoldsExactly o.set.now (occupied_front o ++ occupied_back o) n × (refused_of n ≡ refused_of o.set.now) × IsUnique key.eq n × (waiting_of n ≡ waiting_of o.set.now))
+  rests_removed o r = RestsIfErr (set_row K S T key build feed) o.set (λ d. d.1.set.ghost_name) r (λ n. HoldsExactly o.set.now (occupied_front o ++ occupied_back o) n × (notes_of n ≡ notes_of o.set.now) × IsUnique key.eq n × (waiting_of n ≡ waiting_of o.set.now))

@@ -1,5 +1,5 @@
 //! The calls at a place of a set, by which an entry goes from key to key.
-ghost use Rattle.scc_common.specs.Contents.{entries, refused_of, waiting_of};
+ghost use Rattle.scc_common.specs.Contents.{entries, notes_of, waiting_of};
 ghost use Rattle.scc_common.specs.Steps.{Holds, HoldsExactly};
 ghost use Rattle.scc_set.specs.Keys.{IsUnique};
 ghost use Rattle.scc_set.specs.SetWalks.{CallableWhile, PassesAt, PassesNone};
@@ -73,7 +73,7 @@ impl<K: Eq + Hash, H: BuildHasher> Owned<K, H> {
         requires { IsPlace self.old place }
         ensures key { slice_get (entries self.old) (index_of self.old place) ≡ Some result.0 }
         ensures others { HoldsExactly self.old (remove (entries self.old) (index_of self.old place)) self.new }
-        ensures noted { refused_of self.new ≡ refused_of self.old }
+        ensures noted { notes_of self.new ≡ notes_of self.old }
         ensures waiting { waiting_of self.new ≡ waiting_of self.old }
         ensures next { MatchOption result.1 (suc (index_of self.old place) ≡ length (entries self.old))
             (StandsAt self.new (index_of self.old place)) }

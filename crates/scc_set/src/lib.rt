@@ -1,7 +1,7 @@
 //! A hash set for one owner, over the map of `scc_owned`.
 #![tactic(auto)]
 
-ghost use Rattle.scc_common.specs.Contents.{entries, bucket_count, lists_of, settings_of, refused_of, waiting_of, hash_in, IsMarked, IsNoteUp, note_of};
+ghost use Rattle.scc_common.specs.Contents.{entries, bucket_count, lists_of, settings_of, notes_of, waiting_of, hash_in, IsMarked, IsNoteUp, note_of};
 ghost use Rattle.scc_common.specs.Pairs.{IsUnique as IsUniqueMap};
 ghost use Rattle.scc_common.specs.Pairs.{find as find_pair};
 ghost use Rattle.scc_common.specs.Steps.{HoldsExactly, IsUnchanged, Prepares};
@@ -160,7 +160,7 @@ impl<K: Eq + Hash, H: BuildHasher> Owned<K, H> {
         ensures same { IsUnchanged self.old self.new }
         ensures lists { lists_of self.new ≡ lists_of self.old }
         ensures waiting { waiting_of self.new ≡ waiting_of self.old }
-        ensures noted { refused_of self.new ≡ (note_of self.old, false) }
+        ensures noted { notes_of self.new ≡ (note_of self.old, false) }
         ensures unique { IsUnique K.eq self.new }
     {
         self.map.drop_room();
@@ -193,7 +193,7 @@ impl<K: Eq + Hash, H: BuildHasher> Owned<K, H> {
         ensures swapped { IfOk result (λ old. (find K.eq (entries self.old) k ≡ Some old)
             × HoldsExactly self.old (with_key K.eq (entries self.old) k) self.new
             × FindsInstead K.eq (entries self.old) k (Some k) (entries self.new)) }
-        ensures noted { refused_of self.new ≡ refused_of self.old }
+        ensures noted { notes_of self.new ≡ notes_of self.old }
         ensures waiting { waiting_of self.new ≡ waiting_of self.old }
         ensures missing { IfErr result (λ q. (q ≡ k) × (find K.eq (entries self.old) k ≡ None)
             × (self.new ≡ self.old)) }
@@ -255,7 +255,7 @@ fn swap_in_map<K: Eq + Hash, H: BuildHasher>(
 ) -> Result<K, K>
     ensures swapped { IfOk result (λ old. (find_pair K.eq (entries map.old) k ≡ Some (old, tt))
         × HoldsExactly map.old (set_key (K.eq k) (entries map.old) k) map.new) }
-    ensures noted { refused_of map.new ≡ refused_of map.old }
+    ensures noted { notes_of map.new ≡ notes_of map.old }
     ensures waiting { waiting_of map.new ≡ waiting_of map.old }
     ensures missing { IfErr result (λ q. (q ≡ k) × (find_pair K.eq (entries map.old) k ≡ None) × (map.new ≡ map.old)) }
     ensures unique { IsUniqueMap K.eq map.new }

@@ -1,6 +1,6 @@
 //! The calls on a whole set: comparisons and clones.
 ghost use Rattle.scc_common.specs.Clones.{HasClones};
-ghost use Rattle.scc_common.specs.Contents.{entries, refused_of, waiting_of};
+ghost use Rattle.scc_common.specs.Contents.{entries, notes_of, waiting_of};
 ghost use Rattle.scc_common.specs.Copies.{IsCopied};
 ghost use Rattle.scc_set.specs.Collections.{FindsClones};
 ghost use Rattle.scc_set.specs.Keys.{find, IsUnique};
@@ -32,7 +32,7 @@ impl<K: Eq + Hash, H: BuildHasher> Owned<K, H> {
         ensures clones { IfOk result (HasClones K.is_clone H.is_clone self.now) }
         ensures finds { IfOk result (λ s. ((k : K) → (copy : K) → K.is_clone k copy → K.eq k copy ≡ true)
             → FindsClones K.eq K.is_clone (entries self.now) (entries s)) }
-        ensures noted { IfOk result (λ s. refused_of s ≡ (false, false)) }
+        ensures noted { IfOk result (λ s. notes_of s ≡ (false, false)) }
         ensures waiting { IfOk result (λ s. waiting_of s ≡ []) }
         ensures unique { IfOk result (λ s. IsUnique K.eq s) }
     {

@@ -1,6 +1,6 @@
 -- How a part of a shared map or index follows its share of the minimum, in one word.
 use Rattle.std.specs.Prelude.{◌≡◌, ◌≤◌, ◌<◌, ◌-◌, ◌⊎◌, ℕ, Bool}
-use Rattle.scc_common.specs.Contents.{Contents, minimum_of, refused_of, settings_of, waiting_of}
+use Rattle.scc_common.specs.Contents.{Contents, minimum_of, notes_of, settings_of, waiting_of}
 use Rattle.scc_common.specs.Pairs.{IsUnique}
 use Rattle.scc_common.specs.Steps.{IsUnchanged, ReachesMinimumWhenDue, Releases, Reserves, ShrinksWhenDue}
 
@@ -14,6 +14,6 @@ module _ {K V S : Type 0} (eq : K → K → Bool) where
     -- a fall of the minimum is released, and a shrink that is due is made, unless memory is refused
     pub lowered : (settings_of c).asked ≤ share → share < minimum_of c → Releases (minimum_of c - share) c d × ShrinksWhenDue c d
     -- if `share` is less than the slots asked for, or is the minimum, nothing changes
-    pub same : (share < (settings_of c).asked) ⊎ (share ≡ minimum_of c) → IsUnchanged c d × (refused_of d ≡ refused_of c) × (waiting_of d ≡ waiting_of c)
+    pub same : (share < (settings_of c).asked) ⊎ (share ≡ minimum_of c) → IsUnchanged c d × (notes_of d ≡ notes_of c) × (waiting_of d ≡ waiting_of c)
     -- no two keys are equal
     pub unique : IsUnique eq d

@@ -1,7 +1,7 @@
 -- What an insertion does to the array, and what a removal does, in one word each for map, set and index.
 use Rattle.std.specs.Prelude.{◌≡◌, ◌≢◌, ℕ, length, None, Option, Result, IsSome}
 use Rattle.std.specs.Result.{OnOk}
-use Rattle.scc_common.specs.Contents.{Contents, bucket_count, entries, minimum_of, refused_of, waiting_of, HasRoomBy}
+use Rattle.scc_common.specs.Contents.{Contents, bucket_count, entries, minimum_of, notes_of, waiting_of, HasRoomBy}
 use Rattle.scc_common.specs.Sizes.{IsSmaller}
 use Rattle.scc_common.specs.Steps.{FirstArrayWhenDue, Grows, GrowsWhenDue, IsPreparedFor, ShrinksWhenDue}
 use Rattle.scc_table.specs.Relocations.{Relocates, RelocatesNone, RelocatesTwo}
@@ -21,7 +21,7 @@ module _ {E K S : Type 0} (key : E → K) where
     -- the first array has the size of the minimum
     pub first : found ≡ None → OnOk result (FirstArrayWhenDue c d)
     -- note and mark stay if the key is there
-    pub noted : IsSome found → refused_of d ≡ refused_of c
+    pub noted : IsSome found → notes_of d ≡ notes_of c
     -- a new key relocates at most two buckets
     pub relocates : found ≡ None → Relocates c d
     -- it relocates the key's own bucket first and then the first ones that wait, two in all, or all if fewer wait; if
@@ -39,7 +39,7 @@ module _ {E S : Type 0} where
     -- if an entry was removed and a shrink is due, it is made, unless memory for it was refused
     pub due : Removed → ShrinksWhenDue c d
     -- note and mark stay if no entry was removed
-    pub noted : (Removed → ⊥) → refused_of d ≡ refused_of c
+    pub noted : (Removed → ⊥) → notes_of d ≡ notes_of c
     -- a removal relocates no bucket
     pub relocates : Removed → RelocatesNone c d
     -- the same buckets wait as before if no entry was removed

@@ -3,7 +3,7 @@
 use Rattle.std.specs.Prelude.{◌≡◌, ℕ, ◌*◌, ◌<◌, ◌≤◌, ◌⊎◌, Bool, length}
 use Rattle.scc_buckets.specs.Bounded as bounded
 use Rattle.scc_buckets.specs.Bounded.{IsResized, HasListsOf}
-use Rattle.scc_common.specs.Contents.{Contents, entries, bucket_count, list_of, minimum_of, pending_of, refused_of, IsMarked, IsNoteDown, IsNoteUp, IsUnmarked}
+use Rattle.scc_common.specs.Contents.{Contents, entries, bucket_count, list_of, minimum_of, pending_of, notes_of, IsMarked, IsNoteDown, IsNoteUp, IsUnmarked}
 use Rattle.scc_common.specs.Sizes.{IsArraySize}
 use Rattle.scc_buckets.specs.declared.place.Place.{Place}
 use Rattle.scc_table.specs.Places.{spot_of}
@@ -29,7 +29,7 @@ module _ {E S : Type 0} where
   -- what a put of a new key into list i makes first: the first array, with the size of the minimum, which leaves the
   -- note and the mark, or a doubling if list i holds 32 entries and a doubling is due
   pub data GrowsBelow (hash : E → ℕ) (most i : ℕ) (c d : Contents E S) : Type 0 where
-    makes : bucket_count c ≡ 0 → IsArraySize (minimum_of c) (32 * bucket_count d) → refused_of d ≡ refused_of c → IsResized hash c d → GrowsBelow hash most i c d
+    makes : bucket_count c ≡ 0 → IsArraySize (minimum_of c) (32 * bucket_count d) → notes_of d ≡ notes_of c → IsResized hash c d → GrowsBelow hash most i c d
     has_room : 0 < bucket_count c → length (list_of c i) < 32 → d ≡ c → GrowsBelow hash most i c d
     is_full : 0 < bucket_count c → 32 ≤ length (list_of c i) → DoublesBelow hash most c d → GrowsBelow hash most i c d
 

@@ -3,7 +3,7 @@ use Rattle.std.specs.Prelude.{◌≡◌, ◌≢◌, ◌≤◌, ◌<◌, ◌+◌,
 use Rattle.std.specs.List.{range_with_len}
 use Rattle.std.specs.List.Sorted.{IsPermutation}
 use Rattle.std.specs.Result.{OnOk, OnErr}
-use Rattle.scc_common.specs.Contents.{Contents, entries, bucket_count, list_of, lists_of, pending_of, refused_of, settings_of, waiting_of, HasRoomAt, IsUniqueBy, IsMarked, IsNoteDown, IsNoteUp, IsUnmarked, note_of}
+use Rattle.scc_common.specs.Contents.{Contents, entries, bucket_count, list_of, lists_of, pending_of, notes_of, settings_of, waiting_of, HasRoomAt, IsUniqueBy, IsMarked, IsNoteDown, IsNoteUp, IsUnmarked, note_of}
 use Rattle.scc_common.specs.Routing.{bucket_number}
 use Rattle.scc_common.specs.Steps.{FirstArrayWhenDue, Grows, IsUnchanged, Rests, IsGrowthDue}
 use Rattle.scc_buckets.specs.Bounded.{IsListed, HasListsOf}
@@ -45,9 +45,9 @@ module _ {E K S : Type 0} (eq : K → K → Bool) (key : E → K) where
       -- if a doubling is due, no growth is marked afterwards
       pub unmarked : 32 * bucket_count c ≤ 2 * length (entries c) → 32 * bucket_count c < 2 ^ 63 → IsUnmarked d
       -- if no doubling is due, the note and the mark stay
-      pub noted : ((32 * bucket_count c ≤ 2 * length (entries c)) × (32 * bucket_count c < 2 ^ 63) → ⊥) → refused_of d ≡ refused_of c
+      pub noted : ((32 * bucket_count c ≤ 2 * length (entries c)) × (32 * bucket_count c < 2 ^ 63) → ⊥) → notes_of d ≡ notes_of c
       -- a growth is marked only if it was, and the note stays then
-      pub marked : IsMarked d → refused_of d ≡ refused_of c
+      pub marked : IsMarked d → notes_of d ≡ notes_of c
       -- no two keys are equal
       pub unique : IsUniqueBy eq key d
 
@@ -97,9 +97,9 @@ module _ {E K S : Type 0} (eq : K → K → Bool) (key : E → K) where
       -- on failure, all stays
       pub same : OnErr result (d ≡ c)
       -- if no growth is due, the note and the mark stay
-      pub noted : (IsGrowthDue hash_of key c hash → ⊥) → refused_of d ≡ refused_of c
+      pub noted : (IsGrowthDue hash_of key c hash → ⊥) → notes_of d ≡ notes_of c
       -- a growth is marked only if it was, and the note stays then
-      pub marked : IsMarked d → refused_of d ≡ refused_of c
+      pub marked : IsMarked d → notes_of d ≡ notes_of c
       -- no two keys are equal
       pub unique : IsUniqueBy eq key d
 
@@ -245,7 +245,7 @@ module _ {E K S : Type 0} (eq : K → K → Bool) (key : E → K) where
       -- the settings stay
       pub settings : settings_of d ≡ settings_of c
       -- the note stays, and no growth is marked
-      pub noted : refused_of d ≡ (note_of c, false)
+      pub noted : notes_of d ≡ (note_of c, false)
       -- the waiting buckets stay
       pub waiting : waiting_of d ≡ waiting_of c
       -- each entry stands in the bucket of its hash, and no list has more than 32

@@ -2,7 +2,7 @@
 use Rattle.std.specs.Prelude.{◌≡◌, ◌≢◌, ◌==◌, ◌≤◌, ◌<◌, ◌+◌, ◌-◌, ℕ, Bool, false, List, drop, length, not, Result, IfOk, IfErr}
 use Rattle.std.specs.List.{filter, range_with_len}
 use Rattle.std.specs.Result.{OnOk, OnErr}
-use Rattle.scc_common.specs.Contents.{Contents, bucket_count, pending_of, refused_of, settings_of, waiting_of, HasRoomBy, IsUniqueBy}
+use Rattle.scc_common.specs.Contents.{Contents, bucket_count, pending_of, notes_of, settings_of, waiting_of, HasRoomBy, IsUniqueBy}
 use Rattle.scc_common.specs.Routing.{bucket_number}
 use Rattle.scc_common.specs.Steps.{FirstArrayWhenDue, Grows, GrowsWhenDue, IsPreparedFor, IsUnchanged, Rests}
 use Rattle.scc_buckets.specs.declared.place.Place.{Place}
@@ -23,7 +23,7 @@ module _ {E K S : Type 0} (eq : K → K → Bool) (key : E → K) where
     -- the number of buckets stays
     pub buckets : bucket_count d ≡ bucket_count c
     -- the note and the mark stay
-    pub refused : refused_of d ≡ refused_of c
+    pub refused : notes_of d ≡ notes_of c
     -- no bucket starts to wait
     pub fewer : (j : ℕ) → IsWaiting d j → IsWaiting c j
     -- the number of waiting buckets doesn't rise

@@ -3,7 +3,7 @@
 use Rattle.std.specs.Prelude.{◌≡◌, ◌≤◌, ◌<◌, ℕ, Bool, true, [], replicate, Result}
 use Rattle.std.specs.List.Sorted.{IsPermutation}
 use Rattle.std.specs.Result.{OnOk, OnErr}
-use Rattle.scc_common.specs.Contents.{Contents, entries, bucket_count, lists_of, owed_of, pending_of, refused_of, settings_of, overflow_of, waiting_of, IsUniqueBy, IsNoteDown, IsNoteUp, IsUnmarked}
+use Rattle.scc_common.specs.Contents.{Contents, entries, bucket_count, lists_of, owed_of, pending_of, notes_of, settings_of, overflow_of, waiting_of, IsUniqueBy, IsNoteDown, IsNoteUp, IsUnmarked}
 use Rattle.scc_common.specs.Steps.{FirstArrayWhenDue, Grows, IsUnchanged, Rests}
 use Rattle.scc_buckets.specs.Bounded.{IsBounded, IsResized}
 use Rattle.scc_buckets.specs.Pour.{IsRegrouped}
@@ -22,7 +22,7 @@ module _ {E S : Type 0} where
     -- `count` buckets wait
     pub pending : pending_of d ≡ count
     -- the note and the mark stay
-    pub noted : refused_of d ≡ refused_of c
+    pub noted : notes_of d ≡ notes_of c
     -- empty overflow lists stay empty
     pub bounded : IsBounded c → IsBounded d
 
@@ -35,7 +35,7 @@ module _ {E S : Type 0} where
     -- `reserved` slots are reserved
     pub settings : settings_of d ≡ record (settings_of c) { reserved = reserved }
     -- the note and the mark stay
-    pub noted : refused_of d ≡ refused_of c
+    pub noted : notes_of d ≡ notes_of c
     -- each list stays
     pub lists : lists_of d ≡ lists_of c
     -- the waiting buckets stay
@@ -51,7 +51,7 @@ module _ {E K S : Type 0} (eq : K → K → Bool) (key : E → K) where
     -- the settings stay
     pub settings : settings_of d ≡ settings_of c
     -- the note and the mark are `note`
-    pub noted : refused_of d ≡ note
+    pub noted : notes_of d ≡ note
     -- the number of entries in overflow lists stays
     pub spilled : overflow_of d ≡ overflow_of c
     -- the waiting buckets stay
@@ -69,7 +69,7 @@ module _ {E K S : Type 0} (eq : K → K → Bool) (key : E → K) where
       -- the number of buckets changes only by the first array
       pub growth : Grows c d
       -- the note and the mark stay
-      pub noted : refused_of d ≡ refused_of c
+      pub noted : notes_of d ≡ notes_of c
       -- on success, the array has the size of the minimum
       pub first : OnOk result (FirstArrayWhenDue c d)
       -- on success, there is an array
@@ -156,7 +156,7 @@ module _ {E K S : Type 0} (eq : K → K → Bool) (key : E → K) where
       -- on success, every bucket but `bucket` waits
       pub waiting : OnOk result (waiting_of d ≡ cleared (replicate count true) bucket)
       -- on success, the note and the mark stay
-      pub noted : OnOk result (refused_of d ≡ refused_of c)
+      pub noted : OnOk result (notes_of d ≡ notes_of c)
       -- on failure, all stays
       pub err : OnErr result (d ≡ c)
       -- no two keys are equal

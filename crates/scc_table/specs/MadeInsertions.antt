@@ -3,7 +3,7 @@
 use Rattle.std.specs.Prelude.{◌≡◌, ◌≢◌, ◌≤◌, ◌<◌, ◌+◌, ◌-◌, ◌*◌, ◌^◌, ℕ, [], Bool, false, length, Result, IfOk, IfErr}
 use Rattle.std.specs.List.{range_with_len}
 use Rattle.std.specs.Result.{OnOk, OnErr}
-use Rattle.scc_common.specs.Contents.{Contents, entries, bucket_count, pending_of, refused_of, settings_of, waiting_of, HasRoomBy, IsUniqueBy, IsMarked, IsNoteDown, IsNoteUp, IsUnmarked}
+use Rattle.scc_common.specs.Contents.{Contents, entries, bucket_count, pending_of, notes_of, settings_of, waiting_of, HasRoomBy, IsUniqueBy, IsMarked, IsNoteDown, IsNoteUp, IsUnmarked}
 use Rattle.scc_common.specs.Routing.{bucket_number}
 use Rattle.scc_common.specs.Steps.{FirstArrayWhenDue, Grows, GrowsWhenDue, IsPreparedFor, IsUnchanged, RaisesWhenDue}
 use Rattle.scc_buckets.specs.declared.place.Place.{Place}
@@ -21,7 +21,7 @@ module _ {E K S X : Type 0} (eq : K → K → Bool) (key : E → K) where
     -- the number of buckets changes only by the first array
     pub growth : Grows c d
     -- the note and the mark stay
-    pub noted : refused_of d ≡ refused_of c
+    pub noted : notes_of d ≡ notes_of c
     -- on success, the array has the size of the minimum
     pub first : OnOk result (FirstArrayWhenDue c d)
     -- no bucket waits

@@ -1,6 +1,6 @@
 -- What a new container holds.
 use Rattle.std.specs.Prelude.{◌≡◌, ℕ, ◌*◌, ◌<◌, false, [], Result, IsOk, IfOk}
-use Rattle.scc_common.specs.Contents.{Contents, entries, bucket_count, settings_of, refused_of, waiting_of}
+use Rattle.scc_common.specs.Contents.{Contents, entries, bucket_count, settings_of, notes_of, waiting_of}
 use Rattle.scc_common.specs.Sizes.{IsArraySize}
 
 module _ {E S : Type 0} where
@@ -13,7 +13,7 @@ module _ {E S : Type 0} where
     -- no bits of a hash are skipped, and no slots are asked for or reserved
     pub settings : settings_of c ≡ record { hasher = hasher; skipped = 0; asked = 0; reserved = 0 }
     -- no refused memory is noted, and no growth is marked
-    pub noted : refused_of c ≡ (false, false)
+    pub noted : notes_of c ≡ (false, false)
     -- no bucket waits
     pub waiting : waiting_of c ≡ []
 
@@ -30,6 +30,6 @@ module _ {E S : Type 0} where
     -- the call succeeds for a capacity of 0
     pub succeeds : capacity ≡ 0 → IsOk result
     -- no refused memory is noted, and no growth is marked
-    pub noted : IfOk result (λ c. refused_of c ≡ (false, false))
+    pub noted : IfOk result (λ c. notes_of c ≡ (false, false))
     -- no bucket waits
     pub waiting : IfOk result (λ c. waiting_of c ≡ [])

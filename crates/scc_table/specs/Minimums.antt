@@ -1,6 +1,6 @@
 -- What a change of the minimum does to a table of two arrays, one word a call.
 use Rattle.std.specs.Prelude.{◌≡◌, ◌≢◌, ◌≤◌, ◌<◌, ◌+◌, ◌*◌, ◌^◌, ◌↔◌, ℕ, Bool, Option, IfNone, IfSome, IsSome, IsTrue, OnSome}
-use Rattle.scc_common.specs.Contents.{Contents, bucket_count, minimum_of, refused_of, settings_of, waiting_of, IsUniqueBy}
+use Rattle.scc_common.specs.Contents.{Contents, bucket_count, minimum_of, notes_of, settings_of, waiting_of, IsUniqueBy}
 use Rattle.scc_common.specs.Sizes.{IsArraySize}
 use Rattle.scc_common.specs.Steps.{IsUnchanged, ReachesMinimumWhenDue, Releases, Reserves, Resizes, ShrinksWhenDue}
 use Rattle.scc_table.specs.Relocates.{IsBelowMinimum, IsShrinkDue, Spreads}
@@ -21,7 +21,7 @@ module _ {E K S : Type 0} (eq : K → K → Bool) (key : E → K) where
     -- without a token, entries, buckets and settings stay
     pub no : IfNone result (IsUnchanged c d)
     -- without a token, the note and the mark stay
-    pub noted : IfNone result (refused_of d ≡ refused_of c)
+    pub noted : IfNone result (notes_of d ≡ notes_of c)
     -- without a token, the waiting buckets stay
     pub waiting : IfNone result (waiting_of d ≡ waiting_of c)
     -- no two keys are equal
@@ -40,7 +40,7 @@ module _ {E K S : Type 0} (eq : K → K → Bool) (key : E → K) where
     -- if the result is false, entries, buckets and settings stay
     pub no : (IsTrue result → ⊥) → IsUnchanged c d
     -- if the result is false, the note and the mark stay
-    pub noted : (IsTrue result → ⊥) → refused_of d ≡ refused_of c
+    pub noted : (IsTrue result → ⊥) → notes_of d ≡ notes_of c
     -- if the result is false, the waiting buckets stay
     pub waiting : (IsTrue result → ⊥) → waiting_of d ≡ waiting_of c
     -- no two keys are equal
@@ -59,7 +59,7 @@ module _ {E K S : Type 0} (eq : K → K → Bool) (key : E → K) where
     -- if the result is false, entries, buckets and settings stay
     pub no : (IsTrue result → ⊥) → IsUnchanged c d
     -- if the result is false, the note and the mark stay
-    pub noted : (IsTrue result → ⊥) → refused_of d ≡ refused_of c
+    pub noted : (IsTrue result → ⊥) → notes_of d ≡ notes_of c
     -- if the result is false, the waiting buckets stay
     pub waiting : (IsTrue result → ⊥) → waiting_of d ≡ waiting_of c
     -- no two keys are equal

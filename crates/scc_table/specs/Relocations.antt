@@ -2,7 +2,7 @@
 use Rattle.std.specs.Prelude.{◌≡◌, ◌≢◌, ℕ, ◌+◌, ◌<◌, ◌≤◌, false, [], drop, length, Result}
 use Rattle.std.specs.List.{range_with_len}
 use Rattle.std.specs.Result.{OnOk, OnErr}
-use Rattle.scc_common.specs.Contents.{Contents, entries, bucket_count, list_of, lists_of, minimum_of, pending_of, refused_of, settings_of, waiting_of}
+use Rattle.scc_common.specs.Contents.{Contents, entries, bucket_count, list_of, lists_of, minimum_of, pending_of, notes_of, settings_of, waiting_of}
 use Rattle.scc_common.specs.Routing.{bucket_number}
 use Rattle.scc_common.specs.Sizes.{IsSmaller}
 use Rattle.scc_buckets.specs.Bounded.{IsBounded}
@@ -48,7 +48,7 @@ module _ {E S : Type 0} where
     -- the settings stay
     pub settings : settings_of d ≡ settings_of c
     -- the note and the mark stay
-    pub noted : refused_of d ≡ refused_of c
+    pub noted : notes_of d ≡ notes_of c
     -- no bucket starts to wait
     pub fewer : (i : ℕ) → IsWaiting d i → IsWaiting c i
     -- the number of waiting buckets doesn't rise
@@ -75,7 +75,7 @@ module _ {E S : Type 0} where
     -- the settings stay
     pub settings : settings_of d ≡ settings_of c
     -- the note and the mark stay
-    pub noted : refused_of d ≡ refused_of c
+    pub noted : notes_of d ≡ notes_of c
     -- no bucket starts to wait
     pub fewer : (i : ℕ) → IsWaiting d i → IsWaiting c i
     -- the number of waiting buckets doesn't rise

@@ -2,7 +2,7 @@
 use Rattle.std.specs.Prelude.{◌≡◌, ◌≢◌, ◌≤◌, ◌<◌, ℕ, Bool, Option, Some, None, length, suc, slice_get, remove, MatchOption}
 use Rattle.std.specs.List.{position}
 use Rattle.std.specs.List.Sorted.{IsPermutation}
-use Rattle.scc_common.specs.Contents.{Contents, entries, bucket_count, list_of, minimum_of, owed_of, pending_of, refused_of, settings_of, waiting_of, IsUniqueBy}
+use Rattle.scc_common.specs.Contents.{Contents, entries, bucket_count, list_of, minimum_of, owed_of, pending_of, notes_of, settings_of, waiting_of, IsUniqueBy}
 use Rattle.scc_common.specs.Sizes.{IsSmaller}
 use Rattle.scc_common.specs.Steps.{Holds, HoldsExactly, ShrinksWhenDue}
 use Rattle.scc_buckets.specs.Bounded.{HasList, IsBounded}
@@ -41,7 +41,7 @@ module _ {E K S : Type 0} (eq : K → K → Bool) (key : E → K) where
     -- the others keep their order
     pub others : HoldsExactly c (remove (entries c) (index_of c p)) d
     -- the note and the mark stay
-    pub noted : refused_of d ≡ refused_of c
+    pub noted : notes_of d ≡ notes_of c
     -- the waiting buckets stay
     pub waiting : waiting_of d ≡ waiting_of c
     -- the result stood in the list of its bucket
@@ -66,7 +66,7 @@ module _ {E K S : Type 0} (eq : K → K → Bool) (key : E → K) where
     -- the others keep their order
     pub others : HoldsExactly c (remove (entries c) (index_of c p)) d
     -- the note and the mark stay
-    pub noted : refused_of d ≡ refused_of c
+    pub noted : notes_of d ≡ notes_of c
     -- the waiting buckets stay
     pub waiting : waiting_of d ≡ waiting_of c
     -- as many entries stand before the returned place as stood before p; without a place, the entry at p was the last
@@ -90,7 +90,7 @@ module _ {E K S : Type 0} (eq : K → K → Bool) (key : E → K) where
     -- the number of buckets stays
     pub buckets : bucket_count d ≡ bucket_count c
     -- the note and the mark stay
-    pub noted : refused_of d ≡ refused_of c
+    pub noted : notes_of d ≡ notes_of c
     -- the settings stay
     pub settings : settings_of d ≡ settings_of c
     -- the waiting buckets stay

@@ -4,7 +4,7 @@ use Rattle.std.specs.Prelude.{◌≡◌, ◌==◌, ℕ, suc, ◌+◌, ◌^◌, �
 use Rattle.std.specs.List.{filter, flat_map, range_with_len, sum_by, IsDistinct}
 use Rattle.scc_table.specs.declared.Draining as code
 use Rattle.scc_array.specs.Shelf.{Shelf, shelf_entries}
-use Rattle.scc_common.specs.Contents.{Contents, entries, bucket_count, list_of, lists_of, settings_of, refused_of, overflow_of, waiting_of, owed_of, pending_of}
+use Rattle.scc_common.specs.Contents.{Contents, entries, bucket_count, list_of, lists_of, settings_of, notes_of, overflow_of, waiting_of, owed_of, pending_of}
 use Rattle.scc_buckets.specs.Pour.{destined_for}
 use Rattle.scc_common.specs.Routing.{bucket_number}
 use Rattle.scc_common.specs.Sizes.{IsBucketCount}
@@ -37,7 +37,7 @@ module _ {E S : Type 0} where
   together hash c ws olds = record {
     lists = joined (target_by hash c) 0 ws (lists_of c) (flat_map shelf_entries olds);
     settings = settings_of c;
-    refused = refused_of c;
+    refused = notes_of c;
     spilled = overflow_of c + overflow_in olds;
     waiting = ws;
     owed = owed_in (target_by hash c) ws olds;
@@ -91,7 +91,7 @@ owed_without (w ∷ ws) i hs = map (λ ts. filter (λ t. not (t == i)) ts) hs
 pub record IsRelocated {E S : Type 0} (i : ℕ) (c d : Contents E S) : Type 0 where
   pub lists : lists_of d ≡ lists_of c
   pub settings : settings_of d ≡ settings_of c
-  pub refused : refused_of d ≡ refused_of c
+  pub refused : notes_of d ≡ notes_of c
   pub waiting : waiting_of d ≡ cleared (waiting_of c) i
   pub owed : owed_of d ≡ owed_without (waiting_of d) i (owed_of c)
   pub pending : pending_of c ≡ pending_of d + 1

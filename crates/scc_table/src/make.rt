@@ -1,7 +1,7 @@
 //! Makes tables with a current array alone: empty ones, and clones.
 ghost use Rattle.scc_buckets.specs.Making.{AreNewBuckets, MakesBuckets};
 ghost use Rattle.scc_common.specs.Clones.{HasClones};
-ghost use Rattle.scc_common.specs.Contents.{key_hash, lists_of, refused_of, settings_of, overflow_of, waiting_of};
+ghost use Rattle.scc_common.specs.Contents.{key_hash, lists_of, notes_of, settings_of, overflow_of, waiting_of};
 ghost use Rattle.std.specs.Arc.{arc_value};
 ghost use Rattle.std.specs.Prelude.{◌≡◌, ◌≤◌, ◌<◌, [], false, IfOk};
 
@@ -54,7 +54,7 @@ where
         requires few_bits { skipped ≤ 4 }
         ensures lists { lists_of result ≡ lists_of current }
         ensures settings { settings_of result ≡ settings_of current }
-        ensures noted { refused_of result ≡ refused_of current }
+        ensures noted { notes_of result ≡ notes_of current }
         ensures spilled { overflow_of result ≡ overflow_of current }
         ensures waiting { waiting_of result ≡ [] }
     {
@@ -88,7 +88,7 @@ where
         E: Clone,
         H: Clone,
         ensures clones { IfOk result (HasClones E.is_clone H.is_clone self.now) }
-        ensures noted { IfOk result (λ t. refused_of t ≡ (false, false)) }
+        ensures noted { IfOk result (λ t. notes_of t ≡ (false, false)) }
         ensures waiting { IfOk result (λ t. waiting_of t ≡ []) }
     {
         let mut copy = self.current.try_clone()?;

@@ -5,7 +5,7 @@ use Rattle.scc_common.specs.Contents.{entries}
 use Rattle.scc_calls.specs.Copies.{Means}
 use Rattle.scc_calls.specs.Means.{means_same}
 use Rattle.scc_calls.specs.Run.{IsRun, done}
-use Rattle.scc_calls.specs.States.{State, ResizesTo, setting_of, state_of}
+use Rattle.scc_calls.specs.States.{State, ResizesTo, run_setting, state_of}
 use Rattle.scc_calls.proofs.Runs.{run-as, when_err}
 use Rattle.scc_uses.specs.Alikeness.{AgreeAlong, AreExact}
 use Rattle.scc_uses.specs.Mirrored.{Side, AddsRun, RunsOnBoth}
@@ -35,14 +35,14 @@ module _ {C R E H I : Type 0} (equal_calls : C → C → Bool) (equal_replies : 
     (alike same : List E → List E → Type 0) (calls : List C) (a : Side E H R) (b : Side E I R) (c : Side E H R) (d : Side E I R) where
   -- any two runs of the calls agree, and if the containers began with the same entries, their replies are identical
   pub record RunsAgree : Type 0 where
-    pub along : (made : List R) (others : List R) → IsRun (Means equal_calls equal_replies moves) (ResizesTo (setting_of a.0)) (state_of a.0) calls made (state_of c.0)
-        → IsRun (Means equal_calls equal_replies moves) (ResizesTo (setting_of b.0)) (state_of b.0) calls others (state_of d.0)
+    pub along : (made : List R) (others : List R) → IsRun (Means equal_calls equal_replies moves) (ResizesTo (run_setting a.0)) (state_of a.0) calls made (state_of c.0)
+        → IsRun (Means equal_calls equal_replies moves) (ResizesTo (run_setting b.0)) (state_of b.0) calls others (state_of d.0)
         → AgreeAlong agree made others × (length others ≡ length made → alike (entries c.0) (entries d.0) × (length (entries d.0) ≡ length (entries c.0)))
-    pub all_same : same (entries a.0) (entries b.0) → (made : List R) (others : List R) → IsRun moves (ResizesTo (setting_of a.0)) (state_of a.0) calls made (state_of c.0)
-        → IsRun moves (ResizesTo (setting_of b.0)) (state_of b.0) calls others (state_of d.0) → length made ≡ length calls → length others ≡ length calls
+    pub all_same : same (entries a.0) (entries b.0) → (made : List R) (others : List R) → IsRun moves (ResizesTo (run_setting a.0)) (state_of a.0) calls made (state_of c.0)
+        → IsRun moves (ResizesTo (run_setting b.0)) (state_of b.0) calls others (state_of d.0) → length made ≡ length calls → length others ≡ length calls
         → (made ≡ others) × same (entries c.0) (entries d.0)
-    pub first_same : same (entries a.0) (entries b.0) → (made : List R) (others : List R) → IsRun moves (ResizesTo (setting_of a.0)) (state_of a.0) calls made (state_of c.0)
-        → IsRun moves (ResizesTo (setting_of b.0)) (state_of b.0) calls others (state_of d.0) → length made ≡ length calls → (rest : List R) × (made ≡ others ++ rest)
+    pub first_same : same (entries a.0) (entries b.0) → (made : List R) (others : List R) → IsRun moves (ResizesTo (run_setting a.0)) (state_of a.0) calls made (state_of c.0)
+        → IsRun moves (ResizesTo (run_setting b.0)) (state_of b.0) calls others (state_of d.0) → length made ≡ length calls → (rest : List R) × (made ≡ others ++ rest)
 
   module _ {X Y : Type 0} (result : Result X Y) where
     -- if both containers answered each call, `RunsOnBoth` holds

@@ -4,7 +4,7 @@ use Rattle.std.specs.Result.{OnOk, OnErr}
 use Rattle.scc_common.specs.Contents.{Contents, entries}
 use Rattle.scc_calls.specs.Copies.{Means}
 use Rattle.scc_calls.specs.Run.{IsRun}
-use Rattle.scc_calls.specs.States.{State, ResizesTo, setting_of, state_of}
+use Rattle.scc_calls.specs.States.{State, ResizesTo, run_setting, state_of}
 use Rattle.scc_uses.specs.Alikeness.{AgreeAlong, AreExact}
 
 -- a container, and the replies of its calls
@@ -13,7 +13,7 @@ Side E H R = Contents E H × List R
 
 -- replies are added, and the container changed by a run of the calls with these replies
 abbrev pub AddsRun : {C R E H : Type 0} → (State E → C → R → State E → Type 0) → List C → Side E H R → Side E H R → Type 0
-AddsRun {R = R} moves calls a b = (made : List R) × (b.1 ≡ a.1 ++ made) × IsRun moves (ResizesTo (setting_of a.0)) (state_of a.0) calls made (state_of b.0)
+AddsRun {R = R} moves calls a b = (made : List R) × (b.1 ≡ a.1 ++ made) × IsRun moves (ResizesTo (run_setting a.0)) (state_of a.0) calls made (state_of b.0)
 
 -- the first side got one reply for each call, the second side some replies, and both agree as far as they go
 abbrev pub AddAlike : {C R E H I : Type 0} → (R → R → Type 0) → List C → Side E H R → Side E I R → Side E H R → Side E I R → Type 0

@@ -4,7 +4,7 @@ ghost use Rattle.scc_cache.specs.CacheWalks.{GoesOver};
 ghost use Rattle.scc_cache.specs.Caches.{IsCacheState};
 ghost use Rattle.scc_cache.specs.Relocations.{RelocatesNoneWithin};
 ghost use Rattle.scc_cache.specs.TakingWalks.{TakesOutWithNext};
-ghost use Rattle.scc_common.specs.Contents.{entries, refused_of, waiting_of, hash_in};
+ghost use Rattle.scc_common.specs.Contents.{entries, notes_of, waiting_of, hash_in};
 ghost use Rattle.scc_common.specs.Pairs.{IsUnique};
 ghost use Rattle.scc_common.specs.Steps.{HoldsExactly};
 ghost use Rattle.scc_common.specs.Walks.{CalledOn, CallableWhile, Walks};
@@ -52,7 +52,7 @@ impl<K: Eq + Hash, V, H: BuildHasher> Owned<K, V, H> {
         K: Drop,
         V: Drop,
         ensures empty { HoldsExactly self.old.contents [] self.new.contents }
-        ensures refused { refused_of self.new.contents ≡ refused_of self.old.contents }
+        ensures refused { notes_of self.new.contents ≡ notes_of self.old.contents }
         ensures maximum { self.new.maximum ≡ self.old.maximum }
         ensures waiting { waiting_of self.new.contents ≡ waiting_of self.old.contents }
         ensures state { IsCacheState K.eq (hash_in ⟦<H as Hashes<K>>⟧.hash_of self.new.contents) self.new }

@@ -4,7 +4,7 @@ ghost use Rattle.scc_cache.specs.CacheWalks.{GoesOver, LeavesPairs};
 ghost use Rattle.scc_cache.specs.Caches.{Cached, IsCacheState};
 ghost use Rattle.scc_cache.specs.Lends.{with_value_at};
 ghost use Rattle.scc_cache.specs.Relocations.{RelocatesNoneWithin};
-ghost use Rattle.scc_common.specs.Contents.{entries, hash_in, refused_of, waiting_of};
+ghost use Rattle.scc_common.specs.Contents.{entries, hash_in, notes_of, waiting_of};
 ghost use Rattle.scc_common.specs.PairWalks.{CallableToWrite, CalledToWrite, Retains, TakesToWrite};
 ghost use Rattle.scc_common.specs.Pairs.{IsUnique};
 ghost use Rattle.scc_common.specs.Steps.{HoldsExactly};
@@ -71,7 +71,7 @@ impl<K: Eq + Hash, V, H: BuildHasher> Owned<K, V, H> {
         requires { CallableToWrite F.FnMut (λ answer. ⊤) f.old (entries self.old.contents) }
         ensures step { (stay : List (K × V)) × Retains (CalledToWrite F.FnMut) f.old (entries self.old.contents) stay
             f.new × HoldsExactly self.old.contents stay self.new.contents }
-        ensures refused { refused_of self.new.contents ≡ refused_of self.old.contents }
+        ensures refused { notes_of self.new.contents ≡ notes_of self.old.contents }
         ensures maximum { self.new.maximum ≡ self.old.maximum }
         ensures waiting { waiting_of self.new.contents ≡ waiting_of self.old.contents }
     {

@@ -1,6 +1,6 @@
 //! The calls at a place of an index.
 ghost use Rattle.scc_array.specs.ShelfWrites.{put_whole};
-ghost use Rattle.scc_common.specs.Contents.{entries, hash_in, refused_of, waiting_of};
+ghost use Rattle.scc_common.specs.Contents.{entries, hash_in, notes_of, waiting_of};
 ghost use Rattle.scc_common.specs.Pairs.{find, IsUnique};
 ghost use Rattle.scc_common.specs.Steps.{Holds, HoldsExactly};
 ghost use Rattle.scc_owned.specs.IndexInsertions.{InsertsNewByRule};
@@ -94,7 +94,7 @@ impl<K: Eq + Hash, V, H: BuildHasher> Index<K, V, H> {
         V: Drop,
         requires { IsPlace self.old place }
         ensures others { HoldsExactly self.old (remove (entries self.old) (index_of self.old place)) self.new }
-        ensures noted { refused_of self.new ≡ refused_of self.old }
+        ensures noted { notes_of self.new ≡ notes_of self.old }
         ensures waiting { waiting_of self.new ≡ waiting_of self.old }
         ensures next { MatchOption result (suc (index_of self.old place) ≡ length (entries self.old))
             (StandsAt self.new (index_of self.old place)) }

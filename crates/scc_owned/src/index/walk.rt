@@ -1,5 +1,5 @@
 //! Walks over the pairs of an index, from place to place.
-ghost use Rattle.scc_common.specs.Contents.{entries, refused_of, waiting_of};
+ghost use Rattle.scc_common.specs.Contents.{entries, notes_of, waiting_of};
 ghost use Rattle.scc_common.specs.PairWalks.{Declines, PassesFirst};
 ghost use Rattle.scc_common.specs.Pairs.{IsUnique};
 ghost use Rattle.scc_common.specs.Steps.{Holds, HoldsExactly};
@@ -56,7 +56,7 @@ impl<K: Eq + Hash, V, H: BuildHasher> Index<K, V, H> {
         ensures step { (stay : List (K × V)) × Retains (CalledOn F.FnMut) f.old (entries self.old) stay f.new
             × HoldsExactly self.old stay self.new }
         ensures was_unique { IsUnique K.eq self.old }
-        ensures noted { refused_of self.new ≡ refused_of self.old }
+        ensures noted { notes_of self.new ≡ notes_of self.old }
         ensures waiting { waiting_of self.new ≡ waiting_of self.old }
     {
         let mut at = self.first_place();

@@ -1,6 +1,6 @@
 //! The calls on a map that name a key, and its walk for reading.
 ghost use Rattle.scc_common.specs.Closures.{Reads, WritesAt};
-ghost use Rattle.scc_common.specs.Contents.{entries, bucket_count, settings_of, refused_of, waiting_of, hash_in, IsMarked, IsNoteUp};
+ghost use Rattle.scc_common.specs.Contents.{entries, bucket_count, settings_of, notes_of, waiting_of, hash_in, IsMarked, IsNoteUp};
 ghost use Rattle.scc_common.specs.Pairs.{find, FindsInstead, HasRoom, IsUnique};
 ghost use Rattle.scc_common.specs.Steps.{Prepares};
 ghost use Rattle.scc_common.specs.Walks.{CalledOn, CallableWhile, Walks};
@@ -100,7 +100,7 @@ impl<K: Eq + Hash, V, H: BuildHasher> Map<K, V, H> {
             × (K.eq k.now p.0 ≡ true) × WritesAt U.FnOnce u p x w
             × FindsInstead K.eq (entries self.old) k.now (Some (p.0, w)) (entries self.new)) }
         ensures missing { IfNone result (find K.eq (entries self.old) k.now ≡ None) }
-        ensures noted { refused_of self.new ≡ refused_of self.old }
+        ensures noted { notes_of self.new ≡ notes_of self.old }
         ensures waiting { waiting_of self.new ≡ waiting_of self.old }
         ensures unique { IsUnique K.eq self.new }
     {

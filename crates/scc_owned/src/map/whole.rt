@@ -1,6 +1,6 @@
 //! The calls on a whole map: comparisons and clones.
 ghost use Rattle.scc_common.specs.Clones.{HasClones};
-ghost use Rattle.scc_common.specs.Contents.{entries, refused_of, waiting_of};
+ghost use Rattle.scc_common.specs.Contents.{entries, notes_of, waiting_of};
 ghost use Rattle.scc_common.specs.Copies.{IsCopied};
 ghost use Rattle.scc_common.specs.Pairs.{find, IsUnique};
 ghost use Rattle.scc_owned.specs.Collections.{FindsClones};
@@ -73,7 +73,7 @@ impl<K: Eq + Hash, V, H: BuildHasher> Map<K, V, H> {
         ensures clones { IfOk result (HasClones (λ p q. K.is_clone p.0 q.0 × V.is_clone p.1 q.1) H.is_clone self.now) }
         ensures finds { IfOk result (λ m. ((k : K) → (copy : K) → K.is_clone k copy → K.eq k copy ≡ true)
             → FindsClones K.eq (λ p q. K.is_clone p.0 q.0 × V.is_clone p.1 q.1) (entries self.now) (entries m)) }
-        ensures noted { IfOk result (λ m. refused_of m ≡ (false, false)) }
+        ensures noted { IfOk result (λ m. notes_of m ≡ (false, false)) }
         ensures waiting { IfOk result (λ m. waiting_of m ≡ []) }
         ensures unique { IfOk result (λ m. IsUnique K.eq m) }
     {

@@ -1,6 +1,6 @@
 //! The calls at a place of an index under a rule.
 ghost use Rattle.scc_array.specs.ShelfWrites.{put_whole};
-ghost use Rattle.scc_common.specs.Contents.{entries, hash_in, refused_of};
+ghost use Rattle.scc_common.specs.Contents.{entries, hash_in, notes_of};
 ghost use Rattle.scc_common.specs.Pairs.{find, IsUnique};
 ghost use Rattle.scc_common.specs.Steps.{Holds, HoldsExactly};
 ghost use Rattle.scc_rules.specs.Rules.{KeepsAll};
@@ -47,7 +47,7 @@ impl<K: Eq + Hash, V, R: Rule<K, V>, H: BuildHasher> Kept<K, V, R, H> {
         requires { IsPlace self.old place }
         ensures left { KeepsAll R.holds self.new }
         ensures others { HoldsExactly self.old (remove (entries self.old) (index_of self.old place)) self.new }
-        ensures noted { refused_of self.new ≡ refused_of self.old }
+        ensures noted { notes_of self.new ≡ notes_of self.old }
         ensures unique { IsUnique K.eq self.new }
         ensures next { MatchOption result (suc (index_of self.old place) ≡ length (entries self.old))
             (StandsAt self.new (index_of self.old place)) }

@@ -4,7 +4,7 @@ use Rattle.std.specs.List.{filter, flat_map, IsDistinct}
 use native.Mathlib.Decide.{dec_lt}
 use Rattle.scc_array.specs.Shelf.{Shelf, shelf_entries}
 use Rattle.scc_array.specs.ShelfWrites.{write_at}
-use Rattle.scc_common.specs.Contents.{Contents, entries, bucket_count, list_of, lists_of, settings_of, refused_of, overflow_of, waiting_of, owed_of}
+use Rattle.scc_common.specs.Contents.{Contents, entries, bucket_count, list_of, lists_of, settings_of, notes_of, overflow_of, waiting_of, owed_of}
 use Rattle.scc_common.specs.Routing.{bucket_number}
 use Rattle.scc_buckets.specs.Tables.{overflow_in}
 use Rattle.scc_buckets.specs.Writes.{with_write_at_spot}
@@ -51,7 +51,7 @@ module _ {E S : Type 0} (c d : Contents E S) (i : ℕ) (x : List E) (lists : lis
       pub own-settings : settings_of (together hash d ws olds) ≡ settings_of (together hash c ws olds)
       own-settings = settings-together hash d ws olds ∙ settings ∙ sym (settings-together hash c ws olds)
 
-      pub own-refused : refused_of d ≡ refused_of c → refused_of (together hash d ws olds) ≡ refused_of (together hash c ws olds)
+      pub own-refused : notes_of d ≡ notes_of c → notes_of (together hash d ws olds) ≡ notes_of (together hash c ws olds)
       own-refused noted = refused-together hash d ws olds ∙ noted ∙ sym (refused-together hash c ws olds)
 
       pub own-arrays : TwoArrays hash c ws olds → TwoArrays hash d ws olds
@@ -99,8 +99,8 @@ module _ {E S X : Type 0} (put : E → X → E) (c : Contents E S) (p : Place) (
   unfolding with_write_at_spot settings_of
   settings-write = refl
 
-  pub refused-write : refused_of (with_write_at_spot put c p w) ≡ refused_of c
-  unfolding with_write_at_spot refused_of
+  pub refused-write : notes_of (with_write_at_spot put c p w) ≡ notes_of c
+  unfolding with_write_at_spot notes_of
   refused-write = refl
 
   pub spilled-write : overflow_of (with_write_at_spot put c p w) ≡ overflow_of c

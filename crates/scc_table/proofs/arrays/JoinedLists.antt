@@ -2,7 +2,7 @@
 use Rattle.std.proofs.Common.{◌≡◌, ◌==◌, ℕ, zero, suc, ◌+◌, ◌<◌, ◌⊎◌, inl, inr, Bool, cond, List, [], ◌∷◌, length, get_or, refl, sym, ap, ◌∙◌, arith}
 use Rattle.std.specs.List.{filter, flat_map, count_by}
 use Rattle.scc_array.specs.Shelf.{Shelf, shelf_entries}
-use Rattle.scc_common.specs.Contents.{Contents, bucket_count, lists_of, settings_of, refused_of, waiting_of, owed_of, pending_of}
+use Rattle.scc_common.specs.Contents.{Contents, bucket_count, lists_of, settings_of, notes_of, waiting_of, owed_of, pending_of}
 use Rattle.scc_table.specs.TwoArrays.{joined, together, target_by, waits_at, owed_in}
 
 module _ {E : Type 0} (target : E → ℕ) (es : List E) where
@@ -28,8 +28,8 @@ module _ {E S : Type 0} (hash : E → ℕ) (c : Contents E S) (ws : List Bool) (
   unfolding settings_of
   settings-together = refl
 
-  pub refused-together : refused_of (together hash c ws olds) ≡ refused_of c
-  unfolding refused_of
+  pub refused-together : notes_of (together hash c ws olds) ≡ notes_of c
+  unfolding notes_of
   refused-together = refl
 
   pub waiting-together : waiting_of (together hash c ws olds) ≡ ws

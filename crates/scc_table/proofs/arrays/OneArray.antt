@@ -4,7 +4,7 @@ use Rattle.std.specs.List.{flat_map, IsDistinct}
 use Rattle.std.proofs.lemmas.List.Sums.{sum_by-cons}
 use Rattle.scc_array.specs.Shelf.{Shelf, shelf_entries}
 use Rattle.scc_buckets.proofs.Bare.{nil-left}
-use Rattle.scc_common.specs.Contents.{Contents, entries, bucket_count, lists_of, settings_of, refused_of, overflow_of, owed_of}
+use Rattle.scc_common.specs.Contents.{Contents, entries, bucket_count, lists_of, settings_of, notes_of, overflow_of, owed_of}
 use Rattle.scc_buckets.specs.Pour.{destined_for}
 use Rattle.scc_common.specs.Routing.{bucket_number}
 use Rattle.scc_buckets.specs.Tables.{overflow_in}
@@ -64,7 +64,7 @@ spilled-bare {E} (b ∷ olds) h =
 -- if the old array holds no entries, the contents of both arrays are those without an old array
 pub bare-together : {E S : Type 0} (hash : E → ℕ) (c : Contents E S) (olds : List (Shelf E)) → flat_map shelf_entries olds ≡ [] → together hash c [] olds ≡ together hash c [] []
 bare-together {E} {S} hash c olds bare =
-    ap (λ n. let d : Contents E S = record { lists = lists_of c; settings = settings_of c; refused = refused_of c; spilled = overflow_of c + n; waiting = []; owed = [] } in d) (spilled-bare olds bare)
+    ap (λ n. let d : Contents E S = record { lists = lists_of c; settings = settings_of c; refused = notes_of c; spilled = overflow_of c + n; waiting = []; owed = [] } in d) (spilled-bare olds bare)
 
 -- the invariant `IsTable` holds of contents c without an old array
 pub fields-alone : {E K S : Type 0} (eq : K → K → Bool) (key : E → K) (hash : K → ℕ) (c : Contents E S) (skipped next : ℕ) → skipped ≡ (settings_of c).skipped → skipped ≤ 4 → overflow_of c < 2 ^ 62 → IsDistinct eq (map key (entries c))

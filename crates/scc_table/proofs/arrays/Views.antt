@@ -2,7 +2,7 @@
 use Rattle.std.proofs.Common.{◌≡◌, ℕ, ◌+◌, ◌⊎◌, Bool, List, [], length, sym, ap, ◌∙◌}
 use Rattle.std.specs.List.{count_by}
 use Rattle.scc_array.specs.Shelf.{Shelf}
-use Rattle.scc_common.specs.Contents.{Contents, bucket_count, lists_of, settings_of, refused_of, overflow_of, waiting_of, owed_of, pending_of}
+use Rattle.scc_common.specs.Contents.{Contents, bucket_count, lists_of, settings_of, notes_of, overflow_of, waiting_of, owed_of, pending_of}
 use Rattle.scc_buckets.specs.Tables.{overflow_in}
 use Rattle.scc_table.specs.TwoArrays.{Draining, together, IsTable}
 use Rattle.scc_table.proofs.arrays.OneArray.{lists-alone, owed-alone, spilled-together}
@@ -12,8 +12,8 @@ module _ {E S : Type 0} (hash : E → ℕ) (c : Contents E S) (ws : List Bool) (
   pub settings-seen : settings_of d ≡ settings_of c
   settings-seen = ap settings_of (sym view) ∙ settings-together hash c ws olds
 
-  pub refused-seen : refused_of d ≡ refused_of c
-  refused-seen = ap refused_of (sym view) ∙ refused-together hash c ws olds
+  pub refused-seen : notes_of d ≡ notes_of c
+  refused-seen = ap notes_of (sym view) ∙ refused-together hash c ws olds
 
   pub waiting-seen : waiting_of d ≡ ws
   waiting-seen = ap waiting_of (sym view) ∙ waiting-together hash c ws olds

@@ -7,7 +7,7 @@ use Rattle.std.proofs.lemmas.List.{get_or_default}
 use Rattle.scc_array.specs.Shelves.{shelf_of}
 use Rattle.scc_array.specs.Shelf.{Shelf, shelf_entries, empty_shelf}
 use Rattle.scc_array.specs.ShelfWrites.{write_at, shelf_write_at}
-use Rattle.scc_common.specs.Contents.{Contents, entries, bucket_count, list_of, lists_of, settings_of, refused_of, overflow_of}
+use Rattle.scc_common.specs.Contents.{Contents, entries, bucket_count, list_of, lists_of, settings_of, notes_of, overflow_of}
 use Rattle.scc_buckets.specs.Placed.{at, at-get}
 use Rattle.scc_buckets.specs.Places as spots
 use Rattle.scc_common.specs.Routing.{bucket_number}
@@ -56,7 +56,7 @@ module _ {E S X : Type 0} (put : E → X → E) (hash : E → ℕ) (c : Contents
       let sized = sized-flags c ws olds (target_by hash c e) arrays.sized (old-waits hash c ws olds arrays j s e lj got) in
       let p : Place = record { bucket = j; slot = s } in
       written-table put hash (settings_of c).skipped (sum_by (λ b. length (shelf_entries b)) olds) (overflow_in olds) p olds (old-table hash (settings_of c).skipped olds sized arrays.own few) (settings_of c)
-      (view_of (refused_of c) olds (settings_of c)) refl (shelf_of olds j) lj (shelf-at olds j lj) e got w same
+      (view_of (notes_of c) olds (settings_of c)) refl (shelf_of olds j) lj (shelf-at olds j lj) e got w same
 
   own-after : IsOwn hash (settings_of c).skipped (length olds) j (shelf_write_at put (shelf_of olds j) s w)
   own-after =

@@ -3,7 +3,7 @@ use Rattle.std.proofs.Common.{◌≡◌, ◌++◌, suc, [], Bool, true, Some, le
 use Rattle.std.specs.Cmp.{IsEquivalence}
 use Rattle.std.specs.List.{IsDistinct, remove, slice_get}
 use Rattle.std.specs.Map.{keys_of, set_key, set_value}
-use Rattle.scc_common.specs.Contents.{Contents, entries, refused_of}
+use Rattle.scc_common.specs.Contents.{Contents, entries, notes_of}
 use Rattle.scc_common.specs.Pairs.{with_pair_key, with_pair_value, without}
 use Rattle.scc_buckets.specs.Placed as spots
 use Rattle.scc_buckets.specs.Places as places
@@ -53,10 +53,10 @@ module _ {E S : Type 0} where
   pub left-there : (c : Contents E S) (p : Place) (d : Contents E S) → HoldsExactly c (remove (entries c) (index_of c p)) d → HoldsExactly c (front_of c p ++ back_of c p) d
   left-there c p d others = placing.left-there c (spot_of c p) d others
 
-  pub past-there : (c : Contents E S) (p : Place) (d : Contents E S) (q : Place) (j : IsPlace d q) → HoldsExactly c (remove (entries c) (index_of c p)) d → refused_of d ≡ refused_of c → index_of d q ≡ index_of c p → IsNextPastRemovedAt c p d q j
+  pub past-there : (c : Contents E S) (p : Place) (d : Contents E S) (q : Place) (j : IsPlace d q) → HoldsExactly c (remove (entries c) (index_of c p)) d → notes_of d ≡ notes_of c → index_of d q ≡ index_of c p → IsNextPastRemovedAt c p d q j
   past-there c p d q j others noted index = placing.past-there c (spot_of c p) d (spot_of d q) j others noted index
 
-  pub noted-write : {X : Type 0} (put : E → X → E) (c : Contents E S) (p : Place) (w : X) → refused_of (with_write_at put c p w) ≡ refused_of c
+  pub noted-write : {X : Type 0} (put : E → X → E) (c : Contents E S) (p : Place) (w : X) → notes_of (with_write_at put c p w) ≡ notes_of c
   noted-write put c p w = writing.noted-write put c (spot_of c p) w
 
 module _ {K V S : Type 0} (eq : K → K → Bool) (c : Contents (K × V) S) (k : K) (p : Place) where

@@ -4,7 +4,7 @@ use Rattle.std.specs.List.{All}
 use Rattle.std.proofs.lemmas.List.{drop_all, length-drop, nil_from_length}
 use Rattle.std.proofs.lemmas.List.Elements.{All-cons}
 use Rattle.scc_buckets.specs.Bounded.{IsBounded}
-use Rattle.scc_common.specs.Contents.{Contents, list_of, lists_of, settings_of, refused_of, waiting_of, pending_of}
+use Rattle.scc_common.specs.Contents.{Contents, list_of, lists_of, settings_of, notes_of, waiting_of, pending_of}
 use Rattle.scc_table.specs.Relocates.{AreMovedFrom, AreShort}
 use Rattle.scc_table.specs.Relocations.{RelocatesUpTo, TriesSecond, lone, kept, moved}
 use Rattle.scc_table.specs.TwoArrays.{IsFirstWaiting, IsRelocated, IsWaiting, pending_targets, waits_at}
@@ -71,7 +71,7 @@ module _ {E S : Type 0} where
   pub record SettlesFirst (c d : Contents E S) (n : ℕ) : Type 0 where
     pub lists : lists_of d ≡ lists_of c
     pub settings : settings_of d ≡ settings_of c
-    pub refused : refused_of d ≡ refused_of c
+    pub refused : notes_of d ≡ notes_of c
     pub fewer : (k : ℕ) → IsWaiting d k → IsWaiting c k
     pub less : pending_of d ≤ pending_of c
     pub most : pending_of c ≤ pending_of d + n
@@ -143,7 +143,7 @@ module _ {E S : Type 0} where
   record Leaves (d e : Contents E S) : Type 0 where
     lists : lists_of e ≡ lists_of d
     settings : settings_of e ≡ settings_of d
-    refused : refused_of e ≡ refused_of d
+    refused : notes_of e ≡ notes_of d
     fewer : (k : ℕ) → IsWaiting e k → IsWaiting d k
     less : pending_of e ≤ pending_of d
     most : pending_of d ≤ pending_of e + 1

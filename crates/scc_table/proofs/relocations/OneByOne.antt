@@ -2,7 +2,7 @@
 use Rattle.std.proofs.Common.{◌≡◌, ◌==◌, ℕ, zero, suc, ◌+◌, Bool, true, false, List, [], ◌∷◌, set, refl, sym, ap, ◌∙◌, arith, rules}
 use Rattle.std.specs.List.{count_by}
 use Rattle.scc_buckets.specs.Bounded.{IsBounded}
-use Rattle.scc_common.specs.Contents.{Contents, lists_of, settings_of, refused_of, waiting_of, pending_of}
+use Rattle.scc_common.specs.Contents.{Contents, lists_of, settings_of, notes_of, waiting_of, pending_of}
 use Rattle.scc_buckets.proofs.PairSplits.{by_answer}
 use Rattle.scc_table.specs.Relocates.{AreShort}
 use Rattle.scc_table.specs.TwoArrays.{IsRelocated, IsWaiting, waits_at, cleared}
@@ -39,7 +39,7 @@ module _ {E S : Type 0} where
   pub record Finishes (c d : Contents E S) (n : ℕ) : Type 0 where
     pub lists : lists_of d ≡ lists_of c
     pub settings : settings_of d ≡ settings_of c
-    pub refused : refused_of d ≡ refused_of c
+    pub refused : notes_of d ≡ notes_of c
     pub fewer : (k : ℕ) → IsWaiting d k → IsWaiting c k
     pub left : pending_of d + n ≡ pending_of c
     pub none : pending_of d ≡ 0 → waiting_of d ≡ []

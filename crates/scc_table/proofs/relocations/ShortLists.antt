@@ -5,7 +5,7 @@ use Rattle.std.proofs.lemmas.List.{append-nil, get_or_past, take_more, take-appe
 use Rattle.std.proofs.lemmas.List.Concat.{flat_map-append}
 use native.Mathlib.Decide.{dec_lt}
 use Rattle.scc_buckets.specs.Bounded.{HasList, IsBounded, IsListed, IsResized, PutsLast}
-use Rattle.scc_common.specs.Contents.{Contents, Settings, entries, bucket_count, list_of, lists_of, refused_of, settings_of, IsRouted}
+use Rattle.scc_common.specs.Contents.{Contents, Settings, entries, bucket_count, list_of, lists_of, notes_of, settings_of, IsRouted}
 use Rattle.scc_buckets.specs.Pour.{destined_for}
 use Rattle.scc_common.specs.Routing.{bucket_number}
 use Rattle.scc_common.specs.Sizes.{IsBucketCount, IsLawful}
@@ -181,7 +181,7 @@ module _ {E S : Type 0} (hash : E → ℕ) (c : Contents E S) (listed : IsListed
       sym (ap (λ z. length (destined_for hash t n i z)) parts ∙ ap length (destined_append hash t n i xs ys) ∙ ap (λ z. length (destined_for hash t n i xs ++ z)) none ∙ ap length (append-nil (destined_for hash t n i xs)))
 
 -- c and m have equal lists: `HasList` and `PutsLast` hold from c if they hold from m, and to m if they hold to c
-module _ {E S : Type 0} (c m : Contents E S) (lists : lists_of m ≡ lists_of c) (settings : settings_of m ≡ settings_of c) (refused : refused_of m ≡ refused_of c) where
+module _ {E S : Type 0} (c m : Contents E S) (lists : lists_of m ≡ lists_of c) (settings : settings_of m ≡ settings_of c) (refused : notes_of m ≡ notes_of c) where
   has-from : (d : Contents E S) (i : ℕ) (es : List E) → HasList m i es d → HasList c i es d
   has-from d i es h = record { lists = h.lists ∙ ap (λ ls. set ls i es) lists; settings = h.settings ∙ settings; refused = h.refused ∙ refused; bounded = h.bounded }
 

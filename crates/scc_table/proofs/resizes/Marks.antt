@@ -2,7 +2,7 @@
 use Rattle.std.proofs.Common.{◌≡◌, ◌≢◌, ◌∙◌, ◌*◌, ◌^◌, ◌<◌, ◌≤◌, ℕ, Bool, true, false, inl, inr, Result, length, sym, ap, arith}
 use Rattle.std.specs.List.{count_by}
 use Rattle.std.proofs.lemmas.Bool.{cases_order}
-use Rattle.scc_common.specs.Contents.{Contents, HasRoomAt, bucket_count, entries, lists_of, pending_of, refused_of, settings_of}
+use Rattle.scc_common.specs.Contents.{Contents, HasRoomAt, bucket_count, entries, lists_of, pending_of, notes_of, settings_of}
 use Rattle.scc_table.specs.Growths.{FindsBucketForNew}
 use Rattle.scc_table.specs.Marks.{MarksPreparation}
 use Rattle.scc_table.proofs.relocations.OneByOne.{pending-is}
@@ -14,8 +14,8 @@ both-are : (x : Bool × Bool) (p q : Bool) → x.0 ≡ p → x.1 ≡ q → x ≡
 both-are x p q l r = ap (λ (y : Bool). (y, x.1)) l ∙ ap (λ (y : Bool). (p, y)) r
 
 module _ {E K S X : Type 0} (eq : K → K → Bool) (key : E → K) (hash : K → ℕ) (a b : Contents E S) (h : ℕ) (result : Result ℕ X) (m : FindsBucketForNew eq key hash a h result b) where
-  down-grown : 0 < bucket_count a → bucket_count b ≢ bucket_count a → refused_of b ≡ (false, false)
-  down-grown some ne = both-are (refused_of b) false false (m.down some ne) (m.unmarked record { array = some; not_waiting = m.growth.not_waiting some ne; full = λ room. ne (ap bucket_count (m.still room)); half = m.growth.half some ne; below = m.growth.below some ne })
+  down-grown : 0 < bucket_count a → bucket_count b ≢ bucket_count a → notes_of b ≡ (false, false)
+  down-grown some ne = both-are (notes_of b) false false (m.down some ne) (m.unmarked record { array = some; not_waiting = m.growth.not_waiting some ne; full = λ room. ne (ap bucket_count (m.still room)); half = m.growth.half some ne; below = m.growth.below some ne })
 
   -- if no growth is due that wasn't made, the note and the mark are as `MarksPreparation` says
   pub marks-left : (IsGrowthDue hash key a h → bucket_count b ≡ bucket_count a → ⊥) → MarksPreparation hash key a h b
@@ -83,7 +83,7 @@ module _ {E K S X : Type 0} (eq : K → K → Bool) (key : E → K) (hash : K �
       )
 
   -- if a due growth wasn't made, and the note and the mark are up, they are as `MarksPreparation` says
-  pub marks-up : (d : Contents E S) → lists_of d ≡ lists_of b → refused_of d ≡ (true, true) → IsGrowthDue hash key a h × (bucket_count b ≡ bucket_count a) → MarksPreparation hash key a h d
+  pub marks-up : (d : Contents E S) → lists_of d ≡ lists_of b → notes_of d ≡ (true, true) → IsGrowthDue hash key a h × (bucket_count b ≡ bucket_count a) → MarksPreparation hash key a h d
   marks-up d lists up due =
       let n = count-same b d lists in
       record {

@@ -1,7 +1,7 @@
 -- A pair that a walk visits: it stays with the written value, or it is taken out.
 use Rattle.std.proofs.Common.{◌≡◌, ℕ, zero, suc, ◌<◌, ◌-◌, List, [], ◌∷◌, ◌++◌, length, take, drop, Bool, true, false, Option, None, Some, MatchOption, IfSome, refl, sym, ap, ◌∙◌, arith, subst, append_assoc}
 use Rattle.std.specs.List.{slice_get, remove}
-use Rattle.scc_common.specs.Contents.{Contents, entries, bucket_count, settings_of, list_of, refused_of}
+use Rattle.scc_common.specs.Contents.{Contents, entries, bucket_count, settings_of, list_of, notes_of}
 use Rattle.scc_buckets.specs.Places.{IsSpot, index_of_spot}
 use Rattle.scc_buckets.specs.Standing.{StandsAtSpot}
 use Rattle.scc_common.specs.Steps.{HoldsExactly}
@@ -41,7 +41,7 @@ pub record Visited {K V S : Type 0} (m : Contents (K × V) S) (p : Place) (q : K
   pub count : length (entries n) ≡ length (entries m)
   pub buckets : bucket_count n ≡ bucket_count m
   pub settings : settings_of n ≡ settings_of m
-  pub noted : refused_of n ≡ refused_of m
+  pub noted : notes_of n ≡ notes_of m
 
 module _ {K V S : Type 0} (m : Contents (K × V) S) (p : Place) where
   pub visited : (q : K × V) (w : V) (n : Contents (K × V) S) → IsSpot m p → slice_get (entries m) (index_of_spot m p) ≡ Some q → n ≡ with_write_at_spot with_pair_value m p w → Visited m p q w n
@@ -60,7 +60,7 @@ module _ {K V S : Type 0} (m : Contents (K × V) S) (p : Place) where
         count = ap length all ∙ length-write with_pair_value es i w;
         buckets = ap bucket_count new ∙ h.buckets;
         settings = ap settings_of new ∙ h.settings;
-        noted = ap refused_of new ∙ noted-write with_pair_value m p w;
+        noted = ap notes_of new ∙ noted-write with_pair_value m p w;
       }
 
   module _ (q : K × V) (w : V) (n : Contents (K × V) S) (v : Visited m p q w n) where

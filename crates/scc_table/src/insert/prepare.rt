@@ -1,5 +1,5 @@
 //! The preparation of an insertion.
-ghost use Rattle.scc_common.specs.Contents.{bucket_count, key_hash, lists_of, refused_of, settings_of, waiting_of, IsUniqueBy, note_of};
+ghost use Rattle.scc_common.specs.Contents.{bucket_count, key_hash, lists_of, notes_of, settings_of, waiting_of, IsUniqueBy, note_of};
 ghost use Rattle.scc_common.specs.Steps.{IsUnchanged, Prepares};
 ghost use Rattle.scc_table.specs.Marks.{MarksPreparation};
 ghost use Rattle.std.specs.Prelude.{◌≡◌, ◌<◌, false, OnOk, OnErr};
@@ -51,7 +51,7 @@ where
         ensures same { IsUnchanged self.old self.new }
         ensures lists { lists_of self.new ≡ lists_of self.old }
         ensures waiting { waiting_of self.new ≡ waiting_of self.old }
-        ensures noted { refused_of self.new ≡ (note_of self.old, false) }
+        ensures noted { notes_of self.new ≡ (note_of self.old, false) }
         ensures unique { IsUniqueBy E.Key.eq E.key_of self.new }
     {
         let refused = self.is_resize_refused();

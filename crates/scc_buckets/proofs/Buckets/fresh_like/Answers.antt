@@ -1,5 +1,5 @@
 use Rattle.std.proofs.Common.{◌≡◌, length, refl, sym, ◌∙◌, arith, rules}
-use Rattle.scc_common.specs.Contents.{refused_of, waiting_of}
+use Rattle.scc_common.specs.Contents.{notes_of, waiting_of}
 use Rattle.scc_buckets.proofs.CloningLemmas.{array-of_some}
 use Rattle.scc_buckets.proofs.MakingLemmas.{kept-fresh, entries-fresh}
 use Rattle.scc_buckets.proofs.Views.{count-view, settings-view}
@@ -41,7 +41,7 @@ returns-in-Ok-clause-settings g c =
     rw (settings-view c.in-Ok.buckets _ _ refl, settings-view bs _ c.args.self.now c.self.view_is, count-view bs _ c.args.self.now c.self.view_is, len) refl
 
 pub returns-in-Ok-clause-noted : goal.returns-in-Ok-clause-noted
-unfolding refused_of
+unfolding notes_of
 returns-in-Ok-clause-noted g c = refl
 
 pub returns-in-Ok-clause-waiting : goal.returns-in-Ok-clause-waiting

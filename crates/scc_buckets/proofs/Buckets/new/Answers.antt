@@ -1,5 +1,5 @@
 use Rattle.std.proofs.Common.{refl, arith, inl, []}
-use Rattle.scc_common.specs.Contents.{entries, bucket_count, refused_of, settings_of, waiting_of}
+use Rattle.scc_common.specs.Contents.{entries, bucket_count, notes_of, settings_of, waiting_of}
 use Rattle.scc_common.specs.Hashing.{hash_of}
 use Rattle.scc_buckets.proofs.Bounds.{bounded-fresh, listed-view}
 use Rattle.scc_buckets.proofs.MakingLemmas.{kept-none, none-empty, table-empty}
@@ -9,7 +9,7 @@ pub invariant_of-result : goal.invariant_of-result
 invariant_of-result g c = rw c.none.ensures (kept-none _ _ _ c.args.skipped 0 c.requires (omega arith))
 
 pub returns : goal.returns
-unfolding entries bucket_count settings_of refused_of waiting_of
+unfolding entries bucket_count settings_of notes_of waiting_of
 returns g c =
     record {
       entries = (rw c.none.ensures refl);

@@ -1,7 +1,7 @@
 use Rattle.std.proofs.Common.{rules, refl, arith, inr, length}
 use Rattle.scc_common.specs.Hashing.{hash_of}
 use Rattle.scc_common.specs.Sizes.{IsLawful}
-use Rattle.scc_common.specs.Contents.{refused_of, settings_of, waiting_of}
+use Rattle.scc_common.specs.Contents.{notes_of, settings_of, waiting_of}
 use Rattle.scc_buckets.proofs.Bounds.{bounded-fresh, listed-view}
 use Rattle.scc_buckets.proofs.MakingLemmas.{kept-fresh, entries-fresh, table-empty}
 use Rattle.scc_buckets.proofs.Views.{count-view}
@@ -12,7 +12,7 @@ invariant_of-result g c =
     kept-fresh _ _ _ c.args.skipped _ c.buckets_for-count.result 0 0 c.in-Ok.buckets c.in-Ok.ensures.empty c.in-Ok.ensures.count c.buckets_for-count.ensures.array c.requires (omega (arith, c.buckets_for-count.ensures.array.most)) refl refl
 
 pub returns-in-Ok : goal.returns-in-Ok
-unfolding settings_of refused_of waiting_of
+unfolding settings_of notes_of waiting_of
 returns-in-Ok g c =
     record {
       entries = (entries-fresh c.in-Ok.buckets _ _ c.in-Ok.ensures.empty);

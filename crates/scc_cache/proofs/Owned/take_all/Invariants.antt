@@ -1,5 +1,5 @@
 use Rattle.std.proofs.Common.{◌≡◌, length, IfSome}
-use Rattle.scc_common.specs.Contents.{entries, bucket_count, settings_of, refused_of, waiting_of}
+use Rattle.scc_common.specs.Contents.{entries, bucket_count, settings_of, notes_of, waiting_of}
 use Rattle.scc_table.specs.Places.{IsPlace}
 use Rattle.scc_table.proofs.walks.Reach.{reached}
 use Rattle.scc_cache.proofs.Owned.take_all.Given as goal
@@ -10,7 +10,7 @@ invariant-loop-at g l = record {
   first : reached l.self.contents l.at ≡ 0;
   buckets : bucket_count l.self.contents ≡ bucket_count l.fn.self.contents;
   settings : settings_of l.self.contents ≡ settings_of l.fn.self.contents;
-  refused : refused_of l.self.contents ≡ refused_of l.fn.self.contents;
+  refused : notes_of l.self.contents ≡ notes_of l.fn.self.contents;
   maximum : l.self.maximum ≡ l.fn.self.maximum;
   waiting : waiting_of l.self.contents ≡ waiting_of l.fn.self.contents;
 }

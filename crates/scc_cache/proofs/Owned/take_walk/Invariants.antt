@@ -1,6 +1,6 @@
 use Rattle.std.proofs.Common.{◌≡◌, ◌≤◌, ◌-◌, ◌++◌, List, Bool, Result, length, take, drop, IfSome}
 use Rattle.std.specs.Vec.{vec_capacity}
-use Rattle.scc_common.specs.Contents.{entries, bucket_count, settings_of, refused_of, waiting_of}
+use Rattle.scc_common.specs.Contents.{entries, bucket_count, settings_of, notes_of, waiting_of}
 use Rattle.scc_table.specs.Places.{IsPlace}
 use Rattle.scc_common.specs.declared.errors.WalkError.{WalkError}
 use Rattle.scc_common.specs.PairWalks.{CallableToWrite, CalledToWrite, GoesOn, Takes}
@@ -14,7 +14,7 @@ invariant-loop-at g l = record {
   within : IfSome l.at (IsPlace l.self.contents);
   buckets : bucket_count l.self.contents ≡ bucket_count l.fn.self.contents;
   settings : settings_of l.self.contents ≡ settings_of l.fn.self.contents;
-  refused : refused_of l.self.contents ≡ refused_of l.fn.self.contents;
+  refused : notes_of l.self.contents ≡ notes_of l.fn.self.contents;
   maximum : l.self.maximum ≡ l.fn.self.maximum;
   waiting : waiting_of l.self.contents ≡ waiting_of l.fn.self.contents;
   room : vec_capacity l.fn.taken ≤ vec_capacity l.taken;

@@ -1,6 +1,6 @@
 //! The calls that make an entry of a borrowed map, and those that end the borrow. An entry holds the place that one
 //! search found.
-ghost use Rattle.scc_common.specs.Contents.{refused_of, waiting_of};
+ghost use Rattle.scc_common.specs.Contents.{notes_of, waiting_of};
 ghost use Rattle.scc_common.specs.Pairs.{IsUnique};
 ghost use Rattle.scc_common.specs.Steps.{Holds};
 ghost use Rattle.scc_owned.specs.Held.{occupied_contents, occupied_pair, occupied_front, occupied_back};
@@ -19,7 +19,7 @@ impl<K: Eq + Hash, V, H: BuildHasher> Map<K, V, H> {
     pub fn replace_sync(&mut self, k: K) -> ReplaceResult<'_, K, V, H>
         ensures same_map { (replaced_guard result).ghost_name ≡ self.entry.ghost_name }
         ensures step { Replaces K.eq self.old k result }
-        ensures noted { refused_of (replaced_guard result).now ≡ refused_of self.old }
+        ensures noted { notes_of (replaced_guard result).now ≡ notes_of self.old }
         ensures waiting { waiting_of (replaced_guard result).now ≡ waiting_of self.old }
         ensures unique { IsUnique K.eq (replaced_guard result).now }
     {

@@ -1,6 +1,6 @@
 //! How an entry is made from the guard of a map. The guard may be of any kind, but the owned form, whose contracts say
 //! more of a guard that goes, makes its entries itself.
-ghost use Rattle.scc_common.specs.Contents.{entries, refused_of, waiting_of};
+ghost use Rattle.scc_common.specs.Contents.{entries, notes_of, waiting_of};
 ghost use Rattle.scc_common.specs.PairWalks.{Declines, PassesAt};
 ghost use Rattle.scc_common.specs.Pairs.{find, IsUnique};
 ghost use Rattle.scc_common.specs.Walks.{CalledOn, CallableWhile};
@@ -54,7 +54,7 @@ impl<G: Guard<Inner = Map<K, V, H>>, N, K: Eq + Hash, V, H: BuildHasher> HeldRep
     pub fn of(guard: G, k: K, rest: N) -> Self
         ensures rest { replaced_rest result ≡ rest }
         ensures step { Replaces K.eq (G.inner guard) k result }
-        ensures noted { refused_of (G.inner (replaced_guard result)) ≡ refused_of (G.inner guard) }
+        ensures noted { notes_of (G.inner (replaced_guard result)) ≡ notes_of (G.inner guard) }
         ensures waiting { waiting_of (G.inner (replaced_guard result)) ≡ waiting_of (G.inner guard) }
         ensures unique { IsUnique K.eq (G.inner (replaced_guard result)) }
     {

@@ -1,5 +1,5 @@
 //! The walk that takes pairs out of a map into a list.
-ghost use Rattle.scc_common.specs.Contents.{entries, refused_of, waiting_of};
+ghost use Rattle.scc_common.specs.Contents.{entries, notes_of, waiting_of};
 ghost use Rattle.scc_common.specs.PairWalks.{CallableToWrite, CalledToWrite, GoesOn, Takes};
 ghost use Rattle.scc_common.specs.Pairs.{IsUnique};
 ghost use Rattle.scc_common.specs.Steps.{Holds, HoldsExactly};
@@ -83,7 +83,7 @@ impl<K: Eq + Hash, V, H: BuildHasher> Map<K, V, H> {
         ensures step { (stay : List (K × V)) × (more : List (K × V))
             × Takes (CalledToWrite F.FnMut) f.old (entries self.old) stay more result f.new
             × (L.pairs taken.new ≡ L.pairs taken.old ++ more) × HoldsExactly self.old stay self.new }
-        ensures noted { refused_of self.new ≡ refused_of self.old }
+        ensures noted { notes_of self.new ≡ notes_of self.old }
         ensures waiting { waiting_of self.new ≡ waiting_of self.old }
         ensures full { OnErr result (L.capacity taken.new ≤ length (L.pairs taken.new)) }
         ensures room { L.capacity taken.old ≤ L.capacity taken.new }

@@ -1,5 +1,5 @@
 //! Walks that write into the pairs of a map, and take pairs out of it.
-ghost use Rattle.scc_common.specs.Contents.{entries, refused_of, waiting_of};
+ghost use Rattle.scc_common.specs.Contents.{entries, notes_of, waiting_of};
 ghost use Rattle.scc_common.specs.PairWalks.{CallableToWrite, CalledToWrite, Retains, TakesToWrite};
 ghost use Rattle.scc_common.specs.Pairs.{IsUnique, with_pair_value};
 ghost use Rattle.scc_common.specs.Steps.{Holds, HoldsExactly};
@@ -52,7 +52,7 @@ impl<K: Eq + Hash, V, H: BuildHasher> Map<K, V, H> {
         requires { CallableToWrite F.FnMut (λ answer. ⊤) f.old (entries self.old) }
         ensures step { (stay : List (K × V)) × Retains (CalledToWrite F.FnMut) f.old (entries self.old) stay f.new
             × HoldsExactly self.old stay self.new }
-        ensures noted { refused_of self.new ≡ refused_of self.old }
+        ensures noted { notes_of self.new ≡ notes_of self.old }
         ensures waiting { waiting_of self.new ≡ waiting_of self.old }
         ensures was_unique { IsUnique K.eq self.old }
     {

@@ -1,6 +1,6 @@
 use Rattle.std.specs.List.{IsDistinct}
 use Rattle.std.proofs.Common.{◌≡◌, ◌∙◌, ◌+◌, ◌*◌, ℕ, List, map, inl, sym, ap, subst, arith, rules}
-use Rattle.scc_common.specs.Contents.{bucket_count, entries, key_hash, minimum_of, overflow_of, refused_of}
+use Rattle.scc_common.specs.Contents.{bucket_count, entries, key_hash, minimum_of, overflow_of, notes_of}
 use Rattle.scc_common.specs.Sizes.{IsBucketCount, IsArraySize}
 use Rattle.scc_buckets.specs.Tables.{overflow_in}
 use Rattle.scc_table.specs.TwoArrays.{draining_of, IsTable, together}
@@ -110,7 +110,7 @@ returns-in_err-install_first g c =
       noted = (
           let d = together (λ e. key_hash g.H.BuildHasher g.H.Hasher.Hasher g.E.Key.Hash.hash_input c.install_first.new.self (g.E.Keyed.key_of e)) c.install_first.new.self t.draining.waiting.items t.draining.array in
           let same : d ≡ c.args.self.now = rw c.in_err-install_first.ensures.same c.self.view_is in
-          ap refused_of same);
+          ap notes_of same);
       first = (search rules);
       array = (search rules);
       bare = (

@@ -3,7 +3,7 @@ use Rattle.std.proofs.Common.{◌≡◌, ◌∙◌, ℕ, ◌-◌, Bool, List, le
 use Rattle.std.proofs.lemmas.List.{get_or-replicate, length-replicate}
 use Rattle.std.specs.List.Sorted.{IsPermutation}
 use Rattle.scc_array.specs.Shelf.{empty_shelf, shelf_entries}
-use Rattle.scc_common.specs.Contents.{Settings, entries, owed_of, key_hash, lists_of, refused_of, settings_of, waiting_of}
+use Rattle.scc_common.specs.Contents.{Settings, entries, owed_of, key_hash, lists_of, notes_of, settings_of, waiting_of}
 use Rattle.scc_buckets.specs.Pour.{IsRegrouped}
 use Rattle.scc_buckets.specs.Tables.{IsBuckets}
 use Rattle.scc_buckets.proofs.Fresh.{empty-replicate}
@@ -150,7 +150,7 @@ invariant_of-self-in-Err-1 g c =
     let e = c.install-bare.new.self in
     let y = c.install-bare.ensures in
     let back = c.in-Err.ensures.err in
-    let whole : e ≡ cur = same-contents cur e (y.lists ∙ ap (map shelf_entries) c.in-Err.ensures.stays ∙ sym x.were) (y.settings ∙ ap settings_of back ∙ x.settings) (y.noted ∙ ap refused_of back ∙ x.noted) (y.spilled ∙ x.overflowing) (y.waiting ∙ ap waiting_of back ∙ x.waiting) (y.owed ∙ ap owed_of back ∙ x.owed) in
+    let whole : e ≡ cur = same-contents cur e (y.lists ∙ ap (map shelf_entries) c.in-Err.ensures.stays ∙ sym x.were) (y.settings ∙ ap settings_of back ∙ x.settings) (y.noted ∙ ap notes_of back ∙ x.noted) (y.spilled ∙ x.overflowing) (y.waiting ∙ ap waiting_of back ∙ x.waiting) (y.owed ∙ ap owed_of back ∙ x.owed) in
     rw whole c.self.invariant
 
 pub returns-in-Err : goal.returns-in-Err
@@ -162,7 +162,7 @@ returns-in-Err g c =
     let e = c.install-bare.new.self in
     let y = c.install-bare.ensures in
     let back = c.in-Err.ensures.err in
-    let whole : e ≡ cur = same-contents cur e (y.lists ∙ ap (map shelf_entries) c.in-Err.ensures.stays ∙ sym x.were) (y.settings ∙ ap settings_of back ∙ x.settings) (y.noted ∙ ap refused_of back ∙ x.noted) (y.spilled ∙ x.overflowing) (y.waiting ∙ ap waiting_of back ∙ x.waiting) (y.owed ∙ ap owed_of back ∙ x.owed) in
+    let whole : e ≡ cur = same-contents cur e (y.lists ∙ ap (map shelf_entries) c.in-Err.ensures.stays ∙ sym x.were) (y.settings ∙ ap settings_of back ∙ x.settings) (y.noted ∙ ap notes_of back ∙ x.noted) (y.spilled ∙ x.overflowing) (y.waiting ∙ ap waiting_of back ∙ x.waiting) (y.owed ∙ ap owed_of back ∙ x.owed) in
     record {
       lists = (search rules);
       same = (search rules);

@@ -1,5 +1,5 @@
 use Rattle.std.proofs.Common.{rules, ◌∙◌, refl, sym}
-use Rattle.scc_calls.specs.States.{setting_of}
+use Rattle.scc_calls.specs.States.{run_setting}
 use Rattle.scc_uses.proofs.SetIndependence.{set-runs-same, set-runs-first}
 use Rattle.scc_uses.proofs.SetAlike.{as-many, set-runs-alike}
 use Rattle.scc_uses.proofs.Mirrors.{both-answered, first-stopped, second-stopped}
@@ -12,8 +12,8 @@ pub returns : goal.returns
 returns g c =
     let r = c.run.ensures.run in
     let q = c.run-2.ensures.run in
-    let own = setting_of c.args.first.now in
-    let other = setting_of c.args.second.now in
+    let own = run_setting c.args.first.now in
+    let other = run_setting c.args.second.now in
     both-answered _ _ _ _ _ _ _ _ _ _ _ _ tt
     (record {
       along = λ made others a b.
@@ -28,8 +28,8 @@ pub returns-in_err-run-2 : goal.returns-in_err-run-2
 returns-in_err-run-2 g c =
     let r = c.run.ensures.run in
     let q = c.run-2.ensures.run in
-    let own = setting_of c.args.first.now in
-    let other = setting_of c.args.second.now in
+    let own = run_setting c.args.first.now in
+    let other = run_setting c.args.second.now in
     second-stopped _ _ _ _ _ _ _ _ _ _ _ c.from_residual-in_err-run-2.result (search rules)
     (record {
       along = λ made others a b.

@@ -4,7 +4,7 @@ use Rattle.scc_calls.specs.Resized.{MovesResized}
 use Rattle.scc_calls.specs.Means.{answered}
 use Rattle.scc_calls.specs.Stems.{MapStems}
 use Rattle.scc_calls.specs.MapCalls.{MapMoves}
-use Rattle.scc_calls.specs.States.{State, ResizesTo, setting_of, state_of}
+use Rattle.scc_calls.specs.States.{State, ResizesTo, run_setting, state_of}
 use Rattle.scc_calls.specs.declared.replies.Reply.TheVariants.{Inserted, Exists, Old, Key, Pair, Value, Has, Cleared, Count}
 use Rattle.std.specs.Option.{option_map}
 use Rattle.scc_common.specs.Contents.{entries}
@@ -18,8 +18,8 @@ returns-in-Ok g c =
     record {
       setting = (search rules);
       ok = (
-          let raw : MovesResized (λ (s : State (g.row.K.Denot × g.row.V.Denot)). s.1) (MapMoves g.K.PartialEq.eq) (ResizesTo (setting_of c.args.self.now)) (state_of c.args.self.now) c.args.call Inserted (state_of c.insert_sync.new.self) = rw c.in-Insert.is (inserted g.K.PartialEq.eq (λ h k. hash_of g.H.BuildHasher g.H.Hasher.Hasher h (g.K.Hash.hash_input k)) c.args.self.now c.insert_sync.new.self c.in-Insert.k c.in-Insert.v c.in-Ok.field-0 c.in-Ok.ensures.step) in
-          answered (MapStems g.V.Clone.is_clone) (MapMoves g.K.PartialEq.eq) (λ (s : State (g.row.K.Denot × g.row.V.Denot)). s.1) (ResizesTo (setting_of c.args.self.now)) _ _ c.args.call Inserted Inserted (rw c.in-Insert.is refl) raw);
+          let raw : MovesResized (λ (s : State (g.row.K.Denot × g.row.V.Denot)). s.1) (MapMoves g.K.PartialEq.eq) (ResizesTo (run_setting c.args.self.now)) (state_of c.args.self.now) c.args.call Inserted (state_of c.insert_sync.new.self) = rw c.in-Insert.is (inserted g.K.PartialEq.eq (λ h k. hash_of g.H.BuildHasher g.H.Hasher.Hasher h (g.K.Hash.hash_input k)) c.args.self.now c.insert_sync.new.self c.in-Insert.k c.in-Insert.v c.in-Ok.field-0 c.in-Ok.ensures.step) in
+          answered (MapStems g.V.Clone.is_clone) (MapMoves g.K.PartialEq.eq) (λ (s : State (g.row.K.Denot × g.row.V.Denot)). s.1) (ResizesTo (run_setting c.args.self.now)) _ _ c.args.call Inserted Inserted (rw c.in-Insert.is refl) raw);
       err = (search rules);
       refused = (search rules);
       answer = (search rules);
@@ -32,8 +32,8 @@ returns-in-Remove g c =
     record {
       setting = (removed-setting g.K.PartialEq.eq c.args.self.now c.remove_sync.new.self c.in-Remove.k c.remove_sync.result c.remove_sync.ensures.step);
       ok = (
-          let raw : MovesResized (λ (s : State (g.row.K.Denot × g.row.V.Denot)). s.1) (MapMoves g.K.PartialEq.eq) (ResizesTo (setting_of c.args.self.now)) (state_of c.args.self.now) c.args.call (Pair c.remove_sync.result) (state_of c.remove_sync.new.self) = rw c.in-Remove.is (removed g.K.PartialEq.eq c.args.self.now c.remove_sync.new.self c.in-Remove.k c.remove_sync.result c.remove_sync.ensures.step) in
-          answered (MapStems g.V.Clone.is_clone) (MapMoves g.K.PartialEq.eq) (λ (s : State (g.row.K.Denot × g.row.V.Denot)). s.1) (ResizesTo (setting_of c.args.self.now)) _ _ c.args.call (Pair c.remove_sync.result) (Pair c.remove_sync.result) (rw c.in-Remove.is refl) raw);
+          let raw : MovesResized (λ (s : State (g.row.K.Denot × g.row.V.Denot)). s.1) (MapMoves g.K.PartialEq.eq) (ResizesTo (run_setting c.args.self.now)) (state_of c.args.self.now) c.args.call (Pair c.remove_sync.result) (state_of c.remove_sync.new.self) = rw c.in-Remove.is (removed g.K.PartialEq.eq c.args.self.now c.remove_sync.new.self c.in-Remove.k c.remove_sync.result c.remove_sync.ensures.step) in
+          answered (MapStems g.V.Clone.is_clone) (MapMoves g.K.PartialEq.eq) (λ (s : State (g.row.K.Denot × g.row.V.Denot)). s.1) (ResizesTo (run_setting c.args.self.now)) _ _ c.args.call (Pair c.remove_sync.result) (Pair c.remove_sync.result) (rw c.in-Remove.is refl) raw);
       err = (search rules);
       refused = (search rules);
       answer = (search rules);
@@ -46,8 +46,8 @@ returns-in-Ok-upsert_sync g c =
     record {
       setting = (search rules);
       ok = (
-          let raw : MovesResized (λ (s : State (g.row.K.Denot × g.row.V.Denot)). s.1) (MapMoves g.K.PartialEq.eq) (ResizesTo (setting_of c.args.self.now)) (state_of c.args.self.now) c.args.call (Old c.in-Ok-upsert_sync.old) (state_of c.upsert_sync.new.self) = rw c.in-Upsert.is (upserted g.K.PartialEq.eq (λ h k. hash_of g.H.BuildHasher g.H.Hasher.Hasher h (g.K.Hash.hash_input k)) c.args.self.now c.upsert_sync.new.self c.in-Upsert.k c.in-Upsert.v c.in-Ok-upsert_sync.old c.in-Ok-upsert_sync.ensures.step) in
-          answered (MapStems g.V.Clone.is_clone) (MapMoves g.K.PartialEq.eq) (λ (s : State (g.row.K.Denot × g.row.V.Denot)). s.1) (ResizesTo (setting_of c.args.self.now)) _ _ c.args.call (Old c.in-Ok-upsert_sync.old) (Old c.in-Ok-upsert_sync.old) (rw c.in-Upsert.is refl) raw);
+          let raw : MovesResized (λ (s : State (g.row.K.Denot × g.row.V.Denot)). s.1) (MapMoves g.K.PartialEq.eq) (ResizesTo (run_setting c.args.self.now)) (state_of c.args.self.now) c.args.call (Old c.in-Ok-upsert_sync.old) (state_of c.upsert_sync.new.self) = rw c.in-Upsert.is (upserted g.K.PartialEq.eq (λ h k. hash_of g.H.BuildHasher g.H.Hasher.Hasher h (g.K.Hash.hash_input k)) c.args.self.now c.upsert_sync.new.self c.in-Upsert.k c.in-Upsert.v c.in-Ok-upsert_sync.old c.in-Ok-upsert_sync.ensures.step) in
+          answered (MapStems g.V.Clone.is_clone) (MapMoves g.K.PartialEq.eq) (λ (s : State (g.row.K.Denot × g.row.V.Denot)). s.1) (ResizesTo (run_setting c.args.self.now)) _ _ c.args.call (Old c.in-Ok-upsert_sync.old) (Old c.in-Ok-upsert_sync.old) (rw c.in-Upsert.is refl) raw);
       err = (search rules);
       refused = (search rules);
       answer = (search rules);
@@ -60,8 +60,8 @@ returns-in-Clear g c =
     record {
       setting = (search rules);
       ok = (
-          let raw : MovesResized (λ (s : State (g.row.K.Denot × g.row.V.Denot)). s.1) (MapMoves g.K.PartialEq.eq) (ResizesTo (setting_of c.args.self.now)) (state_of c.args.self.now) c.args.call Cleared (state_of c.clear_sync.new.self) = rw c.in-Clear.is (cleared g.K.PartialEq.eq c.args.self.now c.clear_sync.new.self c.clear_sync.ensures.holds) in
-          answered (MapStems g.V.Clone.is_clone) (MapMoves g.K.PartialEq.eq) (λ (s : State (g.row.K.Denot × g.row.V.Denot)). s.1) (ResizesTo (setting_of c.args.self.now)) _ _ c.args.call Cleared Cleared (rw c.in-Clear.is refl) raw);
+          let raw : MovesResized (λ (s : State (g.row.K.Denot × g.row.V.Denot)). s.1) (MapMoves g.K.PartialEq.eq) (ResizesTo (run_setting c.args.self.now)) (state_of c.args.self.now) c.args.call Cleared (state_of c.clear_sync.new.self) = rw c.in-Clear.is (cleared g.K.PartialEq.eq c.args.self.now c.clear_sync.new.self c.clear_sync.ensures.holds) in
+          answered (MapStems g.V.Clone.is_clone) (MapMoves g.K.PartialEq.eq) (λ (s : State (g.row.K.Denot × g.row.V.Denot)). s.1) (ResizesTo (run_setting c.args.self.now)) _ _ c.args.call Cleared Cleared (rw c.in-Clear.is refl) raw);
       err = (search rules);
       refused = (search rules);
       answer = (search rules);
@@ -86,8 +86,8 @@ returns-in-Err-Exists g c =
     record {
       setting = (search rules);
       ok = (
-          let raw : MovesResized (λ (s : State (g.row.K.Denot × g.row.V.Denot)). s.1) (MapMoves g.K.PartialEq.eq) (ResizesTo (setting_of c.args.self.now)) (state_of c.args.self.now) c.args.call (Exists c.in-Err-Exists.k c.in-Err-Exists.v) (state_of c.insert_sync.new.self) = search rules in
-          answered (MapStems g.V.Clone.is_clone) (MapMoves g.K.PartialEq.eq) (λ (s : State (g.row.K.Denot × g.row.V.Denot)). s.1) (ResizesTo (setting_of c.args.self.now)) _ _ c.args.call (Exists c.in-Err-Exists.k c.in-Err-Exists.v) (Exists c.in-Err-Exists.k c.in-Err-Exists.v) (rw c.in-Insert.is refl) raw);
+          let raw : MovesResized (λ (s : State (g.row.K.Denot × g.row.V.Denot)). s.1) (MapMoves g.K.PartialEq.eq) (ResizesTo (run_setting c.args.self.now)) (state_of c.args.self.now) c.args.call (Exists c.in-Err-Exists.k c.in-Err-Exists.v) (state_of c.insert_sync.new.self) = search rules in
+          answered (MapStems g.V.Clone.is_clone) (MapMoves g.K.PartialEq.eq) (λ (s : State (g.row.K.Denot × g.row.V.Denot)). s.1) (ResizesTo (run_setting c.args.self.now)) _ _ c.args.call (Exists c.in-Err-Exists.k c.in-Err-Exists.v) (Exists c.in-Err-Exists.k c.in-Err-Exists.v) (rw c.in-Insert.is refl) raw);
       err = (search rules);
       refused = (search rules);
       answer = (search rules);
@@ -100,8 +100,8 @@ returns-in-Contains g c =
     record {
       setting = (search rules);
       ok = (
-          let raw : MovesResized (λ (s : State (g.row.K.Denot × g.row.V.Denot)). s.1) (MapMoves g.K.PartialEq.eq) (ResizesTo (setting_of c.args.self.now)) (state_of c.args.self.now) c.args.call (Has c.contains_sync.result) (state_of c.args.self.now) = search rules in
-          answered (MapStems g.V.Clone.is_clone) (MapMoves g.K.PartialEq.eq) (λ (s : State (g.row.K.Denot × g.row.V.Denot)). s.1) (ResizesTo (setting_of c.args.self.now)) _ _ c.args.call (Has c.contains_sync.result) (Has c.contains_sync.result) (rw c.in-Contains.is refl) raw);
+          let raw : MovesResized (λ (s : State (g.row.K.Denot × g.row.V.Denot)). s.1) (MapMoves g.K.PartialEq.eq) (ResizesTo (run_setting c.args.self.now)) (state_of c.args.self.now) c.args.call (Has c.contains_sync.result) (state_of c.args.self.now) = search rules in
+          answered (MapStems g.V.Clone.is_clone) (MapMoves g.K.PartialEq.eq) (λ (s : State (g.row.K.Denot × g.row.V.Denot)). s.1) (ResizesTo (run_setting c.args.self.now)) _ _ c.args.call (Has c.contains_sync.result) (Has c.contains_sync.result) (rw c.in-Contains.is refl) raw);
       err = (search rules);
       refused = (search rules);
       answer = (search rules);
@@ -114,8 +114,8 @@ returns-in-Ok-cloned_value g c =
     record {
       setting = (search rules);
       ok = (
-          let raw : MovesResized (λ (s : State (g.row.K.Denot × g.row.V.Denot)). s.1) (MapMoves g.K.PartialEq.eq) (ResizesTo (setting_of c.args.self.now)) (state_of c.args.self.now) c.args.call (Value (option_map (λ p. p.1) (find g.K.PartialEq.eq (entries c.args.self.now) c.in-Read.k))) (state_of c.args.self.now) = inl (refl, rw c.in-Read.is (refl, refl)) in
-          answered (MapStems g.V.Clone.is_clone) (MapMoves g.K.PartialEq.eq) (λ (s : State (g.row.K.Denot × g.row.V.Denot)). s.1) (ResizesTo (setting_of c.args.self.now)) _ _ c.args.call (Value (option_map (λ p. p.1) (find g.K.PartialEq.eq (entries c.args.self.now) c.in-Read.k))) (Value c.in-Ok-cloned_value.value) (rw c.in-Read.is (copied-part g.V.Clone.is_clone (λ p. p.1) (find g.K.PartialEq.eq (entries c.args.self.now) c.in-Read.k) c.in-Ok-cloned_value.value c.in-Ok-cloned_value.ensures.ok)) raw);
+          let raw : MovesResized (λ (s : State (g.row.K.Denot × g.row.V.Denot)). s.1) (MapMoves g.K.PartialEq.eq) (ResizesTo (run_setting c.args.self.now)) (state_of c.args.self.now) c.args.call (Value (option_map (λ p. p.1) (find g.K.PartialEq.eq (entries c.args.self.now) c.in-Read.k))) (state_of c.args.self.now) = inl (refl, rw c.in-Read.is (refl, refl)) in
+          answered (MapStems g.V.Clone.is_clone) (MapMoves g.K.PartialEq.eq) (λ (s : State (g.row.K.Denot × g.row.V.Denot)). s.1) (ResizesTo (run_setting c.args.self.now)) _ _ c.args.call (Value (option_map (λ p. p.1) (find g.K.PartialEq.eq (entries c.args.self.now) c.in-Read.k))) (Value c.in-Ok-cloned_value.value) (rw c.in-Read.is (copied-part g.V.Clone.is_clone (λ p. p.1) (find g.K.PartialEq.eq (entries c.args.self.now) c.in-Read.k) c.in-Ok-cloned_value.value c.in-Ok-cloned_value.ensures.ok)) raw);
       err = (search rules);
       refused = (search rules);
       answer = (
@@ -132,8 +132,8 @@ returns g c =
     record {
       setting = (search rules);
       ok = (
-          let raw : MovesResized (λ (s : State (g.row.K.Denot × g.row.V.Denot)). s.1) (MapMoves g.K.PartialEq.eq) (ResizesTo (setting_of c.args.self.now)) (state_of c.args.self.now) c.args.call (Count c.len.result) (state_of c.args.self.now) = search rules in
-          answered (MapStems g.V.Clone.is_clone) (MapMoves g.K.PartialEq.eq) (λ (s : State (g.row.K.Denot × g.row.V.Denot)). s.1) (ResizesTo (setting_of c.args.self.now)) _ _ c.args.call (Count c.len.result) (Count c.len.result) (rw c.in-Len.is refl) raw);
+          let raw : MovesResized (λ (s : State (g.row.K.Denot × g.row.V.Denot)). s.1) (MapMoves g.K.PartialEq.eq) (ResizesTo (run_setting c.args.self.now)) (state_of c.args.self.now) c.args.call (Count c.len.result) (state_of c.args.self.now) = search rules in
+          answered (MapStems g.V.Clone.is_clone) (MapMoves g.K.PartialEq.eq) (λ (s : State (g.row.K.Denot × g.row.V.Denot)). s.1) (ResizesTo (run_setting c.args.self.now)) _ _ c.args.call (Count c.len.result) (Count c.len.result) (rw c.in-Len.is refl) raw);
       err = (search rules);
       refused = (search rules);
       answer = (search rules);

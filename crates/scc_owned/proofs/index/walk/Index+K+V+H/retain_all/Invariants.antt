@@ -1,5 +1,5 @@
 use Rattle.std.proofs.Common.{◌≡◌, ◌-◌, ◌++◌, List, length, take, drop, IfSome}
-use Rattle.scc_common.specs.Contents.{entries, bucket_count, settings_of, refused_of, waiting_of}
+use Rattle.scc_common.specs.Contents.{entries, bucket_count, settings_of, notes_of, waiting_of}
 use Rattle.scc_table.specs.Places.{IsPlace}
 use Rattle.scc_common.specs.Walks.{CalledOn}
 use Rattle.scc_owned.specs.IndexWalks.{CallableOnAll, Retains}
@@ -12,7 +12,7 @@ invariant-loop-at g l = record {
   within : IfSome l.at (IsPlace l.self);
   buckets : bucket_count l.self ≡ bucket_count l.fn.self;
   settings : settings_of l.self ≡ settings_of l.fn.self;
-  noted : refused_of l.self ≡ refused_of l.fn.self;
+  noted : notes_of l.self ≡ notes_of l.fn.self;
   waiting : waiting_of l.self ≡ waiting_of l.fn.self;
   calls : (stay : List (g.row.K.Denot × g.row.V.Denot)) (last : g.row.F.Denot) → Retains (CalledOn g.F.FnMut) l.f (drop (reached l.self l.at) (entries l.self)) stay last
       → Retains (CalledOn g.F.FnMut) l.fn.f (entries l.fn.self) (take (reached l.self l.at) (entries l.self) ++ stay) last;

@@ -1,5 +1,5 @@
 use Rattle.std.proofs.Common.{◌≡◌, ◌∙◌, sym, ap, Some}
-use Rattle.scc_common.specs.Contents.{entries, refused_of, waiting_of}
+use Rattle.scc_common.specs.Contents.{entries, notes_of, waiting_of}
 use Rattle.std.specs.List.{slice_get}
 use Rattle.scc_common.specs.Pairs.{find}
 use Rattle.scc_table.specs.Places.{index_of}
@@ -54,7 +54,7 @@ returns-in-Some-clause-unique g c =
     rw (ap (λ x. x.now) c.at.ensures.guard ∙ c.replace_key_at-old.ensures.new) (key-unique laws m c.in-Some.place found.within c.args.k unique f c.args.k f.3)
 
 pub returns-in-Some-clause-noted : goal.returns-in-Some-clause-noted
-returns-in-Some-clause-noted g c = ap (λ x. refused_of x.now) c.at.ensures.guard ∙ ap refused_of c.replace_key_at-old.ensures.new ∙ noted-write with_pair_key c.args.self.now c.in-Some.place c.args.k
+returns-in-Some-clause-noted g c = ap (λ x. notes_of x.now) c.at.ensures.guard ∙ ap notes_of c.replace_key_at-old.ensures.new ∙ noted-write with_pair_key c.args.self.now c.in-Some.place c.args.k
 
 pub replace_key_at-old-requires-clause-within : goal.replace_key_at-old-requires-clause-within
 replace_key_at-old-requires-clause-within g c = let found = rw c.self.view_is at c.in-Some.ensures.place in found.within

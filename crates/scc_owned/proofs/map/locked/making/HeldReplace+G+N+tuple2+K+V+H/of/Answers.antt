@@ -1,5 +1,5 @@
 use Rattle.std.proofs.Common.{◌≡◌, ◌∙◌, sym, ap, subst, Some}
-use Rattle.scc_common.specs.Contents.{entries, refused_of, waiting_of}
+use Rattle.scc_common.specs.Contents.{entries, notes_of, waiting_of}
 use Rattle.std.specs.List.{slice_get}
 use Rattle.scc_common.specs.Pairs.{find, with_pair_key}
 use Rattle.scc_table.specs.Places.{IsPlace, index_of, with_write_at}
@@ -48,7 +48,7 @@ returns-in-Some-clause-step g c =
 pub returns-in-Some-clause-noted : goal.returns-in-Some-clause-noted
 returns-in-Some-clause-noted g c =
     let made = ap g.G.Guard.inner c.at.ensures.guard ∙ g.G.Guard.inner_law c.args.guard c.replace_key_at-old.new.self ∙ c.replace_key_at-old.ensures.new ∙ ap (λ m. with_write_at with_pair_key m c.in-Some.place c.args.k) c.lend.ensures.value in
-    ap refused_of made ∙ noted-write with_pair_key (g.G.Guard.inner c.args.guard) c.in-Some.place c.args.k
+    ap notes_of made ∙ noted-write with_pair_key (g.G.Guard.inner c.args.guard) c.in-Some.place c.args.k
 
 pub returns-in-Some-clause-waiting : goal.returns-in-Some-clause-waiting
 returns-in-Some-clause-waiting g c =

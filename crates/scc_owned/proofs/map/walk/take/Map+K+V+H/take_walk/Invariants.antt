@@ -1,5 +1,5 @@
 use Rattle.std.proofs.Common.{◌≡◌, ◌≤◌, ◌-◌, ◌++◌, List, Bool, Result, length, take, drop, IfSome}
-use Rattle.scc_common.specs.Contents.{entries, bucket_count, settings_of, refused_of, waiting_of}
+use Rattle.scc_common.specs.Contents.{entries, bucket_count, settings_of, notes_of, waiting_of}
 use Rattle.scc_table.specs.Places.{IsPlace}
 use Rattle.scc_common.specs.declared.errors.WalkError.{WalkError}
 use Rattle.scc_common.specs.PairWalks.{CallableToWrite, CalledToWrite, GoesOn, Takes}
@@ -13,7 +13,7 @@ invariant-loop-at g l = record {
   within : IfSome l.at (IsPlace l.self);
   buckets : bucket_count l.self ≡ bucket_count l.fn.self;
   settings : settings_of l.self ≡ settings_of l.fn.self;
-  noted : refused_of l.self ≡ refused_of l.fn.self;
+  noted : notes_of l.self ≡ notes_of l.fn.self;
   waiting : waiting_of l.self ≡ waiting_of l.fn.self;
   room : g.L.Sink.capacity l.fn.taken ≤ g.L.Sink.capacity l.taken;
   calls : (more : List (g.row.K.Denot × g.row.V.Denot)) × (g.L.Sink.pairs l.taken ≡ g.L.Sink.pairs l.fn.taken ++ more)

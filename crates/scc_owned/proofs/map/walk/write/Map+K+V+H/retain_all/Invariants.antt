@@ -1,6 +1,6 @@
 use Rattle.std.proofs.Common.{◌≡◌, ◌-◌, ◌++◌, List, length, take, drop, IfSome}
 use Rattle.std.specs.Prelude.{⊤}
-use Rattle.scc_common.specs.Contents.{entries, bucket_count, settings_of, refused_of, waiting_of}
+use Rattle.scc_common.specs.Contents.{entries, bucket_count, settings_of, notes_of, waiting_of}
 use Rattle.scc_table.specs.Places.{IsPlace}
 use Rattle.scc_common.specs.PairWalks.{CallableToWrite, CalledToWrite, Retains}
 use Rattle.scc_table.proofs.walks.Steps.{reached}
@@ -13,7 +13,7 @@ invariant-loop-at g l = record {
   within : IfSome l.at (IsPlace l.self);
   buckets : bucket_count l.self ≡ bucket_count l.fn.self;
   settings : settings_of l.self ≡ settings_of l.fn.self;
-  noted : refused_of l.self ≡ refused_of l.fn.self;
+  noted : notes_of l.self ≡ notes_of l.fn.self;
   waiting : waiting_of l.self ≡ waiting_of l.fn.self;
   calls : (stay : List (g.row.K.Denot × g.row.V.Denot)) (last : g.row.F.Denot) → Retains (CalledToWrite g.F.FnMut) l.f (drop (reached l.self (walk_spot l.self l.at)) (entries l.self)) stay last
       → Retains (CalledToWrite g.F.FnMut) l.fn.f (entries l.fn.self) (take (reached l.self (walk_spot l.self l.at)) (entries l.self) ++ stay) last;
