@@ -73,21 +73,14 @@ impl Job for Changing {
     }
 }
 
-fn expect_changes<R: AllocGlobal + Abort + Print + Wait>(rt: &R, of: Of) {
-    let mut refusal = Refusal::new();
-    for change in [Change::Update, Change::Modify] {
-        with(rt, &mut refusal, of, 64, &Changing { change });
-    }
-}
-
 #[test]
 fn a_refused_change_leaves_the_version(rt: HostRuntime) {
-    expect_changes(&rt, Of::Index);
-}
-
-#[test]
-fn a_refused_change_leaves_the_shared_version(rt: HostRuntime) {
-    expect_changes(&rt, Of::SharedIndex);
+    let mut refusal = Refusal::new();
+    for of in [Of::Index, Of::SharedIndex] {
+        for change in [Change::Update, Change::Modify] {
+            with(&rt, &mut refusal, of, 64, &Changing { change });
+        }
+    }
 }
 
 /// Returns an index of the keys 0 and 1, each with its complement as value.
