@@ -9,7 +9,7 @@ invariant_of-self g c =
     let u = c.drop_mark.new.self in
     let r = c.drop_mark.ensures in
     let same = count-same c.self.inside.table u r.lists in
-    state-after g.K.PartialEq.eq _ _ c.self.inside.table u c.self.inside.maximum h r.listed r.unique r.settings (subst (λ n. 32 * n ≤ c.self.inside.maximum) (sym same) h.within)
+    state-after g.K.PartialEq.eq _ _ c.self.inside.table u c.self.inside.maximum h (r.listed h.lists) r.unique r.settings (subst (λ n. 32 * n ≤ c.self.inside.maximum) (sym same) h.within)
 
 pub returns-clause-lists : goal.returns-clause-lists
 returns-clause-lists g c = rw (← c.self.view_is) c.drop_mark.ensures.lists
@@ -32,4 +32,4 @@ returns-clause-state g c =
     let u = c.drop_mark.new.self in
     let r = c.drop_mark.ensures in
     let same = count-same c.self.inside.table u r.lists in
-    state-after g.K.PartialEq.eq _ _ c.self.inside.table u c.self.inside.maximum h r.listed r.unique r.settings (subst (λ n. 32 * n ≤ c.self.inside.maximum) (sym same) h.within)
+    state-after g.K.PartialEq.eq _ _ c.self.inside.table u c.self.inside.maximum h (r.listed h.lists) r.unique r.settings (subst (λ n. 32 * n ≤ c.self.inside.maximum) (sym same) h.within)

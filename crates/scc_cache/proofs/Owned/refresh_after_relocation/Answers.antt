@@ -20,7 +20,7 @@ invariant_of-self g c =
     let h = c.self.invariant in
     let r = c.in-Ok.ensures.ok in
     let same = count-same c.self.inside.table c.relocate.new.self r.lists in
-    state-after g.K.PartialEq.eq _ _ c.self.inside.table c.relocate.new.self c.self.inside.maximum h c.relocate.ensures.listed c.relocate.ensures.unique r.settings (omega (arith, h.within))
+    state-after g.K.PartialEq.eq _ _ c.self.inside.table c.relocate.new.self c.self.inside.maximum h (c.relocate.ensures.listed h.lists) c.relocate.ensures.unique r.settings (omega (arith, h.within))
 
 pub refresh_in_bucket-requires-clause-within : goal.refresh_in_bucket-requires-clause-within
 refresh_in_bucket-requires-clause-within g c =
@@ -60,4 +60,4 @@ returns-clause-relocates g c =
     let routed = rw (← c.self.view_is) at c.requires.routed in
     let hashed = rw (← c.self.view_is) at c.requires.hashed in
     let at = routed ∙ ap (bucket_number (settings_of t).skipped (bucket_count t)) hashed in
-    any-some c.refresh_in_bucket.result (rw (← c.self.view_is) (relocated-one _ t c.relocate.new.self c.refresh_in_bucket.new.self.contents c.args.bucket at c.relocate.ensures.targets c.relocate.ensures.not_waiting c.refresh_in_bucket.ensures.waiting))
+    any-some c.refresh_in_bucket.result (rw (← c.self.view_is) (relocated-one _ t c.relocate.new.self c.refresh_in_bucket.new.self.contents c.args.bucket at c.in-Ok.ensures.targets c.in-Ok.ensures.not_waiting c.refresh_in_bucket.ensures.waiting))
