@@ -4,7 +4,7 @@ use Rattle.scc_owned.proofs.HeldEntries.{pair-is}
 use Rattle.scc_owned.proofs.map.held.HeldOccupied+G+N+tuple2+K+V+H.get_mut.Goals as goal
 
 pub invariant_of-self-lent : goal.invariant_of-self-lent
-invariant_of-self-lent g c w = (record { within = within-written c.args.self.now c.lend.result.now w c.lend.ensures.value; unique = unique-written c.args.self.now c.lend.result.now w c.lend.ensures.value }, tt)
+invariant_of-self-lent g c w = (within-written c.args.self.now c.lend.result.now w c.lend.ensures.value, (unique-written c.args.self.now c.lend.result.now w c.lend.ensures.value, tt))
 
 pub returns : goal.returns
 returns g c =
