@@ -6,3 +6,6 @@ returns-in-Ok-clause-finds g c equal = clones-find g.met.K.Eq.laws g.K.Clone.is_
 
 pub returns-in-Ok-clause-clones : goal.returns-in-Ok-clause-clones
 returns-in-Ok-clause-clones g c = rw (c.over.ensures.table, ← c.self.view_is) c.in-Ok.ensures.clones
+
+pub returns-in-Ok-clause-unique : goal.returns-in-Ok-clause-unique
+returns-in-Ok-clause-unique g c = rw c.over.ensures.table c.in-Ok.ensures.unique
