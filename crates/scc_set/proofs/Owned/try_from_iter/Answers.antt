@@ -1,5 +1,10 @@
 use Rattle.std.proofs.Common.{ap, ◌∙◌}
+use Rattle.std.specs.List.{IsDistinct}
 use Rattle.scc_set.proofs.Owned.try_from_iter.Goals as goal
+
+pub insert_all-requires : goal.insert_all-requires
+unfolding IsDistinct
+insert_all-requires g c = rw c.in_ok-made.ensures.entries tt
 
 pub returns-clause-items : goal.returns-clause-items
 returns-clause-items g c =
