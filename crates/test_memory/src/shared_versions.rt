@@ -68,7 +68,7 @@ fn expect_modified<R: Abort + Print + Wait>(rt: &R, refusal: &mut Refusal, index
                         expect_eq(rt, *entry.get(), !1);
                     }
                 }
-                Entry::Vacant(_) => expect(rt, false),
+                Entry::Vacant(_entry) => expect(rt, false),
             }
         }
     }
