@@ -1,8 +1,8 @@
 // Runs that are refused memory: nothing is changed, or the calls before the refused one are made, each with its reply.
 // A run of the remaining calls is right.
+use crate::calls::shared;
 use crate::expect::{expect, expect_eq};
 use crate::kinds::{CALLS, Cache, Index, Map, Set, Tried, What, count_after};
-use crate::opened::shared;
 use scc::hash_map;
 use scc::recorded::{Calls, MapCall, Reply, run};
 use std::io::Print;

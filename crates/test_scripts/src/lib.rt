@@ -1,13 +1,7 @@
-//! Scripts and how their runs end, the reasons of bad lines, streams that fail, runs of calls as values, the texts of
-//! refusals, recorded containers beside runs on owned ones, and workers at gates.
+//! Scripts and how their runs end, the reasons of bad lines, streams that fail, runs of calls as values, and the texts
+//! of refusals.
 #![tactic(auto)]
 
-#[cfg(test)]
-mod as_run;
-#[cfg(test)]
-mod beside;
-#[cfg(test)]
-mod call_streams;
 #[cfg(test)]
 mod conversions;
 #[cfg(test)]
@@ -15,11 +9,7 @@ mod differing;
 #[cfg(test)]
 mod expect;
 #[cfg(test)]
-mod gates;
-#[cfg(test)]
 mod hashes;
-#[cfg(test)]
-mod kinds;
 #[cfg(test)]
 mod lines;
 #[cfg(test)]
@@ -34,5 +24,3 @@ mod runs;
 mod streams;
 #[cfg(test)]
 mod texts;
-#[cfg(test)]
-mod workers;
