@@ -50,25 +50,25 @@ table-empty hash t bs h size =
           };
     }
 
-pub kept-empty : {E K : Type 0} (eq : K → K → Bool) (key : E → K) (hash : K → ℕ) (t minimum : ℕ) (bs : List (Shelf E)) → AllEmpty bs → IsLawful (length bs) → t ≤ 4 → minimum ≤ 2 ^ 63 → AreBuckets eq key hash t minimum bs 0 0
+pub kept-empty : {E K : Type 0} (eq : K → K → Bool) (key : E → K) (hash : K → ℕ) (t minimum : ℕ) (bs : List (Shelf E)) → AllEmpty bs → IsLawful (length bs) → minimum ≤ 2 ^ 63 → AreBuckets eq key hash t minimum bs 0 0
 unfolding IsDistinct
-kept-empty eq key hash t minimum bs h size few small =
-    record { table = table-empty (λ e. hash (key e)) t bs h size; few_bits = few; small_minimum = small; unique = rw (flat-empty bs h) tt }
+kept-empty eq key hash t minimum bs h size small =
+    record { table = table-empty (λ e. hash (key e)) t bs h size; small_minimum = small; unique = rw (flat-empty bs h) tt }
 
 pub none-empty : {E : Type 0} → AllEmpty {E = E} []
 none-empty = record { empty = λ i b l at. absurd (omega arith) }
 
-pub kept-none : {E K : Type 0} (eq : K → K → Bool) (key : E → K) (hash : K → ℕ) (t minimum : ℕ) → t ≤ 4 → minimum ≤ 2 ^ 63 → AreBuckets eq key hash t minimum [] 0 0
-kept-none eq key hash t minimum few small = kept-empty eq key hash t minimum [] none-empty (inl refl) few small
+pub kept-none : {E K : Type 0} (eq : K → K → Bool) (key : E → K) (hash : K → ℕ) (t minimum : ℕ) → minimum ≤ 2 ^ 63 → AreBuckets eq key hash t minimum [] 0 0
+kept-none eq key hash t minimum small = kept-empty eq key hash t minimum [] none-empty (inl refl) small
 
 -- without buckets the counts are 0
 pub counts-none : {E : Type 0} (hash : E → ℕ) (t n o : ℕ) (bs : List (Shelf E)) → length bs ≡ 0 → IsBuckets hash t bs n o → (n ≡ 0) × (o ≡ 0)
 counts-none hash t n o [] l h = (h.counted, h.spilled)
 counts-none hash t n o (b ∷ bs) l h = absurd (omega arith)
 
-pub kept-fresh : {E K : Type 0} (eq : K → K → Bool) (key : E → K) (hash : K → ℕ) (t minimum count n o : ℕ) (bs : List (Shelf E)) → AllEmpty bs → length bs ≡ count → IsBucketCount count → t ≤ 4 → minimum ≤ 2 ^ 63 → n ≡ 0 → o ≡ 0
+pub kept-fresh : {E K : Type 0} (eq : K → K → Bool) (key : E → K) (hash : K → ℕ) (t minimum count n o : ℕ) (bs : List (Shelf E)) → AllEmpty bs → length bs ≡ count → IsBucketCount count → minimum ≤ 2 ^ 63 → n ≡ 0 → o ≡ 0
     → AreBuckets eq key hash t minimum bs n o
-kept-fresh eq key hash t minimum count n o bs h e a few small en eo = rw (en, eo) (kept-empty eq key hash t minimum bs h (inr (rw e a)) few small)
+kept-fresh eq key hash t minimum count n o bs h e a small en eo = rw (en, eo) (kept-empty eq key hash t minimum bs h (inr (rw e a)) small)
 
 -- an empty table has no entries
 pub entries-fresh : {E S : Type 0} (bs : List (Shelf E)) (s : Settings S) (f : Bool × Bool) → AllEmpty bs → entries (view_of f bs s) ≡ []

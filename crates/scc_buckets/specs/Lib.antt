@@ -7,6 +7,7 @@ pub mod Placed
 pub mod Places
 pub mod Pour
 pub mod Removals
+pub mod Routes
 pub mod Standing
 pub mod Tables
 pub mod Takes

@@ -27,7 +27,6 @@ pub record IsBuckets {E : Type 0} (hash : E → ℕ) (skipped : ℕ) (bs : List 
 -- what holds of all fields of buckets
 pub record AreBuckets {E K : Type 0} (eq : K → K → Bool) (key : E → K) (hash : K → ℕ) (skipped minimum : ℕ) (bs : List (Shelf E)) (count overflowing : ℕ) : Type 0 where
   pub table : IsBuckets (λ e. hash (key e)) skipped bs count overflowing
-  pub few_bits : skipped ≤ 4
   pub small_minimum : minimum ≤ 2 ^ 63
   pub unique : IsDistinct eq (map key (flat_map shelf_entries bs))
 

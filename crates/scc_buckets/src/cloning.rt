@@ -5,9 +5,8 @@ ghost use Rattle.scc_common.specs.Clones.{AddsClones, HasClones};
 ghost use Rattle.scc_common.specs.Contents.{entries, bucket_count, notes_of, settings_of, waiting_of};
 ghost use Rattle.std.specs.Prelude.{◌≡◌, ◌*◌, ◌^◌, ◌<◌, [], ◌∷◌, false, length, IfOk, OnOk};
 
-use crate::Buckets;
 use crate::make::fresh_buckets;
-use crate::place::bucket_index;
+use crate::{Buckets, Router};
 use scc_array::Array;
 use scc_common::{Keyed, MakeError};
 use std::hash::{BuildHasher, Hash};
@@ -27,25 +26,22 @@ where
         ensures noted { IfOk result (λ t. notes_of t ≡ (false, false)) }
         ensures waiting { IfOk result (λ t. waiting_of t ≡ []) }
     {
-        let Ok(hasher) = self.hasher.clone() else {
-            return Err(MakeError);
-        };
-        let mut copy = self.fresh_like(hasher)?;
+        let router = self.router.try_clone()?;
+        let mut copy = self.fresh_like(router)?;
         copy.insert_clones_of(self)?;
         Ok(copy)
     }
 
-    /// Makes empty buckets under `hasher`, in the number of those of `self`. They skip the same number of bits as
-    /// `self`.
-    pub(crate) fn fresh_like(&self, hasher: H) -> Result<Buckets<E, H>, MakeError>
+    /// Makes empty buckets with `router`, in the number of those of `self`.
+    pub(crate) fn fresh_like(&self, router: Router<H>) -> Result<Buckets<E, H>, MakeError>
     where
         H: Drop,
         ensures entries { IfOk result (λ t. entries t ≡ []) }
         ensures buckets { IfOk result (λ t. bucket_count t ≡ bucket_count self.now) }
         ensures settings { IfOk result (λ t. settings_of t
             ≡ record {
-              hasher = hasher;
-              skipped = (settings_of self.now).skipped;
+              hasher = router.hasher;
+              skipped = router.skipped;
               asked = 32 * bucket_count self.now;
               reserved = 0;
             }) }
@@ -55,7 +51,7 @@ where
         let alloc = self.buckets.allocator();
         let count = self.buckets.len();
         if count == 0 {
-            return Ok(Buckets::new(alloc, self.skipped, hasher));
+            return Ok(Buckets::bare(alloc, router));
         }
         match fresh_buckets(alloc, count) {
             Ok(buckets) => Ok(Buckets {
@@ -64,10 +60,9 @@ where
                 overflowing: 0,
                 asked: 32 * count,
                 reserved: 0,
-                skipped: self.skipped,
                 refused: false,
                 marked: false,
-                hasher,
+                router,
             }),
             Err(_) => Err(MakeError),
         }
@@ -115,7 +110,7 @@ where
         if count == 0 || self.search(hash, copy.key()).is_some() {
             return Err(MakeError);
         }
-        let bucket = bucket_index(hash, self.skipped, count);
+        let bucket = self.router.bucket(hash, count);
         match self.insert_in(bucket, hash, copy) {
             Ok(_) => Ok(()),
             Err(_back) => Err(MakeError),

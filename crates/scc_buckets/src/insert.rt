@@ -3,15 +3,12 @@ ghost use Rattle.scc_buckets.specs.Bounded.{IsBounded, IsListed};
 ghost use Rattle.scc_buckets.specs.Insertions.{InsertsInBucket, InsertsMadeInBucket, InsertsMadeInFirstArray, InsertsWithRoom, IsNewIn};
 ghost use Rattle.scc_common.specs.Contents.{entries, bucket_count, list_of, key_hash};
 ghost use Rattle.std.specs.List.{position};
-ghost use Rattle.std.specs.Prelude.{◌≡◌, ◌≤◌, ◌<◌, ◌-◌, ◌^◌, length, None, IsTrue};
+ghost use Rattle.std.specs.Prelude.{◌≡◌, ◌<◌, ◌+◌, ◌^◌, length, None, IsTrue};
 
 use crate::Buckets;
 use crate::place::{Place, tag};
 use scc_common::{Keyed, Made};
 use std::hash::{BuildHasher, Hash};
-
-/// The number of entries in the overflow lists of all buckets is always less than this.
-pub const OVERFLOW_LIMIT: usize = 1 << 62;
 
 /// Returns 1 if `holds`, or else 0.
 #[inline(always)]
@@ -22,13 +19,14 @@ pub(crate) fn one_if(holds: bool) -> usize
     if holds { 1 } else { 0 }
 }
 
-/// Returns whether the overflow lists hold the most entries allowed, if they hold `overflowing`.
+/// Returns how many more entries the overflow lists of all buckets may hold, if they hold `overflowing`. They hold
+/// fewer than 2^62.
 #[inline(always)]
-pub fn is_overflow_full(overflowing: usize) -> bool
-    ensures full { IsTrue result → 2 ^ 62 - 1 ≤ overflowing }
-    ensures room { (IsTrue result → ⊥) → overflowing < 2 ^ 62 - 1 }
+pub fn overflow_room(overflowing: usize) -> usize
+    requires { overflowing < 2 ^ 62 }
+    ensures { overflowing + result + 1 ≡ 2 ^ 62 }
 {
-    overflowing >= OVERFLOW_LIMIT - 1
+    (1 << 62) - 1 - overflowing
 }
 
 impl<E: Keyed, H: BuildHasher> Buckets<E, H>
@@ -60,7 +58,7 @@ where
         ensures { InsertsInBucket E.Key.eq E.key_of (key_hash H.BuildHasher H.Hasher.Hasher E.Key.hash_input self.old)
             self.old bucket entry result self.new }
     {
-        if self.buckets.is_full(bucket) && is_overflow_full(self.overflowing) {
+        if self.buckets.is_full(bucket) && overflow_room(self.overflowing) == 0 {
             return Err(entry);
         }
         match self.buckets.insert(bucket, entry, tag(hash)) {
@@ -117,7 +115,7 @@ where
             bucket hash (E.key_of (E.made_of parts)) }
         ensures { InsertsMadeInBucket E.Key.eq E.key_of self.old bucket (E.made_of parts) parts result self.new }
     {
-        if self.buckets.is_full(bucket) && is_overflow_full(self.overflowing) {
+        if self.buckets.is_full(bucket) && overflow_room(self.overflowing) == 0 {
             return Err(parts);
         }
         match self.buckets.insert_made(bucket, parts, tag(hash)) {

@@ -5,6 +5,7 @@
 ghost use Rattle.scc_array.specs.Shelf.{shelf_entries};
 ghost use Rattle.scc_array.specs.Shelves.{shelf_of};
 ghost use Rattle.scc_buckets.specs.Places.{IsFoundAtSpot};
+ghost use Rattle.scc_buckets.specs.Routes.{route_of};
 ghost use Rattle.scc_common.specs.Contents.{entries, bucket_count, overflow_of, key_hash, bucket_of, IsRouted, IsUniqueBy, note_of};
 ghost use Rattle.scc_common.specs.Sizes.{IsLawful};
 ghost use Rattle.std.specs.List.{flat_map, position};
@@ -17,32 +18,34 @@ mod lookup;
 mod make;
 pub mod place;
 mod remove;
+mod router;
 pub mod sizes;
 mod walk;
 mod write;
 
-use crate::place::{bucket_index, tag};
-pub use insert::{OVERFLOW_LIMIT, is_overflow_full};
+use crate::place::tag;
+pub use insert::overflow_room;
 pub use place::Place;
+pub use router::Router;
 use scc_array::Array;
 use scc_common::Keyed;
 use std::hash::{BuildHasher, Hash};
 use std::marker::Model;
 
 /// Entries with distinct keys, in buckets. A contract sees the list of each bucket, the number of buckets and the
-/// settings, by the words of `scc_common`.
+/// settings, by the words of `scc_common`. `scc_draining` fills a bucket of the array in place, so it may reach the
+/// array, the router and the two numbers.
 #[derive(Drop)]
 pub struct Buckets<E: Keyed, H: BuildHasher>
 where
     E::Key: Eq + Hash,
 {
-    skipped: u32,
+    pub router: Router<H>,
     refused: bool,
     marked: bool,
-    hasher: H,
-    buckets: Array<E>,
-    length: usize,
-    overflowing: usize,
+    pub buckets: Array<E>,
+    pub length: usize,
+    pub overflowing: usize,
     asked: usize,
     reserved: usize,
 }
@@ -65,15 +68,15 @@ where
     ghost view = { λ t. record {
       lists = map shelf_entries t.buckets;
       settings = record
-          { hasher = t.hasher; skipped = t.skipped; asked = t.asked; reserved = t.reserved };
+          { hasher = t.router.hasher; skipped = t.router.skipped; asked = t.asked; reserved = t.reserved };
       refused = (t.refused, t.marked);
       spilled = overflow_in t.buckets;
       waiting = [];
       owed = [];
     } };
 
-    ghost invariant = { λ t. AreBuckets E.Key.eq E.key_of (λ k. hash_of H.BuildHasher H.Hasher.Hasher t.hasher
-        (E.Key.hash_input k)) t.skipped (t.asked + t.reserved) t.buckets t.length t.overflowing };
+    ghost invariant = { λ t. AreBuckets E.Key.eq E.key_of (λ k. hash_of H.BuildHasher H.Hasher.Hasher
+        t.router.hasher (E.Key.hash_input k)) t.router.skipped (t.asked + t.reserved) t.buckets t.length t.overflowing };
 }
 
 impl<E: Keyed, H: BuildHasher> Buckets<E, H>
@@ -127,7 +130,7 @@ where
     pub fn hash(&self, key: &E::Key) -> u64
         ensures { result ≡ key_hash H.BuildHasher H.Hasher.Hasher E.Key.hash_input self.now key.now }
     {
-        self.hasher.hash_one(key)
+        self.router.hash(key)
     }
 
     /// Returns the number of the bucket of `key`, 0 if there is no array.
@@ -135,7 +138,8 @@ where
         ensures { result ≡ bucket_of (key_hash H.BuildHasher H.Hasher.Hasher E.Key.hash_input self.now) self.now
             key.now }
     {
-        bucket_index(self.hash(key), self.skipped, self.buckets.len())
+        self.router
+            .bucket(self.router.hash(key), self.buckets.len())
     }
 
     /// Returns the place of the entry whose key equals `key`, or `None`. `hash` must be the hash of `key`.
@@ -152,11 +156,19 @@ where
         if count == 0 {
             return None;
         }
-        let bucket = bucket_index(hash, self.skipped, count);
+        let bucket = self.router.bucket(hash, count);
         match self.buckets.search(bucket, key, tag(hash)) {
             Some(slot) => Some(Place { bucket, slot }),
             None => None,
         }
+    }
+
+    /// Returns what says where a key belongs.
+    #[inline(always)]
+    pub fn router(&self) -> &Router<H>
+        ensures { result.now ≡ route_of self.now }
+    {
+        &self.router
     }
 
     /// Returns the array, to read.

@@ -8,7 +8,7 @@ ghost use Rattle.std.specs.Option.{option_copied};
 ghost use Rattle.std.specs.Prelude.{◌≡◌, MatchOption, Some, None, ◌<◌, length, slice_get};
 
 use crate::Buckets;
-use crate::place::{Place, bucket_index, tag};
+use crate::place::{Place, tag};
 use scc_common::Keyed;
 use std::hash::{BuildHasher, Hash};
 
@@ -26,7 +26,7 @@ where
         if count == 0 {
             return None;
         }
-        let bucket = bucket_index(hash, self.skipped, count);
+        let bucket = self.router.bucket(hash, count);
         self.buckets.find(bucket, key, tag(hash))
     }
 
@@ -69,7 +69,7 @@ where
         if count == 0 {
             return None;
         }
-        let bucket = bucket_index(hint, self.skipped, count);
+        let bucket = self.router.bucket(hint, count);
         match self.buckets.find_hinted(bucket, key, tag(hint)) {
             Some(entry) => Some(entry),
             None => None,
@@ -142,6 +142,6 @@ where
             self.now }
         ensures unique { IsUniqueBy E.Key.eq E.key_of self.now }
     {
-        bucket_index(hash, self.skipped, self.buckets.len())
+        self.router.bucket(hash, self.buckets.len())
     }
 }

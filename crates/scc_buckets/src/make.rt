@@ -6,8 +6,8 @@ ghost use Rattle.scc_common.specs.Contents.{entries, bucket_count, settings_of, 
 ghost use Rattle.std.specs.List.{flat_map, IsDistinct};
 ghost use Rattle.std.specs.Prelude.{◌≡◌, ◌<◌, ◌≤◌, ◌+◌, ◌*◌, ◌^◌, [], false, length, IfOk, map};
 
-use crate::Buckets;
 use crate::sizes::buckets_for;
+use crate::{Buckets, Router};
 use scc_array::Array;
 use scc_common::{Keyed, MakeError};
 use std::alloc::{AllocError, Global};
@@ -34,16 +34,23 @@ where
         ensures { AreNewBuckets E.key_of (key_hash H.BuildHasher H.Hasher.Hasher E.Key.hash_input)
             hasher skipped result }
     {
+        Buckets::bare(alloc, Router::new(skipped, hasher))
+    }
+
+    /// Makes buckets without an array, as `new` does, with `router`.
+    pub(crate) fn bare(alloc: Global, router: Router<H>) -> Buckets<E, H>
+        ensures { AreNewBuckets E.key_of (key_hash H.BuildHasher H.Hasher.Hasher E.Key.hash_input)
+            router.hasher router.skipped result }
+    {
         Buckets {
+            router,
             buckets: Array::none(alloc),
             length: 0,
             overflowing: 0,
             asked: 0,
             reserved: 0,
-            skipped,
             refused: false,
             marked: false,
-            hasher,
         }
     }
 
@@ -72,10 +79,9 @@ where
                 overflowing: 0,
                 asked: 32 * count,
                 reserved: 0,
-                skipped,
+                router: Router::new(skipped, hasher),
                 refused: false,
                 marked: false,
-                hasher,
             }),
             Err(_) => Err(MakeError),
         }

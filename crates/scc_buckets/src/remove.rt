@@ -7,7 +7,7 @@ ghost use Rattle.std.specs.Prelude.{◌≡◌, ◌<◌, ◌+◌, ◌-◌, None};
 
 use crate::Buckets;
 use crate::insert::one_if;
-use crate::place::{Place, bucket_index, tag};
+use crate::place::{Place, tag};
 use scc_common::Keyed;
 use std::hash::{BuildHasher, Hash};
 
@@ -53,7 +53,7 @@ where
         if count == 0 {
             return None;
         }
-        let bucket = bucket_index(hash, self.skipped, count);
+        let bucket = self.router.bucket(hash, count);
         match self.buckets.take_in_slots(bucket, key, tag(hash)) {
             Some(entry) => {
                 self.length -= 1;

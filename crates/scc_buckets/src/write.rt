@@ -10,7 +10,7 @@ ghost use Rattle.std.specs.List.{find};
 ghost use Rattle.std.specs.Prelude.{◌≡◌, ◌<◌, Some, None, true, slice_get};
 
 use crate::Buckets;
-use crate::place::{Place, bucket_index, tag};
+use crate::place::{Place, tag};
 use scc_common::{Keyed, Valued};
 use std::hash::{BuildHasher, Hash};
 
@@ -54,7 +54,7 @@ where
         if count == 0 {
             return None;
         }
-        let bucket = bucket_index(hash, self.skipped, count);
+        let bucket = self.router.bucket(hash, count);
         self.buckets.update(bucket, key, tag(hash), u)
     }
 

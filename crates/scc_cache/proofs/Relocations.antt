@@ -13,6 +13,7 @@ use Rattle.scc_table.specs.Relocates.{Spreads, left_after}
 use Rattle.scc_table.specs.TwoArrays.{pending_targets, waits_at}
 use Rattle.scc_table.proofs.relocations.OneByOne.{pending-is}
 use Rattle.scc_table.proofs.insertions.Places.{none-left}
+use Rattle.scc_table.proofs.resizes.Installation.{count-up}
 use Rattle.scc_table.proofs.arrays.SameParts.{count-same, pending-same}
 use Rattle.scc_table.proofs.relocations.Targets.{targets-all, targets-length, targets-same, targets-without}
 use Rattle.scc_cache.specs.CacheSteps.{ChangesLists, IsLacking, IsLastAt, list_number}
@@ -84,20 +85,20 @@ module _ {E S : Type 0} (h : ℕ) where
 
 -- the waiting buckets after a put: m is the cache after the growth, if one was due, and i is the bucket of the key
 module _ {E S : Type 0} (hash i : ℕ) (c m d : Contents E S) (at : i ≡ bucket_number (settings_of c).skipped (bucket_count m) hash) (count : bucket_count d ≡ bucket_count m) (some : i < bucket_count m) (lawful : IsLawful (bucket_count m)) where
-  pub put-relocates : (bucket_count c ≡ 0 → waiting_of m ≡ []) → (0 < bucket_count c → bucket_count m ≡ bucket_count c → waiting_of m ≡ waiting_of c) → (0 < bucket_count c → bucket_count m ≢ bucket_count c → pending_of m ≡ bucket_count m)
-      → (0 < bucket_count c → bucket_count m ≢ bucket_count c → waiting_of m ≡ replicate (bucket_count m) true) → waits_at (waiting_of d) i ≡ false → pending_targets d ≡ left_after i (pending_targets m) → (2 ≤ pending_of m → pending_of d + 2 ≡ pending_of m) → RelocatesTwoWithin hash c d
-  put-relocates first waiting all flags not_waiting exact two = record {
+  pub put-relocates : (bucket_count c ≡ 0 → waiting_of m ≡ []) → (0 < bucket_count c → bucket_count m ≡ bucket_count c → waiting_of m ≡ waiting_of c) → (0 < bucket_count c → bucket_count m ≢ bucket_count c → waiting_of m ≡ replicate (bucket_count m) true)
+      → waits_at (waiting_of d) i ≡ false → pending_targets d ≡ left_after i (pending_targets m) → (2 ≤ pending_of m → pending_of d + 2 ≡ pending_of m) → RelocatesTwoWithin hash c d
+  put-relocates first waiting all not_waiting exact two = record {
     not_waiting = ap (waits_at (waiting_of d)) (sym (at ∙ ap (λ n. bucket_number (settings_of c).skipped n hash) (sym count))) ∙ not_waiting;
     exact = λ one same.
         let stay : bucket_count m ≡ bucket_count c = sym count ∙ same in
         exact ∙ ap (left_after i) (targets-same c m (waiting one stay)) ∙ ap (λ j. left_after j (pending_targets c)) (at ∙ ap (λ n. bucket_number (settings_of c).skipped n hash) stay);
     grown = λ one other.
-        let pending = all one (λ e. other (count ∙ e)) in
+        let pending = pending-is m ∙ ap (count_by (λ w. w)) (all one (λ e. other (count ∙ e))) ∙ count-up (bucket_count m) in
         let least : 2 ≤ bucket_count m = elim lawful [ inl z ↦ absurd (omega arith) | inr z ↦ z.least ] in
         let both = two (omega arith) in
         omega arith;
     spread = λ one other.
-        let every = targets-all (bucket_count m) m (flags one (λ e. other (count ∙ e))) in
+        let every = targets-all (bucket_count m) m (all one (λ e. other (count ∙ e))) in
         exact ∙ ap (left_after i) (every ∙ ap (range_with_len 0) (sym count)) ∙ ap (λ j. left_after j (range_with_len 0 (bucket_count d))) (at ∙ ap (λ n. bucket_number (settings_of c).skipped n hash) (sym count));
     first = λ zero.
         let none : pending_of m ≡ 0 = pending-is m ∙ ap (count_by (λ w. w)) (first zero) in

@@ -89,7 +89,8 @@ impl<K: Eq + Hash, V, H: BuildHasher> Owned<K, V, H> {
     where
         H: Drop,
         requires { skipped ≤ 4 }
-        ensures { MakesEmptyCache (λ _. hasher) skipped capacity maximum result }
+        ensures made { MakesEmptyCache (λ _. hasher) skipped capacity maximum result }
+        ensures state { IfOk result (λ c. IsCacheState K.eq (hash_in ⟦<H as Hashes<K>>⟧.hash_of c.contents) c) }
     {
         match Table::with_capacity(alloc, skipped, capacity, hasher) {
             Ok(table) => {
@@ -121,9 +122,8 @@ impl<K: Eq + Hash, V, H: BuildHasher> Owned<K, V, H> {
             return Err(MakeError);
         };
         let count = pairs.len();
-        let mut made = Owned::with_capacity_and_hasher(alloc, count, count, H::default())?;
+        let mut made = Owned::skipping(alloc, 0, count, count, H::default())?;
         made.put_all(pairs)?;
-        let _ = made.len();
         Ok(made)
     }
 
@@ -133,7 +133,10 @@ impl<K: Eq + Hash, V, H: BuildHasher> Owned<K, V, H> {
     where
         K: Drop,
         V: Drop,
-        ensures { OnOk result (PutsAll K.eq (hash_in ⟦<H as Hashes<K>>⟧.hash_of) self.old pairs.items self.new) }
+        requires { IsCacheState K.eq (hash_in ⟦<H as Hashes<K>>⟧.hash_of self.old.contents) self.old }
+        ensures puts { OnOk result (PutsAll K.eq (hash_in ⟦<H as Hashes<K>>⟧.hash_of) self.old pairs.items self.new) }
+        ensures state { OnOk result (IsCacheState K.eq (hash_in ⟦<H as Hashes<K>>⟧.hash_of self.new.contents)
+            self.new) }
     {
         for (k, v) in pairs {
             match self.put_sync(k, v) {

@@ -69,7 +69,7 @@ impl<K: Eq + Hash, V, H: BuildHasher> Owned<K, V, H> {
         ensures finds { IfOk result (λ r. FindsAfterPut K.eq (entries self.old.contents) (k, v) r.0
             (entries self.new.contents)) }
     {
-        match self.table.bucket_within(hash, self.maximum) {
+        match self.table.bucket_for_new(hash, self.maximum) {
             Ok(bucket) => {
                 self.table.drop_mark();
                 let (evicted, slot) = self.table.put_within(bucket, hash, (k, v));

@@ -31,7 +31,7 @@ impl<K: Eq + Hash, V, H: BuildHasher> Owned<K, V, H> {
         let hash = self.table.hash(k);
         match self.place_of(hash, k) {
             Some(_) => Ok(()),
-            None => match self.table.prepare_within(hash, self.maximum) {
+            None => match self.table.prepare(hash, self.maximum) {
                 Ok(()) => Ok(()),
                 Err(_) => Err(MakeError),
             },

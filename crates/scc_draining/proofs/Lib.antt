@@ -2,6 +2,7 @@ pub mod Arriving
 pub mod Buckets
 pub mod Counted
 pub mod Draining
+pub mod Filled
 pub mod FromBuckets
 pub mod Joined
 pub mod Numbers

@@ -43,7 +43,6 @@ pub record AreJoined {E : Type 0} (hash : E → ℕ) (t n i first last : ℕ) (o
 -- the entries that belong to bucket i of n stand in the old buckets from `first` up to before `last`, if `whole` alone
 -- there, and each old bucket holds only its own entries
 pub record IsDrainable {E : Type 0} (hash : E → ℕ) (t n i first last : ℕ) (whole : Bool) (olds : List (Shelf E)) : Type 0 where
-  pub bits : t < 64
   pub sources : IsWithinSources hash t n i first last olds
   pub joined : IsTrue whole → AreJoined hash t n i first last olds
   pub few : (j : ℕ) → length (shelf_of olds j).overflow < 2 ^ 62
@@ -51,7 +50,6 @@ pub record IsDrainable {E : Type 0} (hash : E → ℕ) (t n i first last : ℕ) 
 
 -- bucket i of `into` has room for the entries of old bucket j that belong to bucket i of n
 pub record IsPullable {E : Type 0} (hash : E → ℕ) (t n i j : ℕ) (olds into : List (Shelf E)) : Type 0 where
-  pub bits : t < 64
   pub source : j < length olds
   pub few : length (shelf_of olds j).overflow < 2 ^ 62
   pub own : IsOwn hash t (length olds) j (shelf_of olds j)

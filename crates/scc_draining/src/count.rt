@@ -1,10 +1,9 @@
 //! Counts of the entries of a bucket that belong to a bucket of another array, and the limit of overflow lists.
 ghost use Rattle.scc_buckets.specs.Pour.{destined_for};
-ghost use Rattle.scc_common.specs.Contents.{bucket_count, key_hash, list_of};
+ghost use Rattle.scc_common.specs.Contents.{bucket_count, key_hash, list_of, settings_of};
 ghost use Rattle.std.specs.Prelude.{◌≡◌, ◌<◌, ◌≤◌, length, take, ◌+◌, ◌-◌, ◌^◌, ◌⊎◌, IsTrue};
 
-use scc_buckets::place::bucket_index;
-use scc_buckets::{Buckets, OVERFLOW_LIMIT, Place, is_overflow_full};
+use scc_buckets::{Buckets, Place, overflow_room};
 use scc_common::Keyed;
 use std::hash::{BuildHasher, Hash};
 
@@ -14,34 +13,25 @@ pub fn count_destined<E: Keyed, H: BuildHasher>(
     bucket: usize,
     first: usize,
     target: usize,
-    skipped: u32,
     count: usize,
 ) -> usize
 where
     E::Key: Eq + Hash,
     requires within { bucket < bucket_count table.now }
     requires first { first ≤ length (list_of table.now bucket) }
-    requires bits { skipped < 64 }
     ensures { result ≡ length (destined_for
-        (λ e. key_hash H.BuildHasher H.Hasher.Hasher E.Key.hash_input table.now (E.key_of e)) skipped count target
+        (λ e. key_hash H.BuildHasher H.Hasher.Hasher E.Key.hash_input table.now (E.key_of e))
+        (settings_of table.now).skipped count target
         (take first (list_of table.now bucket))) }
 {
     let mut found = 0;
     for slot in 0..first {
         let hash = table.hash(table.entry_in(Place { bucket, slot }).key());
-        if bucket_index(hash, skipped, count) == target {
+        if table.router().bucket(hash, count) == target {
             found += 1;
         }
     }
     found
-}
-
-/// Returns how many more entries may stand in overflow lists, if `overflowing` and `aside` entries stand there.
-pub(crate) fn left_of(overflowing: usize, aside: usize) -> usize
-    requires { overflowing + aside < 2 ^ 62 }
-    ensures { overflowing + aside + result + 1 ≡ 2 ^ 62 }
-{
-    OVERFLOW_LIMIT - 1 - overflowing - aside
 }
 
 /// Returns whether a bucket of `listed` entries can't take one more: its slots are full, and the overflow lists of the
@@ -52,5 +42,5 @@ pub fn has_no_room(listed: usize, spilled: usize, aside: usize) -> bool
     ensures past { IsTrue result → 2 ^ 62 - 1 ≤ spilled + aside }
     ensures room { (IsTrue result → ⊥) → (listed < 32) ⊎ (spilled + aside < 2 ^ 62 - 1) }
 {
-    listed >= 32 && is_overflow_full(spilled + aside)
+    listed >= 32 && overflow_room(spilled + aside) == 0
 }

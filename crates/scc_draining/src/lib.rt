@@ -9,5 +9,5 @@ mod walk;
 
 pub use count::{count_destined, has_no_room};
 pub use make::{fresh_waiting, insert_clones_of};
-pub use relocate::{count_all, move_target, sources};
-pub use walk::{end_past, spot_from};
+pub use relocate::{Relocation, move_target, sources};
+pub use walk::end_past;

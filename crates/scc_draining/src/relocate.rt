@@ -3,6 +3,7 @@ ghost use Rattle.scc_array.specs.Shelf.{empty_shelf, shelf_entries};
 ghost use Rattle.scc_array.specs.Shelves.{shelf_of};
 ghost use Rattle.scc_array.specs.Sifts.{raised};
 ghost use Rattle.scc_buckets.specs.Pour.{IsPacked, destined_for};
+ghost use Rattle.scc_buckets.specs.Routes.{hash_by};
 ghost use Rattle.scc_buckets.specs.Tables.{overflow_in};
 ghost use Rattle.scc_common.specs.Contents.{bucket_count, key_hash, list_of, lists_of, settings_of, overflow_of};
 ghost use Rattle.scc_common.specs.Routing.{bucket_number};
@@ -12,151 +13,284 @@ ghost use Rattle.scc_draining.specs.Filling.{Fills, MovesTarget};
 ghost use Rattle.std.specs.List.{flat_map, IsDistinct};
 ghost use Rattle.std.specs.Prelude.{◌≡◌, ◌==◌, ◌<◌, ◌≤◌, ◌+◌, ◌^◌, ◌*◌, ◌⊎◌, ℕ, [], length, map, take, false, slice_get, slice_index_or, slice_set, Some, IsTrue, OnOk, OnErr};
 
-use crate::count::left_of;
 use scc_array::Array;
-use scc_buckets::Buckets;
-use scc_buckets::place::{bucket_index, tag};
+use scc_buckets::place::tag;
+use scc_buckets::{Buckets, Router, overflow_room};
 use scc_common::Keyed;
 use std::alloc::AllocError;
 use std::hash::{BuildHasher, Hash};
 
-/// One relocation: the entries that belong to the bucket `target` of the new array stand in the old buckets from
-/// `first` up to before `last`. If `whole`, these old buckets hold no other entries. `skipped` bits of each hash are
-/// skipped.
+/// One relocation: the entries that belong to the bucket `target` of the new array, which has `count` buckets, stand in
+/// the old buckets from `first` up to before `last`. If `whole`, these old buckets hold no other entries.
 #[derive(Clone, Copy)]
-struct Relocation {
-    target: usize,
-    first: usize,
-    last: usize,
-    whole: bool,
-    skipped: u32,
+pub struct Relocation {
+    pub target: usize,
+    pub count: usize,
+    pub first: usize,
+    pub last: usize,
+    pub whole: bool,
 }
 
-/// Sets the flag of each slot of the old bucket `source` to 1 if its entry belongs to the target, or else to 0. `table`
-/// supplies the hasher.
-#[inline(always)]
-fn flags_of<E: Keyed, H: BuildHasher>(
-    old: &Array<E>,
-    source: usize,
-    task: Relocation,
-    table: &Buckets<E, H>,
-    count: usize,
-    flags: &mut [u8; 32],
-)
-where
-    E::Key: Eq + Hash,
-    requires bits { task.skipped < 64 }
-    requires source { source < length old.now }
-    ensures { (j : ℕ) (e : E) → slice_get (shelf_of old.now source).slots j ≡ Some e
-        → slice_get (raised flags.new) j ≡ Some (bucket_number task.skipped count (key_hash H.BuildHasher H.Hasher.Hasher
-        E.Key.hash_input table.now (E.key_of e)) == task.target) }
-{
-    let slots = old.slot_count(source);
-    for slot in 0..slots {
-        let hash = table.hash(old.entry_of(source, slot, slots).key());
-        flags[slot] = (bucket_index(hash, task.skipped, count) == task.target) as u8;
-    }
-}
-
-/// As `pull`, but moves entry by entry: for an old bucket with entries in its overflow list, and for a target whose
-/// free slots may not suffice.
-#[cold]
-fn pull_each<E: Keyed, H: BuildHasher>(
-    into: &mut Array<E>,
-    old: &mut Array<E>,
-    source: usize,
-    task: Relocation,
-    table: &Buckets<E, H>,
-    count: usize,
-)
-where
-    E::Key: Eq + Hash,
-    requires { IsPullable (λ e. key_hash H.BuildHasher H.Hasher.Hasher E.Key.hash_input table.now (E.key_of e))
-        task.skipped count task.target source old.old into.old }
-    ensures pulls { Pulls (λ e. key_hash H.BuildHasher H.Hasher.Hasher E.Key.hash_input table.now (E.key_of e))
-        task.skipped count task.target source old.old (shelf_of into.old task.target) old.new (shelf_of into.new
-        task.target) }
-    ensures others { into.new ≡ slice_set into.old task.target (shelf_of into.new task.target) }
-{
-    let entry_count = old.bucket_len(source);
-    let mut slot = 0;
-    for seen in 0..entry_count {
-        let hash = table.hash(old.entry_at(source, slot).key());
-        if bucket_index(hash, task.skipped, count) == task.target {
-            let entry = old.remove_at(source, slot);
-            into.insert_in_room(task.target, entry, tag(hash));
-        } else {
-            slot += 1;
+impl Relocation {
+    /// Sets the flag of each slot of the old bucket `source` to 1 if its entry belongs to the target, or else to 0.
+    #[inline(always)]
+    fn flags_of<E: Keyed, H: BuildHasher>(
+        &self,
+        router: &Router<H>,
+        old: &Array<E>,
+        source: usize,
+        flags: &mut [u8; 32],
+    )
+    where
+        E::Key: Eq + Hash,
+        requires { source < length old.now }
+        ensures { (j : ℕ) (e : E) → slice_get (shelf_of old.now source).slots j ≡ Some e
+            → slice_get (raised flags.new) j ≡ Some (bucket_number router.now.skipped self.now.count
+            (hash_by H.BuildHasher H.Hasher.Hasher E.Key.hash_input router.now (E.key_of e)) == self.now.target) }
+    {
+        let slots = old.slot_count(source);
+        for slot in 0..slots {
+            let hash = router.hash(old.entry_of(source, slot, slots).key());
+            flags[slot] = (router.bucket(hash, self.count) == self.target) as u8;
         }
     }
-}
 
-/// Moves the entries of the old bucket `source` that belong to the target to the end of the target, in order. The
-/// target must have room for them, so nothing is allocated. The others keep their order. If `whole`, the old bucket
-/// holds no others, and its entries aren't hashed unless `pull_each` moves them. `table` supplies the hasher.
-fn pull<E: Keyed, H: BuildHasher>(
-    into: &mut Array<E>,
-    old: &mut Array<E>,
-    source: usize,
-    task: Relocation,
-    table: &Buckets<E, H>,
-    count: usize,
-)
-where
-    E::Key: Eq + Hash,
-    requires pullable { IsPullable (λ e. key_hash H.BuildHasher H.Hasher.Hasher E.Key.hash_input table.now (E.key_of
-        e)) task.skipped count task.target source old.old into.old }
-    requires joined { IsTrue task.whole → destined_for (λ e. key_hash H.BuildHasher H.Hasher.Hasher E.Key.hash_input
-        table.now (E.key_of e)) task.skipped count task.target (shelf_entries (shelf_of old.old source)) ≡ shelf_entries
-        (shelf_of old.old source) }
-    ensures pulls { Pulls (λ e. key_hash H.BuildHasher H.Hasher.Hasher E.Key.hash_input table.now (E.key_of e))
-        task.skipped count task.target source old.old (shelf_of into.old task.target) old.new (shelf_of into.new
-        task.target) }
-    ensures others { into.new ≡ slice_set into.old task.target (shelf_of into.new task.target) }
-{
-    if old.bucket_len(source) == 0 {
-        return;
-    }
-    if old.overflow_len(source) == 0
-        && into.slot_count(task.target) + old.slot_count(source) <= 32
+    /// As `pull`, but moves entry by entry: for an old bucket with entries in its overflow list, and for a target whose
+    /// free slots may not suffice.
+    #[cold]
+    fn pull_each<E: Keyed, H: BuildHasher>(
+        &self,
+        router: &Router<H>,
+        old: &mut Array<E>,
+        into: &mut Array<E>,
+        source: usize,
+    )
+    where
+        E::Key: Eq + Hash,
+        requires { IsPullable (λ e. hash_by H.BuildHasher H.Hasher.Hasher E.Key.hash_input router.now (E.key_of e))
+            router.now.skipped self.now.count self.now.target source old.old into.old }
+        ensures pulls { Pulls (λ e. hash_by H.BuildHasher H.Hasher.Hasher E.Key.hash_input router.now (E.key_of e))
+            router.now.skipped self.now.count self.now.target source old.old (shelf_of into.old self.now.target)
+            old.new (shelf_of into.new self.now.target) }
+        ensures others { into.new ≡ slice_set into.old self.now.target (shelf_of into.new self.now.target) }
     {
-        if task.whole {
-            old.pour(source, into, task.target);
+        let entry_count = old.bucket_len(source);
+        let mut slot = 0;
+        for seen in 0..entry_count {
+            let hash = router.hash(old.entry_at(source, slot).key());
+            if router.bucket(hash, self.count) == self.target {
+                let entry = old.remove_at(source, slot);
+                into.insert_in_room(self.target, entry, tag(hash));
+            } else {
+                slot += 1;
+            }
+        }
+    }
+
+    /// Moves the entries of the old bucket `source` that belong to the target to the end of the target, in order. The
+    /// target must have room for them, so nothing is allocated. The others keep their order. If `whole`, the old bucket
+    /// holds no others, and its entries aren't hashed unless `pull_each` moves them.
+    fn pull<E: Keyed, H: BuildHasher>(
+        &self,
+        router: &Router<H>,
+        old: &mut Array<E>,
+        into: &mut Array<E>,
+        source: usize,
+    )
+    where
+        E::Key: Eq + Hash,
+        requires pullable { IsPullable (λ e. hash_by H.BuildHasher H.Hasher.Hasher E.Key.hash_input router.now (E.key_of e))
+            router.now.skipped self.now.count self.now.target source old.old into.old }
+        requires joined { IsTrue self.now.whole → destined_for (λ e. hash_by H.BuildHasher H.Hasher.Hasher E.Key.hash_input router.now (E.key_of e))
+            router.now.skipped self.now.count self.now.target (shelf_entries (shelf_of old.old source))
+            ≡ shelf_entries (shelf_of old.old source) }
+        ensures pulls { Pulls (λ e. hash_by H.BuildHasher H.Hasher.Hasher E.Key.hash_input router.now (E.key_of e))
+            router.now.skipped self.now.count self.now.target source old.old (shelf_of into.old self.now.target)
+            old.new (shelf_of into.new self.now.target) }
+        ensures others { into.new ≡ slice_set into.old self.now.target (shelf_of into.new self.now.target) }
+    {
+        if old.bucket_len(source) == 0 {
             return;
         }
-        let mut flags = [0u8; 32];
-        flags_of(old, source, task, table, count, &mut flags);
-        old.split(source, &flags, into, task.target);
-        return;
+        if old.overflow_len(source) == 0
+            && into.slot_count(self.target) + old.slot_count(source) <= 32
+        {
+            if self.whole {
+                old.pour(source, into, self.target);
+                return;
+            }
+            let mut flags = [0u8; 32];
+            self.flags_of(router, old, source, &mut flags);
+            old.split(source, &flags, into, self.target);
+            return;
+        }
+        self.pull_each(router, old, into, source);
     }
-    pull_each(into, old, source, task, table, count);
-}
 
-/// Moves the entries of all old buckets that belong to the target to the end of the target, in order. The target must
-/// have room for them. The others keep their order.
-fn drain<E: Keyed, H: BuildHasher>(
-    into: &mut Array<E>,
-    old: &mut Array<E>,
-    task: Relocation,
-    table: &Buckets<E, H>,
-    count: usize,
-)
-where
-    E::Key: Eq + Hash,
-    requires drainable { IsDrainable (λ e. key_hash H.BuildHasher H.Hasher.Hasher E.Key.hash_input table.now (E.key_of
-        e)) task.skipped count task.target task.first task.last task.whole old.old }
-    requires target { task.target < length into.old }
-    requires packed { IsPacked (λ e. key_hash H.BuildHasher H.Hasher.Hasher E.Key.hash_input table.now (E.key_of e))
-        (shelf_of into.old task.target) }
-    requires room { length (shelf_entries (shelf_of into.old task.target)) + length (destined_for (λ e. key_hash
-        H.BuildHasher H.Hasher.Hasher E.Key.hash_input table.now (E.key_of e)) task.skipped count task.target (flat_map
-        shelf_entries old.old)) ≤ 32 + (shelf_of into.old task.target).room }
-    ensures drains { Drains (λ e. key_hash H.BuildHasher H.Hasher.Hasher E.Key.hash_input table.now (E.key_of e))
-        task.skipped count task.target old.old (shelf_of into.old task.target) old.new (shelf_of into.new task.target) }
-    ensures others { into.new ≡ slice_set into.old task.target (shelf_of into.new task.target) }
-{
-    for source in task.first..task.last {
-        pull(into, old, source, task, table, count);
+    /// Moves the entries of all old buckets that belong to the target to the end of the target, in order. The target
+    /// must have room for them. The others keep their order.
+    fn drain<E: Keyed, H: BuildHasher>(
+        &self,
+        router: &Router<H>,
+        old: &mut Array<E>,
+        into: &mut Array<E>,
+    )
+    where
+        E::Key: Eq + Hash,
+        requires drainable { IsDrainable (λ e. hash_by H.BuildHasher H.Hasher.Hasher E.Key.hash_input router.now (E.key_of e))
+            router.now.skipped self.now.count self.now.target self.now.first self.now.last self.now.whole old.old }
+        requires target { self.now.target < length into.old }
+        requires packed { IsPacked (λ e. hash_by H.BuildHasher H.Hasher.Hasher E.Key.hash_input router.now (E.key_of e))
+            (shelf_of into.old self.now.target) }
+        requires room { length (shelf_entries (shelf_of into.old self.now.target)) + length (destined_for
+            (λ e. hash_by H.BuildHasher H.Hasher.Hasher E.Key.hash_input router.now (E.key_of e))
+            router.now.skipped self.now.count self.now.target (flat_map shelf_entries old.old))
+            ≤ 32 + (shelf_of into.old self.now.target).room }
+        ensures drains { Drains (λ e. hash_by H.BuildHasher H.Hasher.Hasher E.Key.hash_input router.now (E.key_of e))
+            router.now.skipped self.now.count self.now.target old.old (shelf_of into.old self.now.target) old.new
+            (shelf_of into.new self.now.target) }
+        ensures others { into.new ≡ slice_set into.old self.now.target (shelf_of into.new self.now.target) }
+    {
+        for source in self.first..self.last {
+            self.pull(router, old, into, source);
+        }
+    }
+
+    /// Moves the entries of all old buckets that belong to the target into the target, in order. The target must be
+    /// empty, and the entries at most `coming`. Fails if memory is refused, or if more than `left` of `coming` entries
+    /// would stand in the overflow list; then all entries stay.
+    fn fill<E: Keyed, H: BuildHasher>(
+        &self,
+        router: &Router<H>,
+        old: &mut Array<E>,
+        into: &mut Array<E>,
+        coming: usize,
+        left: usize,
+    ) -> Result<(), AllocError>
+    where
+        E::Key: Eq + Hash,
+        requires drainable { IsDrainable (λ e. hash_by H.BuildHasher H.Hasher.Hasher E.Key.hash_input router.now (E.key_of e))
+            router.now.skipped self.now.count self.now.target self.now.first self.now.last self.now.whole old.old }
+        requires target { self.now.target < length into.old }
+        requires empty { shelf_of into.old self.now.target
+            ≡ record empty_shelf { room = (shelf_of into.old self.now.target).room } }
+        requires coming { length (destined_for (λ e. hash_by H.BuildHasher H.Hasher.Hasher E.Key.hash_input router.now (E.key_of e))
+            router.now.skipped self.now.count self.now.target (flat_map shelf_entries old.old)) ≤ coming }
+        ensures { Fills (λ e. hash_by H.BuildHasher H.Hasher.Hasher E.Key.hash_input router.now (E.key_of e))
+            router.now.skipped self.now.count self.now.target coming left into.old old.old result into.new old.new }
+    {
+        make_room_for(into, self.target, coming, left)?;
+        self.drain(router, old, into);
+        Ok(())
+    }
+
+    /// Moves the entries of all old buckets that belong to the target into this bucket of `current`, in order, and
+    /// returns their number. The bucket must be empty, and the entries at most `coming`. `aside` entries count as if
+    /// they stood in overflow lists of `current`. Fails if memory is refused, or if the overflow lists would hold too
+    /// many entries; then all stays.
+    fn move_in<E: Keyed, H: BuildHasher>(
+        &self,
+        current: &mut Buckets<E, H>,
+        old: &mut Array<E>,
+        coming: usize,
+        aside: usize,
+    ) -> Result<usize, AllocError>
+    where
+        E::Key: Eq + Hash,
+        requires drainable { IsDrainable (λ e. key_hash H.BuildHasher H.Hasher.Hasher E.Key.hash_input current.old (E.key_of e))
+            (settings_of current.old).skipped (bucket_count current.old) self.now.target self.now.first self.now.last
+            self.now.whole old.old }
+        requires count { self.now.count ≡ bucket_count current.old }
+        requires target { self.now.target < bucket_count current.old }
+        requires bare { list_of current.old self.now.target ≡ [] }
+        requires coming { length (destined_for (λ e. key_hash H.BuildHasher H.Hasher.Hasher E.Key.hash_input current.old (E.key_of e))
+            (settings_of current.old).skipped (bucket_count current.old) self.now.target (flat_map shelf_entries old.old))
+            ≤ coming }
+        requires aside { overflow_of current.old + aside < 2 ^ 62 }
+        requires unique { IsDistinct E.Key.eq (map E.key_of (flat_map (λ l. l) (slice_set (lists_of current.old)
+            self.now.target (destined_for (λ e. key_hash H.BuildHasher H.Hasher.Hasher E.Key.hash_input current.old (E.key_of e))
+            (settings_of current.old).skipped (bucket_count current.old) self.now.target
+            (flat_map shelf_entries old.old))))) }
+        ensures { MovesTarget (λ e. key_hash H.BuildHasher H.Hasher.Hasher E.Key.hash_input current.old (E.key_of e))
+            self.now.target coming aside current.old old.old result current.new old.new }
+    {
+        let left = overflow_room(current.overflowing + aside);
+        let filled = self.fill(&current.router, old, &mut current.buckets, coming, left);
+        let moved = current.buckets.bucket_len(self.target);
+        current.length += moved;
+        current.overflowing += current.buckets.overflow_len(self.target);
+        match filled {
+            Ok(()) => Ok(moved),
+            Err(e) => Err(e),
+        }
+    }
+
+    /// Returns how many entries of the old bucket `source` belong to the target.
+    fn count_in<E: Keyed, H: BuildHasher>(
+        &self,
+        router: &Router<H>,
+        old: &Array<E>,
+        source: usize,
+    ) -> usize
+    where
+        E::Key: Eq + Hash,
+        requires source { source < length old.now }
+        requires few { length (shelf_entries (shelf_of old.now source)) < 2 ^ 63 }
+        ensures { result ≡ length (destined_for (λ e. hash_by H.BuildHasher H.Hasher.Hasher E.Key.hash_input router.now (E.key_of e))
+            router.now.skipped self.now.count self.now.target (shelf_entries (shelf_of old.now source))) }
+    {
+        let entry_count = old.bucket_len(source);
+        let mut found = 0;
+        for slot in 0..entry_count {
+            let hash = router.hash(old.entry_at(source, slot).key());
+            if router.bucket(hash, self.count) == self.target {
+                found += 1;
+            }
+        }
+        found
+    }
+
+    /// Returns how many entries of all old buckets belong to the target.
+    pub fn count_all<E: Keyed, H: BuildHasher>(&self, router: &Router<H>, old: &Array<E>) -> usize
+    where
+        E::Key: Eq + Hash,
+        requires sources { IsWithinSources (λ e. hash_by H.BuildHasher H.Hasher.Hasher E.Key.hash_input router.now (E.key_of e))
+            router.now.skipped self.now.count self.now.target self.now.first self.now.last old.now }
+        requires few { (j : ℕ) → length (shelf_of old.now j).overflow < 2 ^ 62 }
+        requires own { AreOwn (λ e. hash_by H.BuildHasher H.Hasher.Hasher E.Key.hash_input router.now (E.key_of e))
+            router.now.skipped old.now }
+        requires most { length (flat_map shelf_entries old.now) < 2 ^ 64 }
+        ensures { result ≡ length (destined_for (λ e. hash_by H.BuildHasher H.Hasher.Hasher E.Key.hash_input router.now (E.key_of e))
+            router.now.skipped self.now.count self.now.target (flat_map shelf_entries old.now)) }
+    {
+        let mut found = 0;
+        for source in self.first..self.last {
+            found += self.count_in(router, old, source);
+        }
+        found
+    }
+
+    /// Returns at least the number of entries of all old buckets that belong to the target. A result greater than 32 is
+    /// exact. Hashes no entry if these entries stand in one old bucket of at most 32 entries, or if `whole`.
+    fn count_coming<E: Keyed, H: BuildHasher>(&self, router: &Router<H>, old: &Array<E>) -> usize
+    where
+        E::Key: Eq + Hash,
+        requires drainable { IsDrainable (λ e. hash_by H.BuildHasher H.Hasher.Hasher E.Key.hash_input router.now (E.key_of e))
+            router.now.skipped self.now.count self.now.target self.now.first self.now.last self.now.whole old.now }
+        requires most { length (flat_map shelf_entries old.now) < 2 ^ 64 }
+        ensures enough { length (destined_for (λ e. hash_by H.BuildHasher H.Hasher.Hasher E.Key.hash_input router.now (E.key_of e))
+            router.now.skipped self.now.count self.now.target (flat_map shelf_entries old.now)) ≤ result }
+        ensures exact { 32 < result → result ≡ length (destined_for
+            (λ e. hash_by H.BuildHasher H.Hasher.Hasher E.Key.hash_input router.now (E.key_of e))
+            router.now.skipped self.now.count self.now.target (flat_map shelf_entries old.now)) }
+    {
+        if self.last - self.first == 1 && old.bucket_len(self.first) <= 32 {
+            return 32;
+        }
+        if self.whole {
+            return len_between(old, self.first, self.last);
+        }
+        self.count_all(router, old)
     }
 }
 
@@ -183,77 +317,6 @@ fn make_room_for<E>(
         return Err(AllocError);
     }
     into.reserve_overflow(bucket, coming - 32)
-}
-
-/// Moves the entries of all old buckets that belong to the target into the target, in order. The target must be empty,
-/// and the entries at most `coming`. Fails if memory is refused, or if more than `left` of `coming` entries would stand
-/// in the overflow list; then all entries stay.
-fn fill<E: Keyed, H: BuildHasher>(
-    into: &mut Array<E>,
-    coming: usize,
-    left: usize,
-    old: &mut Array<E>,
-    task: Relocation,
-    table: &Buckets<E, H>,
-    count: usize,
-) -> Result<(), AllocError>
-where
-    E::Key: Eq + Hash,
-    requires drainable { IsDrainable (λ e. key_hash H.BuildHasher H.Hasher.Hasher E.Key.hash_input table.now (E.key_of
-        e)) task.skipped count task.target task.first task.last task.whole old.old }
-    requires target { task.target < length into.old }
-    requires empty { shelf_of into.old task.target
-        ≡ record empty_shelf { room = (shelf_of into.old task.target).room } }
-    requires coming { length (destined_for (λ e. key_hash H.BuildHasher H.Hasher.Hasher E.Key.hash_input table.now
-        (E.key_of e)) task.skipped count task.target (flat_map shelf_entries old.old)) ≤ coming }
-    ensures { Fills (λ e. key_hash H.BuildHasher H.Hasher.Hasher E.Key.hash_input table.now (E.key_of e)) task.skipped
-        count task.target coming left into.old old.old result into.new old.new }
-{
-    make_room_for(into, task.target, coming, left)?;
-    drain(into, old, task, table, count);
-    Ok(())
-}
-
-/// Moves the entries of all old buckets that belong to the target into this bucket of `current`, in order, and returns
-/// their number. The bucket must be empty, and the entries at most `coming`. `aside` entries count as if they stood in
-/// overflow lists of `current`. Fails if memory is refused, or if the overflow lists would hold too many entries; then
-/// all stays.
-fn move_in<E: Keyed, H: BuildHasher>(
-    current: &mut Buckets<E, H>,
-    old: &mut Array<E>,
-    task: Relocation,
-    coming: usize,
-    aside: usize,
-) -> Result<usize, AllocError>
-where
-    E::Key: Eq + Hash,
-    requires drainable { IsDrainable (λ e. key_hash H.BuildHasher H.Hasher.Hasher E.Key.hash_input current.old
-        (E.key_of e)) task.skipped (bucket_count current.old) task.target task.first task.last task.whole old.old }
-    requires skips { task.skipped ≡ (settings_of current.old).skipped }
-    requires target { task.target < bucket_count current.old }
-    requires bare { list_of current.old task.target ≡ [] }
-    requires coming { length (destined_for (λ e. key_hash H.BuildHasher H.Hasher.Hasher E.Key.hash_input current.old
-        (E.key_of e)) task.skipped (bucket_count current.old) task.target (flat_map shelf_entries old.old)) ≤ coming }
-    requires aside { overflow_of current.old + aside < 2 ^ 62 }
-    requires unique { IsDistinct E.Key.eq (map E.key_of (flat_map (λ l. l) (slice_set (lists_of current.old) task.target
-        (destined_for (λ e. key_hash H.BuildHasher H.Hasher.Hasher E.Key.hash_input current.old (E.key_of e)) task.skipped
-        (bucket_count current.old) task.target (flat_map shelf_entries old.old))))) }
-    ensures { MovesTarget (λ e. key_hash H.BuildHasher H.Hasher.Hasher E.Key.hash_input current.old (E.key_of e))
-        task.target coming aside current.old old.old result current.new old.new }
-{
-    let alloc = current.allocator();
-    let (mut fresh, count, overflowing) = current.install(Array::none(alloc), 0, 0);
-    let buckets = fresh.len();
-    let left = left_of(overflowing, aside);
-    let filled = fill(&mut fresh, coming, left, old, task, current, buckets);
-    let moved = fresh.bucket_len(task.target);
-    let spilled = fresh.overflow_len(task.target);
-    let (none, _, _) = current.install(fresh, count + moved, overflowing + spilled);
-    none.destroy_empty();
-    match filled {
-        Ok(()) => Ok(moved),
-        Err(e) => Err(e),
-    }
 }
 
 /// Returns the range of old buckets in which the entries of `target` stand: from the first number up to before the
@@ -311,64 +374,6 @@ fn is_whole(old: usize, count: usize, target: usize, waiting: &[bool]) -> bool
     count < old
 }
 
-/// Returns how many entries of the old bucket `source` belong to `target`.
-fn count_in<E: Keyed, H: BuildHasher>(
-    old: &Array<E>,
-    source: usize,
-    target: usize,
-    table: &Buckets<E, H>,
-    skipped: u32,
-    count: usize,
-) -> usize
-where
-    E::Key: Eq + Hash,
-    requires bits { skipped < 64 }
-    requires source { source < length old.now }
-    requires few { length (shelf_entries (shelf_of old.now source)) < 2 ^ 63 }
-    ensures { result ≡ length (destined_for (λ e. key_hash H.BuildHasher H.Hasher.Hasher E.Key.hash_input table.now
-        (E.key_of e)) skipped count target (shelf_entries (shelf_of old.now source))) }
-{
-    let entry_count = old.bucket_len(source);
-    let mut found = 0;
-    for slot in 0..entry_count {
-        let hash = table.hash(old.entry_at(source, slot).key());
-        if bucket_index(hash, skipped, count) == target {
-            found += 1;
-        }
-    }
-    found
-}
-
-/// Returns how many entries of all old buckets belong to `target`. Only the old buckets from `first` up to before
-/// `last` may hold such entries.
-pub fn count_all<E: Keyed, H: BuildHasher>(
-    old: &Array<E>,
-    first: usize,
-    last: usize,
-    target: usize,
-    table: &Buckets<E, H>,
-    skipped: u32,
-    count: usize,
-) -> usize
-where
-    E::Key: Eq + Hash,
-    requires bits { skipped < 64 }
-    requires sources { IsWithinSources (λ e. key_hash H.BuildHasher H.Hasher.Hasher E.Key.hash_input table.now (E.key_of
-        e)) skipped count target first last old.now }
-    requires few { (j : ℕ) → length (shelf_of old.now j).overflow < 2 ^ 62 }
-    requires own { AreOwn (λ e. key_hash H.BuildHasher H.Hasher.Hasher E.Key.hash_input table.now (E.key_of e)) skipped
-        old.now }
-    requires most { length (flat_map shelf_entries old.now) < 2 ^ 64 }
-    ensures { result ≡ length (destined_for (λ e. key_hash H.BuildHasher H.Hasher.Hasher E.Key.hash_input table.now
-        (E.key_of e)) skipped count target (flat_map shelf_entries old.now)) }
-{
-    let mut found = 0;
-    for source in first..last {
-        found += count_in(old, source, target, table, skipped, count);
-    }
-    found
-}
-
 /// Returns how many entries the old buckets from `first` up to before `last` hold.
 fn len_between<E>(old: &Array<E>, first: usize, last: usize) -> usize
     requires order { first ≤ last }
@@ -385,41 +390,6 @@ fn len_between<E>(old: &Array<E>, first: usize, last: usize) -> usize
     entry_count
 }
 
-/// Returns at least the number of entries of all old buckets that belong to the target. A result greater than 32 is
-/// exact. Hashes no entry if these entries stand in one old bucket of at most 32 entries, or if `whole`.
-fn count_coming<E: Keyed, H: BuildHasher>(
-    old: &Array<E>,
-    task: Relocation,
-    table: &Buckets<E, H>,
-    count: usize,
-) -> usize
-where
-    E::Key: Eq + Hash,
-    requires drainable { IsDrainable (λ e. key_hash H.BuildHasher H.Hasher.Hasher E.Key.hash_input table.now (E.key_of
-        e)) task.skipped count task.target task.first task.last task.whole old.now }
-    requires most { length (flat_map shelf_entries old.now) < 2 ^ 64 }
-    ensures enough { length (destined_for (λ e. key_hash H.BuildHasher H.Hasher.Hasher E.Key.hash_input table.now (E.key_of
-        e)) task.skipped count task.target (flat_map shelf_entries old.now)) ≤ result }
-    ensures exact { 32 < result → result ≡ length (destined_for (λ e. key_hash H.BuildHasher H.Hasher.Hasher
-        E.Key.hash_input table.now (E.key_of e)) task.skipped count task.target (flat_map shelf_entries old.now)) }
-{
-    if task.last - task.first == 1 && old.bucket_len(task.first) <= 32 {
-        return 32;
-    }
-    if task.whole {
-        return len_between(old, task.first, task.last);
-    }
-    count_all(
-        old,
-        task.first,
-        task.last,
-        task.target,
-        table,
-        task.skipped,
-        count,
-    )
-}
-
 /// Moves the entries of all old buckets that belong to `target` into this bucket of `current`, in order, and returns
 /// their number. The bucket must be empty. `aside` entries, at least those in the overflow lists of `old`, count as if
 /// they stood in overflow lists of `current`. `waiting` must have a flag for each bucket of `current`, and `old` must
@@ -430,33 +400,29 @@ pub fn move_target<E: Keyed, H: BuildHasher>(
     old: &mut Array<E>,
     target: usize,
     aside: usize,
-    skipped: u32,
     waiting: &[bool],
 ) -> Result<usize, AllocError>
 where
     E::Key: Eq + Hash,
-    requires bits { skipped < 64 }
-    requires skips { skipped ≡ (settings_of current.old).skipped }
     requires target { target < bucket_count current.old }
     requires bare { list_of current.old target ≡ [] }
     requires sized { IsBucketCount (length old.old) }
     requires multiples { AreMultiples (length old.old) (bucket_count current.old) }
     requires own { AreOwn (λ e. key_hash H.BuildHasher H.Hasher.Hasher E.Key.hash_input current.old (E.key_of e))
-        skipped old.old }
+        (settings_of current.old).skipped old.old }
     requires spilled { overflow_in old.old ≤ aside }
     requires aside { overflow_of current.old + aside < 2 ^ 62 }
     requires flags { length waiting.now ≡ bucket_count current.old }
     requires not_waiting { (i : ℕ) → i < bucket_count current.old → slice_index_or waiting.now i false ≡ false →
-        destined_for
-        (λ e. key_hash H.BuildHasher H.Hasher.Hasher E.Key.hash_input current.old (E.key_of e)) skipped (bucket_count
-        current.old) i (flat_map shelf_entries old.old) ≡ [] }
+        destined_for (λ e. key_hash H.BuildHasher H.Hasher.Hasher E.Key.hash_input current.old (E.key_of e))
+        (settings_of current.old).skipped (bucket_count current.old) i (flat_map shelf_entries old.old) ≡ [] }
     requires unique { IsDistinct E.Key.eq (map E.key_of (flat_map (λ l. l) (slice_set (lists_of current.old) target
-        (destined_for (λ e. key_hash H.BuildHasher H.Hasher.Hasher E.Key.hash_input current.old (E.key_of e)) skipped
-        (bucket_count current.old) target (flat_map shelf_entries old.old))))) }
+        (destined_for (λ e. key_hash H.BuildHasher H.Hasher.Hasher E.Key.hash_input current.old (E.key_of e))
+        (settings_of current.old).skipped (bucket_count current.old) target (flat_map shelf_entries old.old))))) }
     ensures { MovesTarget (λ e. key_hash H.BuildHasher H.Hasher.Hasher E.Key.hash_input current.old (E.key_of e)) target
         (length (destined_for (λ e. key_hash H.BuildHasher H.Hasher.Hasher E.Key.hash_input current.old (E.key_of e))
-        skipped (bucket_count current.old) target (flat_map shelf_entries old.old))) aside current.old old.old result
-        current.new old.new }
+        (settings_of current.old).skipped (bucket_count current.old) target (flat_map shelf_entries old.old))) aside
+        current.old old.old result current.new old.new }
 {
     let before = old.len();
     let count = current.bucket_count();
@@ -464,11 +430,11 @@ where
     let whole = is_whole(before, count, target, waiting);
     let task = Relocation {
         target,
+        count,
         first,
         last,
         whole,
-        skipped,
     };
-    let coming = count_coming(old, task, current, count);
-    move_in(current, old, task, coming, aside)
+    let coming = task.count_coming(current.router(), old);
+    task.move_in(current, old, coming, aside)
 }

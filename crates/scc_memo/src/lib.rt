@@ -125,9 +125,7 @@ impl<P: Pure, H: BuildHasher> Memo<P, H> {
             self.new.cache.contents) self.new.cache }
         ensures values { HasValues (P.value self.new.function) self.new.cache.contents }
     {
-        let value = recall(&self.function, &mut self.cache, k);
-        let _ = self.cache.len();
-        value
+        recall(&self.function, &mut self.cache, k)
     }
 
     /// Returns the value of `k` if the cache has it, else `None`. Moves nothing, and doesn't call the function.
@@ -189,6 +187,8 @@ where
     ensures values { HasValues (P.value function.now) cache.new.contents }
     ensures step { Remembers (key_hash H.BuildHasher H.Hasher.Hasher P.Key.hash_input cache.old.contents) P.Key.eq
         cache.old k (P.value function.now k) cache.new }
+    ensures state { IsCacheState P.Key.eq (key_hash H.BuildHasher H.Hasher.Hasher P.Key.hash_input
+        cache.new.contents) cache.new }
 {
     match cache.entry_sync(k) {
         Entry::Occupied(entry) => *entry.get(),

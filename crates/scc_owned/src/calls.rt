@@ -7,6 +7,7 @@ ghost use Rattle.std.specs.Prelude.{◌≡◌, ◌↔◌, ◌⊎◌, None, IsTru
 
 use crate::Owned;
 use crate::stored::Stored;
+use scc_buckets::sizes::GREATEST_CAPACITY;
 use scc_common::{Hashes, MakeError};
 use std::hash::{BuildHasher, Hash};
 
@@ -60,7 +61,7 @@ where
         let hash = self.table.hash(k);
         match self.table.search(hash, k) {
             Some(_) => Ok(()),
-            None => match self.table.make_room(hash) {
+            None => match self.table.prepare(hash, GREATEST_CAPACITY) {
                 Ok(()) => Ok(()),
                 Err(_) => Err(MakeError),
             },

@@ -1,4 +1,5 @@
 pub mod Attempts
+pub mod Below
 pub mod Doubling
 pub mod Exchange
 pub mod FirstArray

@@ -1,31 +1,29 @@
 -- What a growth does to a table of two arrays, one word a call.
-use Rattle.std.specs.Prelude.{◌≡◌, ◌≢◌, ◌≤◌, ◌<◌, ◌+◌, ◌*◌, ◌^◌, ◌⊎◌, ℕ, [], Bool, false, true, length, replicate, slice_get, Result, IfOk, IsTrue}
+use Rattle.std.specs.Prelude.{◌≡◌, ◌≢◌, ◌≤◌, ◌<◌, ◌+◌, ◌*◌, ◌⊎◌, ℕ, [], Bool, false, true, length, replicate, slice_get, Result, IfOk}
 use Rattle.std.specs.List.{range_with_len}
-use Rattle.std.specs.List.Sorted.{IsPermutation}
 use Rattle.std.specs.Result.{OnOk, OnErr}
-use Rattle.scc_common.specs.Contents.{Contents, entries, bucket_count, list_of, lists_of, pending_of, notes_of, settings_of, waiting_of, HasRoomAt, IsUniqueBy, IsMarked, IsNoteDown, IsNoteUp, IsUnmarked, note_of}
+use Rattle.scc_common.specs.Contents.{Contents, entries, bucket_count, list_of, lists_of, pending_of, notes_of, settings_of, waiting_of, HasRoomAt, IsUniqueBy, IsMarked, IsNoteDown, IsNoteUp, IsUnmarked}
 use Rattle.scc_common.specs.Routing.{bucket_number}
 use Rattle.scc_common.specs.Steps.{FirstArrayWhenDue, Grows, IsUnchanged, Rests, IsGrowthDue}
-use Rattle.scc_buckets.specs.Bounded.{IsListed, HasListsOf}
 use Rattle.scc_buckets.specs.Pour.{IsRegrouped}
 use Rattle.scc_buckets.specs.declared.place.Place.{Place}
-use Rattle.scc_table.specs.Bounded.{DoublesBelow, GrowsBelow, IsDoublingDue, IsPreparedBelow}
 use Rattle.scc_table.specs.Places.{IsInsertedAt}
 use Rattle.scc_table.specs.Relocates.{left_after, AreMovedBeside, AreShortAmong, AreShortBut}
 use Rattle.scc_table.specs.TwoArrays.{pending_targets, waits_at}
 
 module _ {E K S : Type 0} (eq : K → K → Bool) (key : E → K) where
   module _ (hash_of : K → ℕ) where
-    -- the array doubles if the table has at least half as many entries as slots, unless memory is refused
-    pub record GrowsHalfFull (c d : Contents E S) : Type 0 where
+    -- the array doubles if the table has at least half as many entries as slots and fewer slots than `most`, unless
+    -- memory is refused
+    pub record GrowsHalfFull (most : ℕ) (c d : Contents E S) : Type 0 where
       -- nothing changes, or one resize is made
       pub rests : Rests c d
       -- the number of buckets changes only by a doubling
       pub growth : Grows c d
       -- if a doubling is due and the note is down afterwards, the array has doubled
-      pub due : 32 * bucket_count c ≤ 2 * length (entries c) → 32 * bucket_count c < 2 ^ 63 → IsNoteDown d → bucket_count d ≡ 2 * bucket_count c
+      pub due : 32 * bucket_count c ≤ 2 * length (entries c) → 32 * bucket_count c < most → IsNoteDown d → bucket_count d ≡ 2 * bucket_count c
       -- the note rises only if a doubling is due
-      pub raised : IsNoteDown c → IsNoteUp d → (32 * bucket_count c ≤ 2 * length (entries c)) × (32 * bucket_count c < 2 ^ 63)
+      pub raised : IsNoteDown c → IsNoteUp d → (32 * bucket_count c ≤ 2 * length (entries c)) × (32 * bucket_count c < most)
       -- the note falls only by a doubling
       pub lowered : IsNoteUp c → IsNoteDown d → bucket_count d ≢ bucket_count c
       -- after a doubling, the note is down
@@ -43,17 +41,17 @@ module _ {E K S : Type 0} (eq : K → K → Bool) (key : E → K) where
       -- a growth that is marked isn't tried
       pub once : IsMarked c → bucket_count d ≡ bucket_count c
       -- if a doubling is due, no growth is marked afterwards
-      pub unmarked : 32 * bucket_count c ≤ 2 * length (entries c) → 32 * bucket_count c < 2 ^ 63 → IsUnmarked d
+      pub unmarked : 32 * bucket_count c ≤ 2 * length (entries c) → 32 * bucket_count c < most → IsUnmarked d
       -- if no doubling is due, the note and the mark stay
-      pub noted : ((32 * bucket_count c ≤ 2 * length (entries c)) × (32 * bucket_count c < 2 ^ 63) → ⊥) → notes_of d ≡ notes_of c
+      pub noted : ((32 * bucket_count c ≤ 2 * length (entries c)) × (32 * bucket_count c < most) → ⊥) → notes_of d ≡ notes_of c
       -- a growth is marked only if it was, and the note stays then
       pub marked : IsMarked d → notes_of d ≡ notes_of c
       -- no two keys are equal
       pub unique : IsUniqueBy eq key d
 
-    -- the array is made or grows as an insertion of a new key with the hash `hash` needs, and the result is the bucket
-    -- of `hash`
-    pub record FindsBucketForNew {X : Type 0} (c : Contents E S) (hash : ℕ) (result : Result ℕ X) (d : Contents E S) : Type 0 where
+    -- the array is made or grows as an insertion of a new key with the hash `hash` needs, for arrays of fewer slots than
+    -- `most`, and the result is the bucket of `hash`
+    pub record FindsBucketForNew {X : Type 0} (most : ℕ) (c : Contents E S) (hash : ℕ) (result : Result ℕ X) (d : Contents E S) : Type 0 where
       -- nothing changes, or one resize is made
       pub rests : Rests c d
       -- the number of buckets changes only by the first array or a doubling
@@ -65,9 +63,9 @@ module _ {E K S : Type 0} (eq : K → K → Bool) (key : E → K) where
       -- if the bucket of `hash` has room, nothing changes
       pub still : HasRoomAt hash_of key c hash → d ≡ c
       -- if a doubling is due and the note is down afterwards, the array has doubled
-      pub due : IsGrowthDue hash_of key c hash → IsNoteDown d → bucket_count d ≡ 2 * bucket_count c
+      pub due : IsGrowthDue hash_of key c hash → 32 * bucket_count c < most → IsNoteDown d → bucket_count d ≡ 2 * bucket_count c
       -- the note rises only if a doubling is due
-      pub raised : IsNoteDown c → IsNoteUp d → IsGrowthDue hash_of key c hash
+      pub raised : IsNoteDown c → IsNoteUp d → IsGrowthDue hash_of key c hash × (32 * bucket_count c < most)
       -- the note falls only by a doubling
       pub lowered : IsNoteUp c → IsNoteDown d → (0 < bucket_count c) × (bucket_count d ≢ bucket_count c)
       -- after a doubling, the note is down
@@ -89,7 +87,7 @@ module _ {E K S : Type 0} (eq : K → K → Bool) (key : E → K) where
       -- if a bucket waits or a growth is marked, the array doesn't double
       pub once : 0 < bucket_count c → (0 < pending_of c) ⊎ IsMarked c → bucket_count d ≡ bucket_count c
       -- if a doubling is due, no growth is marked afterwards
-      pub unmarked : IsGrowthDue hash_of key c hash → IsUnmarked d
+      pub unmarked : IsGrowthDue hash_of key c hash → 32 * bucket_count c < most → IsUnmarked d
       -- the call fails only if there is no array
       pub none : OnErr result (bucket_count c ≡ 0)
       -- on failure, entries, buckets and settings stay
@@ -97,7 +95,7 @@ module _ {E K S : Type 0} (eq : K → K → Bool) (key : E → K) where
       -- on failure, all stays
       pub same : OnErr result (d ≡ c)
       -- if no growth is due, the note and the mark stay
-      pub noted : (IsGrowthDue hash_of key c hash → ⊥) → notes_of d ≡ notes_of c
+      pub noted : (IsGrowthDue hash_of key c hash → 32 * bucket_count c < most → ⊥) → notes_of d ≡ notes_of c
       -- a growth is marked only if it was, and the note stays then
       pub marked : IsMarked d → notes_of d ≡ notes_of c
       -- no two keys are equal
@@ -155,85 +153,5 @@ module _ {E K S : Type 0} (eq : K → K → Bool) (key : E → K) where
       pub drained : AreMovedBeside (bucket_number (settings_of c).skipped count hash) (range_with_len 0 count) d
       -- the bucket of the key doesn't wait
       pub not_waiting : waits_at (waiting_of d) (bucket_number (settings_of c).skipped count hash) ≡ false
-      -- no two keys are equal
-      pub unique : IsUniqueBy eq key d
-
-  module _ (hash_in : Contents E S → K → ℕ) where
-    -- the array doubles if a doubling is due, for arrays of fewer slots than `most`, unless memory is refused; the
-    -- result says whether a due doubling wasn't made
-    pub record DoublesWithin (most : ℕ) (c : Contents E S) (result : Bool) (d : Contents E S) : Type 0 where
-      -- the array doubles if a doubling is due and no growth is marked
-      pub doubles : DoublesBelow (λ e. hash_in c (key e)) most c d
-      -- the entries stay, in some order
-      pub same : IsPermutation (entries c) (entries d)
-      -- the settings stay
-      pub settings : settings_of d ≡ settings_of c
-      -- each entry stands in the bucket of its hash, and no list has more than 32
-      pub listed : IsListed (λ e. hash_in d (key e)) d
-      -- there is an array
-      pub array : 0 < bucket_count d
-      -- without a doubling, the waiting buckets stay
-      pub waiting : bucket_count d ≡ bucket_count c → waiting_of d ≡ waiting_of c
-      -- after a doubling, every bucket waits
-      pub all : bucket_count d ≢ bucket_count c → pending_of d ≡ bucket_count d
-      -- after a doubling, the flag of every bucket says that it waits
-      pub flags : bucket_count d ≢ bucket_count c → waiting_of d ≡ replicate (bucket_count d) true
-      -- if the result is true, a doubling was due, and each list stays
-      pub refused : IsTrue result → IsDoublingDue most c × HasListsOf c d
-      -- if the result is false, no doubling is due afterwards
-      pub made : (IsTrue result → ⊥) → IsDoublingDue most d → ⊥
-      -- a growth is marked only if nothing changed
-      pub marked : IsMarked d → d ≡ c
-      -- no two keys are equal
-      pub unique : IsUniqueBy eq key d
-
-    -- the array is made or grows as a put of a new key with the hash `hash` needs, for arrays of fewer slots than
-    -- `most`, and the result is the bucket of `hash`
-    pub record FindsBucketWithin {X : Type 0} (most : ℕ) (c : Contents E S) (hash : ℕ) (result : Result ℕ X) (d : Contents E S) : Type 0 where
-      -- on success, the first array is made, or the array doubles if a doubling is due
-      pub grows : IfOk result (λ _. GrowsBelow (λ e. hash_in c (key e)) most (bucket_number (settings_of c).skipped (bucket_count c) hash) c d)
-      -- the entries stay, in some order
-      pub same : IsPermutation (entries c) (entries d)
-      -- the settings stay
-      pub settings : settings_of d ≡ settings_of c
-      -- each entry stands in the bucket of its hash, and no list has more than 32
-      pub listed : IsListed (λ e. hash_in d (key e)) d
-      -- on success, the result is below the number of buckets
-      pub within : IfOk result (λ i. i < bucket_count d)
-      -- on success, the result is the bucket of `hash`
-      pub routed : IfOk result (λ i. i ≡ bucket_number (settings_of d).skipped (bucket_count d) hash)
-      -- the call fails only if there is no array; then nothing changes
-      pub none : OnErr result ((bucket_count c ≡ 0) × (d ≡ c))
-      -- if there was no array, no bucket waits
-      pub first : bucket_count c ≡ 0 → waiting_of d ≡ []
-      -- without a resize, the waiting buckets stay
-      pub waiting : 0 < bucket_count c → bucket_count d ≡ bucket_count c → waiting_of d ≡ waiting_of c
-      -- after a doubling, every bucket waits
-      pub all : 0 < bucket_count c → bucket_count d ≢ bucket_count c → pending_of d ≡ bucket_count d
-      -- after a doubling, the flag of every bucket says that it waits
-      pub flags : 0 < bucket_count c → bucket_count d ≢ bucket_count c → waiting_of d ≡ replicate (bucket_count d) true
-      -- no two keys are equal
-      pub unique : IsUniqueBy eq key d
-
-    -- a put of a new key with the hash `hash` is prepared, for arrays of fewer slots than `most`
-    pub record PreparesWithin {X : Type 0} (most : ℕ) (c : Contents E S) (hash : ℕ) (result : Result (Unit {0}) X) (d : Contents E S) : Type 0 where
-      -- on success, the first array is made, or the array doubles if a doubling is due
-      pub grows : OnOk result (GrowsBelow (λ e. hash_in c (key e)) most (bucket_number (settings_of c).skipped (bucket_count c) hash) c d)
-      -- on success, the put is prepared
-      pub ready : OnOk result (IsPreparedBelow most (bucket_number (settings_of d).skipped (bucket_count d) hash) d)
-      -- a growth is marked only if it was, or if refused memory is noted
-      pub marked : IsMarked d → IsMarked c ⊎ IsNoteUp d
-      -- the settings stay
-      pub settings : settings_of d ≡ settings_of c
-      -- each entry stands in the bucket of its hash, and no list has more than 32
-      pub listed : IsListed (λ e. hash_in d (key e)) d
-      -- the call fails only if there is no array; then nothing changes
-      pub none : OnErr result ((bucket_count c ≡ 0) × (d ≡ c))
-      -- if there was no array, no bucket waits
-      pub first : bucket_count c ≡ 0 → waiting_of d ≡ []
-      -- without a resize, the waiting buckets stay
-      pub waiting : 0 < bucket_count c → bucket_count d ≡ bucket_count c → waiting_of d ≡ waiting_of c
-      -- after a doubling, every bucket waits
-      pub all : 0 < bucket_count c → bucket_count d ≢ bucket_count c → pending_of d ≡ bucket_count d
       -- no two keys are equal
       pub unique : IsUniqueBy eq key d

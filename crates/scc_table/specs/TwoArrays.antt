@@ -116,10 +116,8 @@ abbrev pub draining_of : {E : Type 0} → code.Draining E → Draining E
 draining_of o = record { array = o.array; waiting = o.waiting.items; pending = o.pending; next = o.next; left = o.left; left_overflow = o.left_overflow }
 
 -- what holds of all fields of a table of two arrays; if no bucket waits, there is no old array
-pub record IsTable {E K S : Type 0} (eq : K → K → Bool) (key : E → K) (hash : K → ℕ) (c : Contents E S) (drain : Draining E) (skipped : ℕ) : Type 0 where
+pub record IsTable {E K S : Type 0} (eq : K → K → Bool) (key : E → K) (hash : K → ℕ) (c : Contents E S) (drain : Draining E) : Type 0 where
   pub arrays : TwoArrays (λ e. hash (key e)) c drain.waiting drain.array
-  pub skips : skipped ≡ (settings_of c).skipped
-  pub few_bits : skipped ≤ 4
   pub counted : drain.pending ≡ count_by (λ w. w) drain.waiting
   pub none : drain.pending ≡ 0 → drain.waiting ≡ []
   pub given_back : drain.pending ≡ 0 → drain.array ≡ []

@@ -1,6 +1,5 @@
 //! The calls of a cache: lists of at most 32 entries, in order.
 
-mod prepare;
 mod put;
 mod resize;
 mod search;

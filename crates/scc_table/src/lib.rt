@@ -30,7 +30,6 @@ pub struct Table<E: Keyed, H: BuildHasher>
 where
     E::Key: Eq + Hash,
 {
-    skipped: u32,
     draining: Draining<E>,
     current: Buckets<E, H>,
 }
@@ -62,7 +61,7 @@ where
         t.current t.draining.waiting.items t.draining.array };
 
     ghost invariant = { λ t. IsTable E.Key.eq E.key_of (key_hash H.BuildHasher H.Hasher.Hasher E.Key.hash_input
-        t.current) t.current (draining_of t.draining) t.skipped };
+        t.current) t.current (draining_of t.draining) };
 }
 
 impl<E: Keyed, H: BuildHasher> Table<E, H>

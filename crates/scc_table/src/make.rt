@@ -25,7 +25,7 @@ where
         ensures { AreNewBuckets E.key_of (key_hash H.BuildHasher H.Hasher.Hasher E.Key.hash_input) hasher skipped
             result }
     {
-        Table::over(skipped, Buckets::new(alloc, skipped, hasher))
+        Table::over(Buckets::new(alloc, skipped, hasher))
     }
 
     /// Makes an empty table with an array of the size for `slots`, whose slots are the slots asked for. If `slots` is
@@ -43,15 +43,13 @@ where
             result }
     {
         match Buckets::with_capacity(alloc, skipped, slots, hasher) {
-            Ok(current) => Ok(Table::over(skipped, current)),
+            Ok(current) => Ok(Table::over(current)),
             Err(e) => Err(e),
         }
     }
 
     /// Makes a table of `current`, without an old array.
-    pub(crate) fn over(skipped: u32, current: Buckets<E, H>) -> Table<E, H>
-        requires skips { skipped ≡ (settings_of current).skipped }
-        requires few_bits { skipped ≤ 4 }
+    pub(crate) fn over(current: Buckets<E, H>) -> Table<E, H>
         ensures lists { lists_of result ≡ lists_of current }
         ensures settings { settings_of result ≡ settings_of current }
         ensures noted { notes_of result ≡ notes_of current }
@@ -70,7 +68,6 @@ where
                 left: 0,
                 left_overflow: 0,
             },
-            skipped,
         }
     }
 
@@ -93,7 +90,7 @@ where
     {
         let mut copy = self.current.try_clone()?;
         insert_clones_of(&mut copy, &self.draining.array)?;
-        Ok(Table::over(self.skipped, copy))
+        Ok(Table::over(copy))
     }
 }
 

@@ -24,6 +24,8 @@ impl<K: Eq + Hash, V, H: BuildHasher> Owned<K, V, H> {
         K: Drop,
         ensures same_cache { (entry_guard result).ghost_name ≡ self.entry.ghost_name }
         ensures entry { IsEntryOf K.eq self.old k result }
+        ensures state { IsCacheState K.eq (hash_in ⟦<H as Hashes<K>>⟧.hash_of (entry_guard result).now.contents)
+            (entry_guard result).now }
     {
         let hash = self.table.hash(&k);
         match self.refresh(hash, &k) {

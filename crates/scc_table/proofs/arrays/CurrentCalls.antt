@@ -18,9 +18,9 @@ use Rattle.scc_table.proofs.insertions.Places.{index-same}
 use Rattle.scc_table.proofs.arrays.SameParts.{count-same, entries-same, list-same}
 
 -- the invariant `IsTable` holds after the contents of the current array change from c to d
-pub fields-lone : {E K S : Type 0} (eq : K → K → Bool) (key : E → K) (hash : K → ℕ) (c d : Contents E S) (drain : Draining E) (skipped : ℕ) → IsTable eq key hash c drain skipped → drain.waiting ≡ [] → settings_of d ≡ settings_of c → overflow_of d < 2 ^ 62
-    → IsDistinct eq (map key (entries d)) → IsTable eq key hash d (record drain { left_overflow = 0 }) skipped
-fields-lone {E} eq key hash c d drain skipped inv none settings few unique =
+pub fields-lone : {E K S : Type 0} (eq : K → K → Bool) (key : E → K) (hash : K → ℕ) (c d : Contents E S) (drain : Draining E) → IsTable eq key hash c drain → drain.waiting ≡ [] → settings_of d ≡ settings_of c → overflow_of d < 2 ^ 62
+    → IsDistinct eq (map key (entries d)) → IsTable eq key hash d (record drain { left_overflow = 0 })
+fields-lone {E} eq key hash c d drain inv none settings few unique =
     let h : E → ℕ = λ e. hash (key e) in
     let nothing : flat_map shelf_entries drain.array ≡ [] = nothing-owed h c drain.waiting drain.array none inv.arrays in
     record {
@@ -32,8 +32,6 @@ fields-lone {E} eq key hash c d drain skipped inv none settings few unique =
         not_waiting = λ i down. ap (filter (λ e. bucket_number (settings_of d).skipped (bucket_count d) (h e) == i)) nothing;
         bare = λ i up. absurd (let z : false ≡ true = ap (λ w. waits_at w i) (sym none) ∙ up in cc);
       };
-      skips = inv.skips ∙ ap (λ s. s.skipped) (sym settings);
-      few_bits = inv.few_bits;
       counted = inv.counted;
       none = inv.none;
       given_back = inv.given_back;

@@ -74,12 +74,10 @@ module _ {E S : Type 0} (c d : Contents E S) (i : ℕ) (x : List E) (lists : lis
 
 -- the invariant `IsTable` holds after the list of bucket i becomes x
 pub own-fields : {E K S : Type 0} (eq : K → K → Bool) (key : E → K) (hash : K → ℕ) (c d : Contents E S) (i : ℕ) (x : List E) → lists_of d ≡ set (lists_of c) i x → settings_of d ≡ settings_of c → (drain : Draining E) → waits_at drain.waiting i ≡ false
-    → (skipped : ℕ) → IsTable eq key hash c drain skipped → overflow_of d + drain.left_overflow < 2 ^ 62 → IsDistinct eq (map key (entries (together (λ e. hash (key e)) d drain.waiting drain.array)))
-    → IsTable eq key hash d drain skipped
-own-fields eq key hash c d i x lists settings drain down skipped inv few unique = record {
+    → IsTable eq key hash c drain → overflow_of d + drain.left_overflow < 2 ^ 62 → IsDistinct eq (map key (entries (together (λ e. hash (key e)) d drain.waiting drain.array)))
+    → IsTable eq key hash d drain
+own-fields eq key hash c d i x lists settings drain down inv few unique = record {
   arrays = own-arrays c d i x lists settings (λ e. hash (key e)) drain.waiting drain.array down inv.arrays;
-  skips = inv.skips ∙ ap (λ s. s.skipped) (sym settings);
-  few_bits = inv.few_bits;
   counted = inv.counted;
   none = inv.none;
   given_back = inv.given_back;

@@ -41,14 +41,12 @@ module _ {E S : Type 0} (hash : E → ℕ) (c d : Contents E S) (ws : List Bool)
     bare = λ i up. list-same c d lists i ∙ a.bare i up;
   }
 
-pub fields-less : {E K S : Type 0} (eq : K → K → Bool) (key : E → K) (hash : K → ℕ) (c d : Contents E S) (drain : Draining E) (skipped : ℕ) → lists_of d ≡ lists_of c → (settings_of d).skipped ≡ (settings_of c).skipped → overflow_of d ≤ overflow_of c
-    → IsTable eq key hash c drain skipped → IsTable eq key hash d drain skipped
-fields-less {E} eq key hash c d drain skipped lists skips spilled inv =
+pub fields-less : {E K S : Type 0} (eq : K → K → Bool) (key : E → K) (hash : K → ℕ) (c d : Contents E S) (drain : Draining E) → lists_of d ≡ lists_of c → (settings_of d).skipped ≡ (settings_of c).skipped → overflow_of d ≤ overflow_of c
+    → IsTable eq key hash c drain → IsTable eq key hash d drain
+fields-less {E} eq key hash c d drain lists skips spilled inv =
     let h : E → ℕ = λ e. hash (key e) in
     record {
       arrays = arrays-kept h c d drain.waiting drain.array lists skips inv.arrays;
-      skips = inv.skips ∙ sym skips;
-      few_bits = inv.few_bits;
       counted = inv.counted;
       none = inv.none;
       given_back = inv.given_back;
@@ -59,6 +57,6 @@ fields-less {E} eq key hash c d drain skipped lists skips spilled inv =
       unique = subst (λ es. IsDistinct eq (map key es)) (sym (entries-same (together h c drain.waiting drain.array) (together h d drain.waiting drain.array) (lists-kept h c d drain.waiting drain.array lists skips))) inv.unique;
     }
 
-pub fields-kept : {E K S : Type 0} (eq : K → K → Bool) (key : E → K) (hash : K → ℕ) (c d : Contents E S) (drain : Draining E) (skipped : ℕ) → lists_of d ≡ lists_of c → (settings_of d).skipped ≡ (settings_of c).skipped → overflow_of d ≡ overflow_of c
-    → IsTable eq key hash c drain skipped → IsTable eq key hash d drain skipped
-fields-kept eq key hash c d drain skipped lists skips spilled inv = fields-less eq key hash c d drain skipped lists skips (omega arith) inv
+pub fields-kept : {E K S : Type 0} (eq : K → K → Bool) (key : E → K) (hash : K → ℕ) (c d : Contents E S) (drain : Draining E) → lists_of d ≡ lists_of c → (settings_of d).skipped ≡ (settings_of c).skipped → overflow_of d ≡ overflow_of c
+    → IsTable eq key hash c drain → IsTable eq key hash d drain
+fields-kept eq key hash c d drain lists skips spilled inv = fields-less eq key hash c d drain lists skips (omega arith) inv

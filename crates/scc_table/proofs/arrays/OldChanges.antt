@@ -155,13 +155,11 @@ module _ {E S : Type 0} (hash : E → ℕ) (c : Contents E S) (ws : List Bool) (
     old-arrays ours = arrays-over hash c ws olds arrays j lj b ours (λ k down. destined-other k (λ z. let q : false ≡ true = sym down ∙ ap (waits_at ws) z ∙ old-waits hash c ws olds arrays j s e lj got in absurd (let q2 = q in cc)))
 
 -- the invariant `IsTable` holds after the old array becomes news
-pub old-fields : {E K S : Type 0} (eq : K → K → Bool) (key : E → K) (hash : K → ℕ) (c : Contents E S) (drain : Draining E) (news : List (Shelf E)) (skipped kept under : ℕ) → IsTable eq key hash c drain skipped
+pub old-fields : {E K S : Type 0} (eq : K → K → Bool) (key : E → K) (hash : K → ℕ) (c : Contents E S) (drain : Draining E) (news : List (Shelf E)) (kept under : ℕ) → IsTable eq key hash c drain
     → TwoArrays (λ e. hash (key e)) c drain.waiting news → length news ≡ length drain.array → kept ≡ sum_by (λ b. length (shelf_entries b)) news → overflow_in news ≤ under → overflow_of c + under < 2 ^ 62 → IsDistinct eq (map key (entries (together (λ e. hash (key e)) c drain.waiting news)))
-    → IsTable eq key hash c (record drain { array = news; left = kept; left_overflow = under }) skipped
-old-fields eq key hash c drain news skipped kept under inv arrays long count over few unique = record {
+    → IsTable eq key hash c (record drain { array = news; left = kept; left_overflow = under })
+old-fields eq key hash c drain news kept under inv arrays long count over few unique = record {
   arrays = arrays;
-  skips = inv.skips;
-  few_bits = inv.few_bits;
   counted = inv.counted;
   none = inv.none;
   given_back = λ z. nil_from_length news (long ∙ ap length (inv.given_back z));

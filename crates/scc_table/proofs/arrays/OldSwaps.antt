@@ -223,7 +223,7 @@ module _ {E S : Type 0} (hash : E → ℕ) (c : Contents E S) (ws : List Bool) (
       owed-same f ws (set olds j moved_up) (set olds j swapped) rows ∙ owed-removed f ws olds j s lj inside
 
 -- a table of two arrays after the entry e, at the place p of the old array, is taken out
-module _ {E K S : Type 0} {eq : K → K → Bool} (laws : IsEquivalence eq) {key : E → K} {hash : K → ℕ} {c : Contents E S} {drain : Draining E} {skipped : ℕ} (inv : IsTable eq key hash c drain skipped) (p : Place)
+module _ {E K S : Type 0} {eq : K → K → Bool} (laws : IsEquivalence eq) {key : E → K} {hash : K → ℕ} {c : Contents E S} {drain : Draining E} (inv : IsTable eq key hash c drain) (p : Place)
     (within : IsPlace (together (λ e. hash (key e)) c drain.waiting drain.array) p) (j : ℕ) (at : p.bucket ≡ bucket_count c + j) (lj : j < length drain.array) (e : E) (got : slice_get (shelf_entries (shelf_of drain.array j)) p.slot ≡ Some e) (fewer : bucket_count c < length drain.array) where
   abbrev news : List (Shelf E)
   news = set drain.array j (swapped_out (shelf_of drain.array j) p.slot e)
@@ -278,12 +278,12 @@ module _ {E K S : Type 0} {eq : K → K → Bool} (laws : IsEquivalence eq) {key
   swap-some = let n = owed-swapped (λ x. hash (key x)) c drain.waiting drain.array inv.arrays j p.slot e lj got fewer in let m = inv.left_is in omega arith
 
   -- the invariant `IsTable` holds afterwards
-  pub swap-table : IsTable eq key hash c (record drain { array = news; left = drain.left - 1 }) skipped
+  pub swap-table : IsTable eq key hash c (record drain { array = news; left = drain.left - 1 })
   swap-table =
       let h : E → ℕ = λ x. hash (key x) in
       let less = owed-swapped h c drain.waiting drain.array inv.arrays j p.slot e lj got fewer in
       let over = spilled-swapped h c drain.waiting drain.array inv.arrays j p.slot e lj got fewer in
       let m = inv.left_is in
       let o = inv.overflow_is in
-      old-fields eq key hash c drain news skipped (drain.left - 1) drain.left_overflow inv (arrays-swapped h c drain.waiting drain.array inv.arrays j p.slot e lj got fewer)
+      old-fields eq key hash c drain news (drain.left - 1) drain.left_overflow inv (arrays-swapped h c drain.waiting drain.array inv.arrays j p.slot e lj got fewer)
       (length-set drain.array j (swapped_out (shelf_of drain.array j) p.slot e)) (omega arith) (omega arith) inv.few unique

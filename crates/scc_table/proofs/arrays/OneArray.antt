@@ -67,9 +67,9 @@ bare-together {E} {S} hash c olds bare =
     ap (λ n. let d : Contents E S = record { lists = lists_of c; settings = settings_of c; refused = notes_of c; spilled = overflow_of c + n; waiting = []; owed = [] } in d) (spilled-bare olds bare)
 
 -- the invariant `IsTable` holds of contents c without an old array
-pub fields-alone : {E K S : Type 0} (eq : K → K → Bool) (key : E → K) (hash : K → ℕ) (c : Contents E S) (skipped next : ℕ) → skipped ≡ (settings_of c).skipped → skipped ≤ 4 → overflow_of c < 2 ^ 62 → IsDistinct eq (map key (entries c))
-    → IsTable eq key hash c (record { array = []; waiting = []; pending = 0; next = next; left = 0; left_overflow = 0 }) skipped
-fields-alone eq key hash c skipped next skips few_bits few unique = record {
+pub fields-alone : {E K S : Type 0} (eq : K → K → Bool) (key : E → K) (hash : K → ℕ) (c : Contents E S) (next : ℕ) → overflow_of c < 2 ^ 62 → IsDistinct eq (map key (entries c))
+    → IsTable eq key hash c (record { array = []; waiting = []; pending = 0; next = next; left = 0; left_overflow = 0 })
+fields-alone eq key hash c next few unique = record {
   arrays = record {
     flags = inl refl;
     multiples = inl refl;
@@ -78,8 +78,6 @@ fields-alone eq key hash c skipped next skips few_bits few unique = record {
     not_waiting = λ i down. refl;
     bare = λ i up. absurd (let q : false ≡ true = up in cc);
   };
-  skips = skips;
-  few_bits = few_bits;
   counted = refl;
   none = λ z. refl;
   given_back = λ z. refl;

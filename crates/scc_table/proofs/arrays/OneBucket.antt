@@ -29,14 +29,14 @@ use Rattle.scc_table.proofs.places.Searches.{not_true, routed-together}
 use Rattle.scc_table.proofs.arrays.Views.{count-seen, pending-seen, settings-seen, waiting-seen}
 
 -- if each entry of the current array stands in the list of the bucket of its hash, so does each entry of both arrays
-pub routed-seen : {E K S T : Type 0} (build : builder.Ghosts S T) (feed : hasher.Ghosts T) (input : K → HashWrites) {eq : K → K → Bool} (key : E → K) {c a : Contents E S} {drain : Draining E} {skipped : ℕ} → IsTable eq key (key_hash build feed input c) c drain skipped
+pub routed-seen : {E K S T : Type 0} (build : builder.Ghosts S T) (feed : hasher.Ghosts T) (input : K → HashWrites) {eq : K → K → Bool} (key : E → K) {c a : Contents E S} {drain : Draining E} → IsTable eq key (key_hash build feed input c) c drain
     → together (λ e. key_hash build feed input c (key e)) c drain.waiting drain.array ≡ a → IsRouted (λ e. key_hash build feed input c (key e)) c → IsRouted (λ e. key_hash build feed input a (key e)) a
 routed-seen {E} build feed input key {c} {a} {drain} inv view routed =
     let hash = λ (e : E). key_hash build feed input c (key e) in
     let all = subst (λ d. IsRouted hash d) view (routed-together hash c drain.waiting drain.array inv.arrays routed) in
     subst (λ s. IsRouted (λ (e : E). hash_of build feed s.hasher (input (key e))) a) (sym (settings-seen hash c drain.waiting drain.array a view)) all
 
-module _ {E K S : Type 0} {eq : K → K → Bool} {key : E → K} {hash : K → ℕ} {c : Contents E S} {drain : Draining E} {skipped : ℕ} (inv : IsTable eq key hash c drain skipped) where
+module _ {E K S : Type 0} {eq : K → K → Bool} {key : E → K} {hash : K → ℕ} {c : Contents E S} {drain : Draining E} (inv : IsTable eq key hash c drain) where
   -- if bucket i of the contents a waits, its flag is up
   pub flag-up : {a : Contents E S} (i : ℕ) → together (λ e. hash (key e)) c drain.waiting drain.array ≡ a → IsWaiting a i → waits_at drain.waiting i ≡ true
   flag-up {a} i view waits = ap (λ w. waits_at w i) (sym (waiting-seen (λ e. hash (key e)) c drain.waiting drain.array a view)) ∙ waits
@@ -82,8 +82,8 @@ module _ {E K S : Type 0} {eq : K → K → Bool} {key : E → K} {hash : K → 
     pub old-sized : IsBucketCount (length drain.array)
     old-sized = sized-flags c drain.waiting drain.array i inv.arrays.sized up
 
-    pub unique-coming : IsDistinct eq (map key (flat_map (λ l. l) (set (lists_of c) i (destined_for (λ e. hash (key e)) skipped (bucket_count c) i (flat_map shelf_entries drain.array)))))
-    unique-coming = rw inv.skips (unique-before (λ e. hash (key e)) c drain.waiting drain.array inv.arrays i up flags-whole eq key inv.unique)
+    pub unique-coming : IsDistinct eq (map key (flat_map (λ l. l) (set (lists_of c) i (destined_for (λ e. hash (key e)) (settings_of c).skipped (bucket_count c) i (flat_map shelf_entries drain.array)))))
+    unique-coming = unique-before (λ e. hash (key e)) c drain.waiting drain.array inv.arrays i up flags-whole eq key inv.unique
 
     -- the list of the waiting bucket i has the entries of the old array that belong to bucket i
     pub list-coming : {a : Contents E S} → together (λ e. hash (key e)) c drain.waiting drain.array ≡ a → list_of a i ≡ destined_for (λ e. hash (key e)) (settings_of c).skipped (bucket_count c) i (flat_map shelf_entries drain.array)
@@ -129,5 +129,5 @@ module _ {E K S : Type 0} {eq : K → K → Bool} {key : E → K} {hash : K → 
       let l = within (omega (arith, len, least)) in
       omega (arith, l, len)
 
-  pub source-number : {j n : ℕ} (h : ℕ) → n ≡ length drain.array → j ≡ bucket_number skipped n h → j ≡ bucket_number (settings_of c).skipped (length drain.array) h
-  source-number {n = n} h len value = value ∙ ap (λ t. bucket_number t n h) inv.skips ∙ ap (λ m. bucket_number (settings_of c).skipped m h) len
+  pub source-number : {j n : ℕ} (h : ℕ) → n ≡ length drain.array → j ≡ bucket_number (settings_of c).skipped n h → j ≡ bucket_number (settings_of c).skipped (length drain.array) h
+  source-number {n = n} h len value = value ∙ ap (λ m. bucket_number (settings_of c).skipped m h) len

@@ -15,7 +15,7 @@ use Rattle.scc_table.proofs.places.Searches.{entries-not_waiting, found-not_wait
 use Rattle.scc_table.proofs.arrays.Writes.{own-got, own-kept, own-written}
 
 module _ {F E K V R S : Type 0} (g : Once F (Bor K × (MutBor V × Unit {0})) (R × (MutBor V × Unit {0}))) (f : F) (key : E → K) (value_of : E → V) (put : E → V → E) (p : E → Bool) {eq : K → K → Bool} (laws : IsEquivalence eq) (hash_for : Settings S → K → ℕ) (c d : Contents E S)
-    (drain : Draining E) (skipped : ℕ) (inv : IsTable eq key (hash_for (settings_of c)) c drain skipped) (none : drain.waiting ≡ []) where
+    (drain : Draining E) (inv : IsTable eq key (hash_for (settings_of c)) c drain) (none : drain.waiting ≡ []) where
   abbrev hk : K → ℕ
   hk = hash_for (settings_of c)
 
@@ -38,10 +38,10 @@ module _ {F E K V R S : Type 0} (g : Once F (Bor K × (MutBor V × Unit {0})) (R
       )
 
   -- the invariant `IsTable` holds after the update, if a written value keeps the key
-  pub not_waiting-kept : ((e : E) (w : V) → eq (key (put e w)) (key e) ≡ true) → (r : Option R) → one.UpdatesFirstSpot g f key value_of put p c d r → IsTable eq key (hash_for (settings_of d)) d drain skipped
-  not_waiting-kept keeps None (missed, stays) = subst (λ (z : Contents E S). IsTable eq key (hash_for (settings_of z)) z drain skipped) (sym stays) inv
+  pub not_waiting-kept : ((e : E) (w : V) → eq (key (put e w)) (key e) ≡ true) → (r : Option R) → one.UpdatesFirstSpot g f key value_of put p c d r → IsTable eq key (hash_for (settings_of d)) d drain
+  not_waiting-kept keeps None (missed, stays) = subst (λ (z : Contents E S). IsTable eq key (hash_for (settings_of z)) z drain) (sym stays) inv
   not_waiting-kept keeps (Some r) (q, e, w, found, got, called, written) =
       let at = found-not_waiting (λ x. hk (key x)) c drain.array drain.waiting none p q found in
-      subst (λ (z : Contents E S). IsTable eq key (hash_for (settings_of z)) z drain skipped) (sym written)
-      (subst (λ (s : Settings S). IsTable eq key (hash_for s) (writes.with_write_at_spot put c q w) drain skipped) (sym (settings-write put c q w))
+      subst (λ (z : Contents E S). IsTable eq key (hash_for (settings_of z)) z drain) (sym written)
+      (subst (λ (s : Settings S). IsTable eq key (hash_for s) (writes.with_write_at_spot put c q w) drain) (sym (settings-write put c q w))
       (own-kept laws inv q at.within found.within.bucket put w e got (keeps e w)))

@@ -35,5 +35,5 @@ module _ {E S : Type 0} (hash : E → ℕ) (c : Contents E S) (ws : List Bool) (
   owed-seen none = ap owed_of (sym view) ∙ owed-alone hash c ws olds none
 
 -- if the number of waiting buckets is 0, there are no flags
-pub not_waiting-flags : {E K S : Type 0} {eq : K → K → Bool} {key : E → K} {hash : K → ℕ} {c : Contents E S} {drain : Draining E} {skipped : ℕ} (d : Contents E S) → IsTable eq key hash c drain skipped → together (λ e. hash (key e)) c drain.waiting drain.array ≡ d → pending_of d ≡ 0 → drain.waiting ≡ []
+pub not_waiting-flags : {E K S : Type 0} {eq : K → K → Bool} {key : E → K} {hash : K → ℕ} {c : Contents E S} {drain : Draining E} (d : Contents E S) → IsTable eq key hash c drain → together (λ e. hash (key e)) c drain.waiting drain.array ≡ d → pending_of d ≡ 0 → drain.waiting ≡ []
 not_waiting-flags {key = key} {hash = hash} {c = c} {drain = drain} d inv view none = inv.none (inv.counted ∙ sym (pending-seen (λ e. hash (key e)) c drain.waiting drain.array d view) ∙ none)

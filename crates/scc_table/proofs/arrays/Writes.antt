@@ -101,12 +101,12 @@ module _ {E S X : Type 0} (put : E → X → E) (hash : E → ℕ) (c : Contents
       (owed-together hash c ws news ∙ owed-same f ws olds news rows ∙ sym (owed-together hash c ws olds) ∙ sym (owed-write put u p w))
 
 -- a place of the contents a is a place of both arrays
-pub place-seen : {E K S : Type 0} {eq : K → K → Bool} {key : E → K} {hash : K → ℕ} {c : Contents E S} {drain : Draining E} {skipped : ℕ} (inv : IsTable eq key hash c drain skipped) {a : Contents E S} (p : Place) → together (λ e. hash (key e)) c drain.waiting drain.array ≡ a → IsPlace a p
+pub place-seen : {E K S : Type 0} {eq : K → K → Bool} {key : E → K} {hash : K → ℕ} {c : Contents E S} {drain : Draining E} (inv : IsTable eq key hash c drain) {a : Contents E S} (p : Place) → together (λ e. hash (key e)) c drain.waiting drain.array ≡ a → IsPlace a p
     → IsPlace (together (λ e. hash (key e)) c drain.waiting drain.array) p
 place-seen inv p view place = subst (λ z. IsPlace z p) (sym view) place
 
 -- the invariant `IsTable` holds after a write to the entry at p
-module _ {E K S : Type 0} {eq : K → K → Bool} (laws : IsEquivalence eq) {key : E → K} {hash : K → ℕ} {c : Contents E S} {drain : Draining E} {skipped : ℕ} (inv : IsTable eq key hash c drain skipped) (p : Place)
+module _ {E K S : Type 0} {eq : K → K → Bool} (laws : IsEquivalence eq) {key : E → K} {hash : K → ℕ} {c : Contents E S} {drain : Draining E} (inv : IsTable eq key hash c drain) (p : Place)
     (within : IsPlace (together (λ e. hash (key e)) c drain.waiting drain.array) p) where
   module _ (l : p.bucket < bucket_count c) where
     -- if p is below the number of buckets, it is a place of the current array, in a bucket that doesn't wait
@@ -130,7 +130,7 @@ module _ {E K S : Type 0} {eq : K → K → Bool} (laws : IsEquivalence eq) {key
           let h : E → ℕ = λ x. hash (key x) in
           own-write put c p w h drain.waiting drain.array own-is.1 ∙ ap (λ q. writes.with_write_at_spot put (together h c drain.waiting drain.array) q w) (sym (own-spot h c drain.waiting drain.array inv.arrays p l own-is.1))
 
-      pub own-kept : (e : E) → slice_get (entries c) (spots.index_of_spot c p) ≡ Some e → eq (key (put e w)) (key e) ≡ true → IsTable eq key hash (writes.with_write_at_spot put c p w) drain skipped
+      pub own-kept : (e : E) → slice_get (entries c) (spots.index_of_spot c p) ≡ Some e → eq (key (put e w)) (key e) ≡ true → IsTable eq key hash (writes.with_write_at_spot put c p w) drain
       own-kept e got equal =
           let h : E → ℕ = λ x. hash (key x) in
           let d = writes.with_write_at_spot put c p w in
@@ -140,7 +140,7 @@ module _ {E K S : Type 0} {eq : K → K → Bool} (laws : IsEquivalence eq) {key
           let inside : spots.IsSpot u q = within in
           let all : entries (together h d drain.waiting drain.array) ≡ write_at put (entries u) (spots.index_of_spot u q) w = ap entries own-written
           ∙ entries-write put u q inside (at (list_of u q.bucket) q.slot inside.slot) (at-get (list_of u q.bucket) q.slot inside.slot) w in
-          own-fields eq key hash c d p.bucket (write_at put (list_of c p.bucket) p.slot w) (lists-write put c p w) (settings-write put c p w) drain own-is.1 skipped inv
+          own-fields eq key hash c d p.bucket (write_at put (list_of c p.bucket) p.slot w) (lists-write put c p w) (settings-write put c p w) drain own-is.1 inv
           (let n = spilled-write put c p w in let f = inv.few in omega arith)
           (subst (λ z. IsDistinct eq (map key z)) (sym all) (distinct-write laws key put (entries u) (spots.index_of_spot u q) e w there equal inv.unique))
 
@@ -170,7 +170,7 @@ module _ {E K S : Type 0} {eq : K → K → Bool} (laws : IsEquivalence eq) {key
             ∙ ap (λ q. writes.with_write_at_spot put (together h c drain.waiting drain.array) q w) (sym (old-spot h c drain.waiting drain.array inv.arrays (p.bucket - bucket_count c) p.slot e old-is.0 got p back-is refl))
 
         pub old-kept : eq (key (put e w)) (key e) ≡ true
-            → IsTable eq key hash c (record drain { array = set drain.array (p.bucket - bucket_count c) (shelf_write_at put (shelf_of drain.array (p.bucket - bucket_count c)) p.slot w) }) skipped
+            → IsTable eq key hash c (record drain { array = set drain.array (p.bucket - bucket_count c) (shelf_write_at put (shelf_of drain.array (p.bucket - bucket_count c)) p.slot w) })
         old-kept same =
             let h : E → ℕ = λ x. hash (key x) in
             let j = p.bucket - bucket_count c in
@@ -181,6 +181,6 @@ module _ {E K S : Type 0} {eq : K → K → Bool} (laws : IsEquivalence eq) {key
             let table = table-after put h c drain.waiting drain.array inv.arrays few-owed j p.slot e old-is.0 got w equal in
             let all : entries (together h c drain.waiting news) ≡ write_at put (entries u) (spots.index_of_spot u q) w = ap entries old-written
             ∙ entries-write put u q inside (at (list_of u q.bucket) q.slot inside.slot) (at-get (list_of u q.bucket) q.slot inside.slot) w in
-            old-fields eq key hash c drain news skipped drain.left drain.left_overflow inv (arrays-after put h c drain.waiting drain.array inv.arrays few-owed j p.slot e old-is.0 got w equal) (length-set drain.array j (shelf_write_at put (shelf_of drain.array j) p.slot w))
+            old-fields eq key hash c drain news drain.left drain.left_overflow inv (arrays-after put h c drain.waiting drain.array inv.arrays few-owed j p.slot e old-is.0 got w equal) (length-set drain.array j (shelf_write_at put (shelf_of drain.array j) p.slot w))
             (inv.left_is ∙ table.counted) (let n = table.spilled in let o = inv.overflow_is in omega arith) inv.few
             (subst (λ z. IsDistinct eq (map key z)) (sym all) (distinct-write laws key put (entries u) (spots.index_of_spot u q) e w old-got same inv.unique))

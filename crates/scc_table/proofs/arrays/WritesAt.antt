@@ -14,9 +14,9 @@ use Rattle.scc_table.specs.TwoArrays.{Draining, together, IsTable}
 use Rattle.scc_table.proofs.arrays.CurrentChanges.{settings-write}
 use Rattle.scc_table.proofs.arrays.Writes.{place-seen, own-got, own-is, own-kept, own-written, old-got, old-is, old-kept, old-written}
 
--- a table by its fields c, drain and skipped, seen as the contents a, whose hashes are given by `hashes` under a hasher
-module _ {E K S : Type 0} {eq : K → K → Bool} (laws : IsEquivalence eq) {key : E → K} (hashes : S → K → ℕ) {c : Contents E S} {drain : Draining E} {skipped : ℕ}
-    (inv : IsTable eq key (λ k. hashes (settings_of c).hasher k) c drain skipped) {a : Contents E S} (view : together (λ e. hashes (settings_of c).hasher (key e)) c drain.waiting drain.array ≡ a) (p : Place) (place : IsPlace a p) where
+-- a table by its fields c and drain, seen as the contents a, whose hashes are given by `hashes` under a hasher
+module _ {E K S : Type 0} {eq : K → K → Bool} (laws : IsEquivalence eq) {key : E → K} (hashes : S → K → ℕ) {c : Contents E S} {drain : Draining E}
+    (inv : IsTable eq key (λ k. hashes (settings_of c).hasher k) c drain) {a : Contents E S} (view : together (λ e. hashes (settings_of c).hasher (key e)) c drain.waiting drain.array ≡ a) (p : Place) (place : IsPlace a p) where
   within : IsPlace (together (λ e. hashes (settings_of c).hasher (key e)) c drain.waiting drain.array) p
   within = place-seen inv p view place
 
@@ -32,9 +32,9 @@ module _ {E K S : Type 0} {eq : K → K → Bool} (laws : IsEquivalence eq) {key
       same : hashes (settings_of d).hasher ≡ hashes (settings_of c).hasher
       same = ap (λ s. hashes s.hasher) (ap settings_of new ∙ settings-write put c p w)
 
-      pub near-kept : (e : E) → slice_get (entries c) (spots.index_of_spot c p) ≡ Some e → eq (key (put e w)) (key e) ≡ true → IsTable eq key (λ k. hashes (settings_of d).hasher k) d drain skipped
-      near-kept e got equal = subst (λ (h : K → ℕ). IsTable eq key h d drain skipped) (sym same)
-          (subst (λ (z : Contents E S). IsTable eq key (λ k. hashes (settings_of c).hasher k) z drain skipped) (sym new) (own-kept laws inv p within near put w e got equal))
+      pub near-kept : (e : E) → slice_get (entries c) (spots.index_of_spot c p) ≡ Some e → eq (key (put e w)) (key e) ≡ true → IsTable eq key (λ k. hashes (settings_of d).hasher k) d drain
+      near-kept e got equal = subst (λ (h : K → ℕ). IsTable eq key h d drain) (sym same)
+          (subst (λ (z : Contents E S). IsTable eq key (λ k. hashes (settings_of c).hasher k) z drain) (sym new) (own-kept laws inv p within near put w e got equal))
 
       pub near-written : together (λ e. hashes (settings_of d).hasher (key e)) d drain.waiting drain.array ≡ with_write_at put a p w
       near-written = ap (λ (h : K → ℕ). together (λ e. h (key e)) d drain.waiting drain.array) same
@@ -61,8 +61,8 @@ module _ {E K S : Type 0} {eq : K → K → Bool} (laws : IsEquivalence eq) {key
         written : news ≡ set drain.array (p.bucket - bucket_count c) (shelf_write_at put (shelf_of drain.array (p.bucket - bucket_count c)) p.slot w)
         written = new ∙ ap (λ m. let r : List (Shelf E) = set drain.array (p.bucket - m) (shelf_write_at put (shelf_of drain.array (p.bucket - m)) p.slot w) in r) count
 
-        pub far-kept : eq (key (put e w)) (key e) ≡ true → IsTable eq key (λ k. hashes (settings_of c).hasher k) c (record drain { array = news }) skipped
-        far-kept same-key = subst (λ z. IsTable eq key (λ k. hashes (settings_of c).hasher k) c (record drain { array = z }) skipped) (sym written) (old-kept laws inv p within far e there put w equal same-key)
+        pub far-kept : eq (key (put e w)) (key e) ≡ true → IsTable eq key (λ k. hashes (settings_of c).hasher k) c (record drain { array = news })
+        far-kept same-key = subst (λ z. IsTable eq key (λ k. hashes (settings_of c).hasher k) c (record drain { array = z })) (sym written) (old-kept laws inv p within far e there put w equal same-key)
 
         pub far-written : together (λ x. hashes (settings_of c).hasher (key x)) c drain.waiting news ≡ with_write_at put a p w
         far-written = ap (λ z. together (λ x. hashes (settings_of c).hasher (key x)) c drain.waiting z) written

@@ -132,7 +132,7 @@ module _ {E K S : Type 0} (key : E → K) (hash : K → ℕ) (c : Contents E S) 
 
 -- the invariant `IsTable` holds after the insertion
 -- a key that is new in both arrays together is new in the current array, with the same hash and bucket
-pub new-own : {E K S : Type 0} {eq : K → K → Bool} {key : E → K} {hash other : K → ℕ} {c : Contents E S} {drain : Draining E} {skipped : ℕ} (inv : IsTable eq key hash c drain skipped) {a : Contents E S} → together (λ e. hash (key e)) c drain.waiting drain.array ≡ a → other ≡ hash
+pub new-own : {E K S : Type 0} {eq : K → K → Bool} {key : E → K} {hash other : K → ℕ} {c : Contents E S} {drain : Draining E} (inv : IsTable eq key hash c drain) {a : Contents E S} → together (λ e. hash (key e)) c drain.waiting drain.array ≡ a → other ≡ hash
     → {i h : ℕ} {k : K} → IsNewIn eq key other a i h k → IsNewIn eq key hash c i h k
 new-own {K = K} {eq = eq} {key} {hash} {c = c} {drain} inv {a} view same {i} {h} {k} new =
     let count = count-seen (λ e. hash (key e)) c drain.waiting drain.array a view inv.arrays.flags in
@@ -156,16 +156,14 @@ new-same {K = K} {eq = eq} {key} a b lists settings same {h = h} {k} new =
       absent = subst (λ es. position (λ e. eq k (key e)) es ≡ None) (sym (entries-same a b lists)) new.absent;
     }
 
-pub fields-put : {E K S : Type 0} (eq : K → K → Bool) (laws : IsEquivalence eq) (key : E → K) (hash : K → ℕ) (c : Contents E S) (drain : Draining E) (skipped : ℕ) (inv : IsTable eq key hash c drain skipped) (d : Contents E S)
+pub fields-put : {E K S : Type 0} (eq : K → K → Bool) (laws : IsEquivalence eq) (key : E → K) (hash : K → ℕ) (c : Contents E S) (drain : Draining E) (inv : IsTable eq key hash c drain) (d : Contents E S)
     → together (λ e. hash (key e)) c drain.waiting drain.array ≡ d → (e : E) (i : ℕ) (b : Contents E S) (p : Place) → IsPutIn c i e b p → i < bucket_count c → waits_at drain.waiting i ≡ false → overflow_of b + drain.left_overflow < 2 ^ 62 → position (λ x. eq (key e) (key x)) (entries d) ≡ None
-    → IsTable eq key hash b drain skipped
-fields-put {E} eq laws key hash c drain skipped inv d view e i b p put l down few absent =
+    → IsTable eq key hash b drain
+fields-put {E} eq laws key hash c drain inv d view e i b p put l down few absent =
     let there = put-together key hash c drain.waiting drain.array inv.arrays d view e i b p put l down in
     let within : i < bucket_count d = omega (arith, count-seen (λ x. hash (key x)) c drain.waiting drain.array d view inv.arrays.flags) in
     record {
       arrays = arrays-put key hash c drain.waiting drain.array inv.arrays d view e i b p put l down;
-      skips = inv.skips ∙ ap (λ s. s.skipped) (sym put.settings);
-      few_bits = inv.few_bits;
       counted = inv.counted;
       none = inv.none;
       given_back = inv.given_back;
@@ -186,7 +184,7 @@ same-together hash c d ws olds z = record {
 }
 
 -- the keys stay distinct, whether the insertion fails or not
-pub unique-answered : {E K S X : Type 0} {eq : K → K → Bool} (laws : IsEquivalence eq) {key : E → K} {hash : K → ℕ} {c : Contents E S} {drain : Draining E} {skipped : ℕ} (inv : IsTable eq key hash c drain skipped) {a : Contents E S} → together (λ e. hash (key e)) c drain.waiting drain.array ≡ a → (e : E) (i : ℕ)
+pub unique-answered : {E K S X : Type 0} {eq : K → K → Bool} (laws : IsEquivalence eq) {key : E → K} {hash : K → ℕ} {c : Contents E S} {drain : Draining E} (inv : IsTable eq key hash c drain) {a : Contents E S} → together (λ e. hash (key e)) c drain.waiting drain.array ≡ a → (e : E) (i : ℕ)
     (b : Contents E S) (r : Result Place X) → IfOk r (IsPutIn c i e b) → OnErr r (HasSameLists c b) → i < bucket_count c → waits_at drain.waiting i ≡ false → position (λ x. eq (key e) (key x)) (entries a) ≡ None → IsDistinct eq (map key (entries (together (λ x. hash (key x)) b drain.waiting drain.array)))
 unique-answered {eq = eq} laws {key} {hash} {c} {drain} inv {a} view e i b (Ok p) put stays l down absent =
     let there = put-together key hash c drain.waiting drain.array inv.arrays a view e i b p put l down in

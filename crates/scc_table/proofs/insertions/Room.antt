@@ -3,7 +3,7 @@ use Rattle.std.proofs.Common.{◌≡◌, ◌≢◌, ℕ, ◌<◌, ◌⊎◌, inl
 use Rattle.std.specs.List.{count_by}
 use Rattle.std.proofs.lemmas.Bool.{cases_order}
 use Rattle.scc_common.specs.Contents.{Contents, HasRoomAt, bucket_count, lists_of, pending_of, settings_of, waiting_of, IsMarked}
-use Rattle.scc_common.specs.Steps.{Grows, IsPreparedAt, Prepares, Rests}
+use Rattle.scc_common.specs.Steps.{Grows, IsPreparedAt, IsUnchanged, Prepares, Rests}
 use Rattle.scc_table.proofs.relocations.OneByOne.{pending-is}
 use Rattle.scc_table.proofs.resizes.Installation.{count-up}
 use Rattle.scc_table.proofs.arrays.SameParts.{count-same, entries-same, pending-same}
@@ -33,22 +33,24 @@ module _ {E S K : Type 0} (hash : K → ℕ) (key : E → K) (c d : Contents E S
         ]
       ]
 
+-- if nothing changes, or one resize is made, and then nothing changes, that holds of both together
+pub rests-kept : {E S : Type 0} (a b d : Contents E S) → IsUnchanged b d → Rests a b → Rests a d
+rests-kept a b d k r =
+    elim r as (λ _. Rests a d) [
+      | inl u ↦ inl record { exact = k.exact ∙ u.exact; buckets = k.buckets ∙ u.buckets; settings = k.settings ∙ u.settings }
+      | inr o ↦ inr (
+        λ e. o.0 (sym k.buckets ∙ e),
+        record {
+          same = rw k.exact o.1.same;
+          size = record { lawful = rw k.buckets o.1.size.lawful; minimum = rw k.buckets o.1.size.minimum };
+          settings = k.settings ∙ o.1.settings;
+        },
+      )
+    ]
+
 module _ {E S : Type 0} (a b d : Contents E S) (lists : lists_of d ≡ lists_of b) (settings : settings_of d ≡ settings_of b) where
   rests-same : Rests a b → Rests a d
-  rests-same r =
-      let n = count-same b d lists in
-      let es = entries-same b d lists in
-      elim r as (λ _. Rests a d) [
-        | inl u ↦ inl record { exact = es ∙ u.exact; buckets = n ∙ u.buckets; settings = settings ∙ u.settings }
-        | inr o ↦ inr (
-          λ e. o.0 (sym n ∙ e),
-          record {
-            same = rw es o.1.same;
-            size = record { lawful = rw n o.1.size.lawful; minimum = rw n o.1.size.minimum };
-            settings = settings ∙ o.1.settings;
-          },
-        )
-      ]
+  rests-same = rests-kept a b d record { exact = entries-same b d lists; buckets = count-same b d lists; settings = settings }
 
   grows-lists : Grows a b → Grows a d
   grows-lists g = let n = count-same b d lists in record { first = rw n g.first; half = rw n g.half; below = rw n g.below; doubled = rw n g.doubled; not_waiting = rw n g.not_waiting }

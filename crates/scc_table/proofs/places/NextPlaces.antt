@@ -77,11 +77,11 @@ module _ {E S : Type 0} (hash : E → ℕ) (c : Contents E S) (ws : List Bool) (
         index = ap (spots.index_of_spot d) spot;
       }
 
-pub next-same : {E : Type 0} (hash : E → ℕ) (u t m n i : ℕ) (olds : List (Shelf E)) (a b j s : ℕ) → u ≡ t → m ≡ n → StandsNext hash u m i olds a b j s → StandsNext hash t n i olds a b j s
-next-same hash u t m n i olds a b j s e f x = subst (λ z. StandsNext hash t z i olds a b j s) f (subst (λ z. StandsNext hash z m i olds a b j s) e x)
+pub next-same : {E : Type 0} (hash : E → ℕ) (t m n i : ℕ) (olds : List (Shelf E)) (a b j s : ℕ) → m ≡ n → StandsNext hash t m i olds a b j s → StandsNext hash t n i olds a b j s
+next-same hash t m n i olds a b j s f x = subst (λ z. StandsNext hash t z i olds a b j s) f x
 
-pub destined-same : {E : Type 0} (hash : E → ℕ) (u t m n i : ℕ) (xs ys : List E) → u ≡ t → m ≡ n → destined_for hash u m i xs ≡ destined_for hash u m i ys → destined_for hash t n i xs ≡ destined_for hash t n i ys
-destined-same hash u t m n i xs ys e f x = subst (λ z. destined_for hash t z i xs ≡ destined_for hash t z i ys) f (subst (λ z. destined_for hash z m i xs ≡ destined_for hash z m i ys) e x)
+pub destined-same : {E : Type 0} (hash : E → ℕ) (t m n i : ℕ) (xs ys : List E) → m ≡ n → destined_for hash t m i xs ≡ destined_for hash t m i ys → destined_for hash t n i xs ≡ destined_for hash t n i ys
+destined-same hash t m n i xs ys f x = subst (λ z. destined_for hash t z i xs ≡ destined_for hash t z i ys) f x
 
 module _ {E S : Type 0} (hash : E → ℕ) (c : Contents E S) (ws : List Bool) (olds : List (Shelf E)) (arrays : TwoArrays hash c ws olds) (i : ℕ) (up : waits_at ws i ≡ true) (first last : ℕ) (sources : IsWithinSources hash (settings_of c).skipped (bucket_count c) i first last olds) where
   -- no entry of bucket i stands before old bucket `first`

@@ -143,18 +143,16 @@ module _ {E S : Type 0} (hash : E → ℕ) (i n : ℕ) (c d : Contents E S) (ws 
       omega arith
 
 -- the invariant `IsTable` holds after bucket i is relocated, if another bucket still waits
-pub fields-after : {E K S : Type 0} (eq : K → K → Bool) (key : E → K) (hash : K → ℕ) (i n : ℕ) (c d : Contents E S) (drain : Draining E) (vs : List Bool) (news : List (Shelf E)) (skipped : ℕ)
-    → IsTable eq key hash c drain skipped → waits_at drain.waiting i ≡ true → TakesOver (λ e. hash (key e)) i n c drain.array d news → vs ≡ set drain.waiting i false → 0 < count_by (λ w. w) (set drain.waiting i false) → overflow_of d + drain.left_overflow < 2 ^ 62
-    → IsTable eq key hash d (record drain { array = news; waiting = vs; pending = drain.pending - 1; left = drain.left - n }) skipped
-fields-after {E} eq key hash i n c d drain vs news skipped inv up takes down some few =
+pub fields-after : {E K S : Type 0} (eq : K → K → Bool) (key : E → K) (hash : K → ℕ) (i n : ℕ) (c d : Contents E S) (drain : Draining E) (vs : List Bool) (news : List (Shelf E))
+    → IsTable eq key hash c drain → waits_at drain.waiting i ≡ true → TakesOver (λ e. hash (key e)) i n c drain.array d news → vs ≡ set drain.waiting i false → 0 < count_by (λ w. w) (set drain.waiting i false) → overflow_of d + drain.left_overflow < 2 ^ 62
+    → IsTable eq key hash d (record drain { array = news; waiting = vs; pending = drain.pending - 1; left = drain.left - n })
+fields-after {E} eq key hash i n c d drain vs news inv up takes down some few =
     let h : E → ℕ = λ e. hash (key e) in
     let settles : Settles drain.waiting i vs = others down some in
     let fewer = one-down drain.waiting i (up-within drain.waiting i up) up in
     let after = count-after settles in
     record {
       arrays = arrays-after h i n c d drain.waiting vs drain.array news inv.arrays up takes settles;
-      skips = inv.skips ∙ ap (λ s. s.skipped) (sym takes.settings);
-      few_bits = inv.few_bits;
       counted = omega (arith, inv.counted);
       none = λ z. absurd (omega (arith, inv.counted));
       given_back = λ z. absurd (omega (arith, inv.counted));
@@ -176,10 +174,10 @@ pub bare-after : {E S : Type 0} (hash : E → ℕ) (i n : ℕ) (c d : Contents E
 bare-after hash i n c d ws olds news arrays up takes none = nothing-owed hash d [] news refl (arrays-after hash i n c d ws [] olds news arrays up takes (last refl none))
 
 -- the invariant `IsTable` holds after bucket i is relocated, if no other bucket waits and the old array is freed
-pub fields-last : {E K S : Type 0} (eq : K → K → Bool) (key : E → K) (hash : K → ℕ) (i n : ℕ) (c d : Contents E S) (drain : Draining E) (news : List (Shelf E)) (skipped : ℕ)
-    → IsTable eq key hash c drain skipped → waits_at drain.waiting i ≡ true → TakesOver (λ e. hash (key e)) i n c drain.array d news → count_by (λ w. w) (set drain.waiting i false) ≡ 0 → overflow_of d + drain.left_overflow < 2 ^ 62
-    → IsTable eq key hash d (record drain { array = []; waiting = []; pending = drain.pending - 1; left = drain.left - n; left_overflow = 0 }) skipped
-fields-last {E} eq key hash i n c d drain news skipped inv up takes none few =
+pub fields-last : {E K S : Type 0} (eq : K → K → Bool) (key : E → K) (hash : K → ℕ) (i n : ℕ) (c d : Contents E S) (drain : Draining E) (news : List (Shelf E))
+    → IsTable eq key hash c drain → waits_at drain.waiting i ≡ true → TakesOver (λ e. hash (key e)) i n c drain.array d news → count_by (λ w. w) (set drain.waiting i false) ≡ 0 → overflow_of d + drain.left_overflow < 2 ^ 62
+    → IsTable eq key hash d (record drain { array = []; waiting = []; pending = drain.pending - 1; left = drain.left - n; left_overflow = 0 })
+fields-last {E} eq key hash i n c d drain news inv up takes none few =
     let h : E → ℕ = λ e. hash (key e) in
     let settles : Settles drain.waiting i [] = last refl none in
     let fewer = one-down drain.waiting i (up-within drain.waiting i up) up in
@@ -189,7 +187,7 @@ fields-last {E} eq key hash i n c d drain news skipped inv up takes none few =
     let nothing : drain.left - n ≡ 0 = omega (arith, inv.left_is) in
     let last_one : drain.pending - 1 ≡ 0 = omega (arith, inv.counted) in
     let unique = subst (λ z. IsDistinct eq (map key z)) (sym (entries-after h i n c d drain.waiting [] drain.array news inv.arrays up takes settles) ∙ entries-alone h d [] news refl) inv.unique in
-    rw (nothing, last_one) (fields-alone eq key hash d skipped drain.next (inv.skips ∙ ap (λ s. s.skipped) (sym takes.settings)) inv.few_bits (omega arith) unique)
+    rw (nothing, last_one) (fields-alone eq key hash d drain.next (omega arith) unique)
 
 settle-others : (ws : List Bool) (i : ℕ) → 0 < count_by (λ w. w) (set ws i false) → cleared ws i ≡ set ws i false
 settle-others ws i some = let z : (count_by (λ w. w) (set ws i false) == 0) ≡ false = not_equal _ _ (omega arith) in rw z

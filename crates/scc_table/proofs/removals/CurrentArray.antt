@@ -54,8 +54,8 @@ module _ {E S : Type 0} (hash : E → ℕ) (d : Contents E S) (routed : IsRouted
   none-listed : position p (entries d) ≡ None → position p (list_of d i) ≡ None
   none-listed e = never-added (length (flat_map (λ x. x) (take i (lists_of d)))) (position p (list_of d i)) (sym (position-routed hash d routed p h i a here l) ∙ e)
 
-module _ {E K S : Type 0} (key : E → K) (p : E → Bool) {eq : K → K → Bool} (laws : IsEquivalence eq) (hash_for : Settings S → K → ℕ) (c d : Contents E S) (drain : Draining E) (skipped : ℕ)
-    (inv : IsTable eq key (hash_for (settings_of c)) c drain skipped) where
+module _ {E K S : Type 0} (key : E → K) (p : E → Bool) {eq : K → K → Bool} (laws : IsEquivalence eq) (hash_for : Settings S → K → ℕ) (c d : Contents E S) (drain : Draining E)
+    (inv : IsTable eq key (hash_for (settings_of c)) c drain) where
   abbrev hk : K → ℕ
   hk = hash_for (settings_of c)
 
@@ -87,11 +87,11 @@ module _ {E K S : Type 0} (key : E → K) (p : E → Bool) {eq : K → K → Boo
       )
 
   -- the invariant `IsTable` holds after the removal
-  own-left : (q : Place) → IsFoundAt p (both c) q → q.bucket < bucket_count c → (x : E) → slice_get (entries c) (spots.index_of_spot c q) ≡ Some x → IsSwappedOutOf c q d → IsTable eq key (hash_for (settings_of d)) d drain skipped
-  own-left q at near x got out = subst (λ (s : Settings S). IsTable eq key (hash_for s) d drain skipped) (sym out.settings) (own-less_swapped laws inv q at.within near d x got out)
+  own-left : (q : Place) → IsFoundAt p (both c) q → q.bucket < bucket_count c → (x : E) → slice_get (entries c) (spots.index_of_spot c q) ≡ Some x → IsSwappedOutOf c q d → IsTable eq key (hash_for (settings_of d)) d drain
+  own-left q at near x got out = subst (λ (s : Settings S). IsTable eq key (hash_for s) d drain) (sym out.settings) (own-less_swapped laws inv q at.within near d x got out)
 
-  own-same : d ≡ c → IsTable eq key (hash_for (settings_of d)) d drain skipped
-  own-same stays = subst (λ (z : Contents E S). IsTable eq key (hash_for (settings_of z)) z drain skipped) (sym stays) inv
+  own-same : d ≡ c → IsTable eq key (hash_for (settings_of d)) d drain
+  own-same stays = subst (λ (z : Contents E S). IsTable eq key (hash_for (settings_of z)) z drain) (sym stays) inv
 
   -- no bucket waits
   module _ (none : drain.waiting ≡ []) where
@@ -99,7 +99,7 @@ module _ {E K S : Type 0} (key : E → K) (p : E → Bool) {eq : K → K → Boo
     not_waiting-taken None (missed, stays) = (ap (position p) (entries-not_waiting (λ e. hk (key e)) c drain.array drain.waiting none) ∙ missed, ap both stays)
     not_waiting-taken (Some x) (q, found, got, out) = own-takes q (found-not_waiting (λ e. hk (key e)) c drain.array drain.waiting none p q found) found.within.bucket x got out
 
-    pub not_waiting-left : (r : Option E) → TakesFirstSpot p c d r → IsTable eq key (hash_for (settings_of d)) d drain skipped
+    pub not_waiting-left : (r : Option E) → TakesFirstSpot p c d r → IsTable eq key (hash_for (settings_of d)) d drain
     not_waiting-left None (missed, stays) = own-same stays
     not_waiting-left (Some x) (q, found, got, out) = own-left q (found-not_waiting (λ e. hk (key e)) c drain.array drain.waiting none p q found) found.within.bucket x got out
 
@@ -120,6 +120,6 @@ module _ {E K S : Type 0} (key : E → K) (p : E → Bool) {eq : K → K → Boo
     )
     down-taken (Some x) (q, found, got, out) = own-takes q (found-here q found) found.within.bucket x got out
 
-    pub down-left : (r : Option E) → TakesFirstSpot p c d r → IsTable eq key (hash_for (settings_of d)) d drain skipped
+    pub down-left : (r : Option E) → TakesFirstSpot p c d r → IsTable eq key (hash_for (settings_of d)) d drain
     down-left None (missed, stays) = own-same stays
     down-left (Some x) (q, found, got, out) = own-left q (found-here q found) found.within.bucket x got out

@@ -108,7 +108,7 @@ module _ {E S : Type 0} (hash : E → ℕ) (c : Contents E S) (ws : List Bool) (
       }
 
 -- the invariant `IsTable` holds after the entry at p is taken out
-module _ {E K S : Type 0} {eq : K → K → Bool} (laws : IsEquivalence eq) {key : E → K} {hash : K → ℕ} {c : Contents E S} {drain : Draining E} {skipped : ℕ} (inv : IsTable eq key hash c drain skipped) (p : Place)
+module _ {E K S : Type 0} {eq : K → K → Bool} (laws : IsEquivalence eq) {key : E → K} {hash : K → ℕ} {c : Contents E S} {drain : Draining E} (inv : IsTable eq key hash c drain) (p : Place)
     (within : IsPlace (together (λ e. hash (key e)) c drain.waiting drain.array) p) where
   module _ (l : p.bucket < bucket_count c) (d : Contents E S) where
     down : waits_at drain.waiting p.bucket ≡ false
@@ -158,20 +158,20 @@ module _ {E K S : Type 0} {eq : K → K → Bool} (laws : IsEquivalence eq) {key
         subst (λ q. IsTakenFrom u q v) (sym spot-here) at
 
     module _ (e : E) (got : slice_get (entries c) (spots.index_of_spot c p) ≡ Some e) where
-      pub own-less_swapped : IsSwappedOutOf c p d → IsTable eq key hash d drain skipped
+      pub own-less_swapped : IsSwappedOutOf c p d → IsTable eq key hash d drain
       own-less_swapped t =
           let h : E → ℕ = λ x. hash (key x) in
           let u = together h c drain.waiting drain.array in
           let there = own-got laws inv p within l e got in
-          own-fields eq key hash c d p.bucket t.left t.lists t.settings drain down skipped inv (let o = t.spilled in let f = inv.few in omega arith)
+          own-fields eq key hash c d p.bucket t.left t.lists t.settings drain down inv (let o = t.spilled in let f = inv.few in omega arith)
           (swapped-unique u (together h d drain.waiting drain.array) (spot_of u p) within (own-swapped t) laws key e there inv.unique)
 
-      pub own-less : IsTakenFrom c p d → IsTable eq key hash d drain skipped
+      pub own-less : IsTakenFrom c p d → IsTable eq key hash d drain
       own-less t =
           let h : E → ℕ = λ x. hash (key x) in
           let u = together h c drain.waiting drain.array in
           let there = own-got laws inv p within l e got in
-          own-fields eq key hash c d p.bucket (remove (list_of c p.bucket) p.slot) t.lists t.settings drain down skipped inv (let o = t.spilled in let f = inv.few in omega arith)
+          own-fields eq key hash c d p.bucket (remove (list_of c p.bucket) p.slot) t.lists t.settings drain down inv (let o = t.spilled in let f = inv.few in omega arith)
           (taken-unique u (together h d drain.waiting drain.array) (spot_of u p) within (own-taken t) laws key e there inv.unique)
 
   module _ (far : bucket_count c ≤ p.bucket) (e : E) (got : slice_get (shelf_entries (shelf_of drain.array (p.bucket - bucket_count c))) p.slot ≡ Some e) where
@@ -207,14 +207,14 @@ module _ {E K S : Type 0} {eq : K → K → Bool} (laws : IsEquivalence eq) {key
     pub old-some : 1 ≤ drain.left
     old-some = let h : E → ℕ = λ x. hash (key x) in let n = owed-less h c drain.waiting drain.array inv.arrays (p.bucket - bucket_count c) p.slot e lj got in let m = inv.left_is in omega arith
 
-    pub old-less : IsTable eq key hash c (record drain { array = set drain.array (p.bucket - bucket_count c) (without_slot (shelf_of drain.array (p.bucket - bucket_count c)) p.slot); left = drain.left - 1 }) skipped
+    pub old-less : IsTable eq key hash c (record drain { array = set drain.array (p.bucket - bucket_count c) (without_slot (shelf_of drain.array (p.bucket - bucket_count c)) p.slot); left = drain.left - 1 })
     old-less =
         let h : E → ℕ = λ x. hash (key x) in
         let j = p.bucket - bucket_count c in
         let news = set drain.array j (without_slot (shelf_of drain.array j) p.slot) in
         let u = together h c drain.waiting drain.array in
         let there = old-got laws inv p within far e got in
-        old-fields eq key hash c drain news skipped (drain.left - 1) drain.left_overflow inv (arrays-less h c drain.waiting drain.array inv.arrays j p.slot e lj got) (length-set drain.array j (without_slot (shelf_of drain.array j) p.slot))
+        old-fields eq key hash c drain news (drain.left - 1) drain.left_overflow inv (arrays-less h c drain.waiting drain.array inv.arrays j p.slot e lj got) (length-set drain.array j (without_slot (shelf_of drain.array j) p.slot))
         (let n = owed-less h c drain.waiting drain.array inv.arrays j p.slot e lj got in let m = inv.left_is in omega arith)
         (let n = spilled-less h c drain.waiting drain.array inv.arrays j p.slot e lj got in let m = inv.overflow_is in omega arith) inv.few
         (taken-unique u (together h c drain.waiting news) (spot_of u p) within old-taken_at laws key e there inv.unique)

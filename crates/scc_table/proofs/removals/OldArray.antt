@@ -22,7 +22,7 @@ pub missed-slots : {E : Type 0} (p : E → Bool) (b : Shelf E) → position p b.
 missed-slots p b missed empty =
     position-joined p b.slots b.overflow ∙ ap (λ q. or_later q (length b.slots) (position p b.overflow)) missed ∙ ap (λ z. or_later None (length b.slots) (position p z)) empty
 
-module _ {E K S : Type 0} {eq : K → K → Bool} (laws : IsEquivalence eq) {key : E → K} {hash : K → ℕ} {c : Contents E S} {drain : Draining E} {skipped : ℕ} (inv : IsTable eq key hash c drain skipped)
+module _ {E K S : Type 0} {eq : K → K → Bool} (laws : IsEquivalence eq) {key : E → K} {hash : K → ℕ} {c : Contents E S} {drain : Draining E} (inv : IsTable eq key hash c drain)
     (routed : IsRouted (λ e. hash (key e)) (together (λ e. hash (key e)) c drain.waiting drain.array)) (p : E → Bool) (h i : ℕ) (a : HashOf p (λ e. hash (key e)) h) (here : i ≡ bucket_number (settings_of c).skipped (bucket_count c) h) (l : i < bucket_count c) (up : waits_at drain.waiting i ≡ true)
     (j : ℕ) (lj : j < length drain.array) (source : j ≡ bucket_number (settings_of c).skipped (length drain.array) h) (ds : List (Shelf E)) where
   abbrev both : List (Shelf E) → Contents E S
@@ -50,5 +50,5 @@ module _ {E K S : Type 0} {eq : K → K → Bool} (laws : IsEquivalence eq) {key
     )
 
     -- the invariant `IsTable` holds afterwards
-    pub up-left : IsTable eq key hash c (record drain { array = ds; left = drain.left - 1 }) skipped
-    up-left = subst (λ (z : List (Shelf E)). IsTable eq key hash c (record drain { array = z; left = drain.left - 1 }) skipped) (sym out.others) (swap-table laws inv place found.within j refl lj x out.entry fewer)
+    pub up-left : IsTable eq key hash c (record drain { array = ds; left = drain.left - 1 })
+    up-left = subst (λ (z : List (Shelf E)). IsTable eq key hash c (record drain { array = z; left = drain.left - 1 })) (sym out.others) (swap-table laws inv place found.within j refl lj x out.entry fewer)

@@ -24,11 +24,11 @@ use Rattle.scc_table.proofs.resizes.Installation.{bare-lists, flags-up, permuted
 use Rattle.scc_table.proofs.arrays.Views.{count-seen, not_waiting-flags, settings-seen}
 
 -- the current array, with the contents c and no waiting bucket, is exchanged for n empty buckets, with the contents d
-pub record IsExchanged {E K S : Type 0} (eq : K → K → Bool) (key : E → K) (hash : K → ℕ) (c d : Contents E S) (rest : Draining E) (skipped : ℕ) (a : Contents E S) (n : ℕ) (olds : List (Shelf E)) (left over : ℕ) : Type 0 where
+pub record IsExchanged {E K S : Type 0} (eq : K → K → Bool) (key : E → K) (hash : K → ℕ) (c d : Contents E S) (rest : Draining E) (a : Contents E S) (n : ℕ) (olds : List (Shelf E)) (left over : ℕ) : Type 0 where
   -- equality of keys is an equivalence
   pub laws : IsEquivalence eq
   -- the invariant holds before the exchange
-  pub inv : IsTable eq key hash c rest skipped
+  pub inv : IsTable eq key hash c rest
   -- a is the contents of both arrays before the exchange
   pub view : together (λ e. hash (key e)) c rest.waiting rest.array ≡ a
   -- no bucket waits before the exchange
@@ -51,12 +51,12 @@ pub record IsExchanged {E K S : Type 0} (eq : K → K → Bool) (key : E → K) 
   pub table : IsBuckets (λ e. hash (key e)) (settings_of c).skipped olds left over
 
 -- if the facts hold by the hash of the settings before, `IsExchanged` holds by the hash of the settings afterwards
-pub exchanged : {E K S : Type 0} {eq : K → K → Bool} (laws : IsEquivalence eq) {key : E → K} (hash_for : Settings S → K → ℕ) {c d : Contents E S} {rest : Draining E} {skipped : ℕ} {a : Contents E S} {n : ℕ} {fresh olds : List (Shelf E)} {left over : ℕ} → IsTable eq key (hash_for (settings_of c)) c rest skipped
+pub exchanged : {E K S : Type 0} {eq : K → K → Bool} (laws : IsEquivalence eq) {key : E → K} (hash_for : Settings S → K → ℕ) {c d : Contents E S} {rest : Draining E} {a : Contents E S} {n : ℕ} {fresh olds : List (Shelf E)} {left over : ℕ} → IsTable eq key (hash_for (settings_of c)) c rest
     → together (λ e. hash_for (settings_of c) (key e)) c rest.waiting rest.array ≡ a → pending_of a ≡ 0 → fresh ≡ replicate n empty_shelf → IsBucketCount n → 0 < bucket_count a → n ≢ bucket_count a → lists_of d ≡ map shelf_entries fresh → settings_of d ≡ settings_of c → overflow_of d ≡ 0 → lists_of c ≡ map shelf_entries olds
-    → IsBuckets (λ e. hash_for (settings_of c) (key e)) (settings_of c).skipped olds left over → IsExchanged eq key (hash_for (settings_of d)) c d rest skipped a n olds left over
-exchanged {E} {K} {S} {eq} laws {key} hash_for {c} {d} {rest} {skipped} {a} {n} {fresh} {olds} {left} {over} inv view not_waiting empty will some other lists settings nothing were table = record {
+    → IsBuckets (λ e. hash_for (settings_of c) (key e)) (settings_of c).skipped olds left over → IsExchanged eq key (hash_for (settings_of d)) c d rest a n olds left over
+exchanged {E} {K} {S} {eq} laws {key} hash_for {c} {d} {rest} {a} {n} {fresh} {olds} {left} {over} inv view not_waiting empty will some other lists settings nothing were table = record {
   laws = laws;
-  inv = subst (λ (s : Settings S). IsTable eq key (hash_for s) c rest skipped) (sym settings) inv;
+  inv = subst (λ (s : Settings S). IsTable eq key (hash_for s) c rest) (sym settings) inv;
   view = subst (λ (s : Settings S). together (λ e. hash_for s (key e)) c rest.waiting rest.array ≡ a) (sym settings) view;
   not_waiting = not_waiting;
   will = will;
@@ -69,7 +69,7 @@ exchanged {E} {K} {S} {eq} laws {key} hash_for {c} {d} {rest} {skipped} {a} {n} 
   table = subst (λ (s : Settings S). IsBuckets (λ e. hash_for s (key e)) (settings_of c).skipped olds left over) (sym settings) table;
 }
 
-module _ {E K S : Type 0} {eq : K → K → Bool} {key : E → K} {hash : K → ℕ} {c d : Contents E S} {rest : Draining E} {skipped : ℕ} {a : Contents E S} {n : ℕ} {olds : List (Shelf E)} {left over : ℕ} (x : IsExchanged eq key hash c d rest skipped a n olds left over) where
+module _ {E K S : Type 0} {eq : K → K → Bool} {key : E → K} {hash : K → ℕ} {c d : Contents E S} {rest : Draining E} {a : Contents E S} {n : ℕ} {olds : List (Shelf E)} {left over : ℕ} (x : IsExchanged eq key hash c d rest a n olds left over) where
   abbrev inner : E → ℕ
   inner e = hash (key e)
 
@@ -101,8 +101,8 @@ module _ {E K S : Type 0} {eq : K → K → Bool} {key : E → K} {hash : K → 
   begun-unique = subst (λ es. IsDistinct eq (map key es)) all x.inv.unique
 
   -- the invariant `IsTable` holds after the exchange, and all n buckets wait
-  pub begun : IsTable eq key hash d (record { array = olds; waiting = replicate n true; pending = n; next = 0; left = left; left_overflow = over }) skipped
-  begun = started-fields eq x.laws key hash d n olds begun-count x.lists skipped left over table-now was x.will differ (x.inv.skips ∙ ap (λ s. s.skipped) (sym x.settings)) x.inv.few_bits x.nothing begun-unique
+  pub begun : IsTable eq key hash d (record { array = olds; waiting = replicate n true; pending = n; next = 0; left = left; left_overflow = over })
+  begun = started-fields eq x.laws key hash d n olds begun-count x.lists left over table-now was x.will differ x.nothing begun-unique
 
   -- each list has the entries of a that belong to its bucket
   pub begun-lists : IsRegrouped inner n a (together inner d (replicate n true) olds)
@@ -133,8 +133,8 @@ module _ {E K S : Type 0} {eq : K → K → Bool} {key : E → K} {hash : K → 
           let m = length-flat_map shelf_entries olds in
           omega (arith, takes.moved, begun.left_is)
 
-      pub taken-fields : overflow_of e + over < 2 ^ 62 → IsTable eq key hash e (record { array = news; waiting = vs; pending = n - 1; next = 0; left = left - moved; left_overflow = over }) skipped
-      taken-fields few = fields-after eq key hash k moved d e _ vs news skipped begun begun-up takes down (omega (arith, but-one n k x.will.least l, x.will.least)) few
+      pub taken-fields : overflow_of e + over < 2 ^ 62 → IsTable eq key hash e (record { array = news; waiting = vs; pending = n - 1; next = 0; left = left - moved; left_overflow = over })
+      taken-fields few = fields-after eq key hash k moved d e _ vs news begun begun-up takes down (omega (arith, but-one n k x.will.least l, x.will.least)) few
 
       pub taken-lists : IsRegrouped inner n a (together inner e vs news)
       taken-lists = regrouped-same inner n a (together inner d (replicate n true) olds) (together inner e vs news) there.lists there.settings begun-lists

@@ -36,9 +36,9 @@ pub same-rests : {E S : Type 0} (a d : Contents E S) → d ≡ a → IsUnchanged
 same-rests a d same = (record { exact = ap entries same; buckets = ap bucket_count same; settings = ap settings_of same }, record { first = λ z ne. absurd (ne (ap bucket_count same)); half = λ z ne. absurd (ne (ap bucket_count same)); below = λ z ne. absurd (ne (ap bucket_count same)); doubled = λ z ne. absurd (ne (ap bucket_count same)); not_waiting = λ z ne. absurd (ne (ap bucket_count same)) })
 
 -- if no bucket waits and d has no entries, the invariant `IsTable` holds of d
-pub fields-first : {E K S : Type 0} (eq : K → K → Bool) (key : E → K) (hash : K → ℕ) (c d : Contents E S) (drain : Draining E) (skipped : ℕ) → IsTable eq key hash c drain skipped → drain.waiting ≡ [] → settings_of d ≡ settings_of c → entries d ≡ [] → overflow_of d ≡ 0
-    → IsTable eq key hash d drain skipped
-fields-first {E} eq key hash c d drain skipped inv none settings still bounded =
+pub fields-first : {E K S : Type 0} (eq : K → K → Bool) (key : E → K) (hash : K → ℕ) (c d : Contents E S) (drain : Draining E) → IsTable eq key hash c drain → drain.waiting ≡ [] → settings_of d ≡ settings_of c → entries d ≡ [] → overflow_of d ≡ 0
+    → IsTable eq key hash d drain
+fields-first {E} eq key hash c d drain inv none settings still bounded =
     let h : E → ℕ = λ e. hash (key e) in
     let nothing : flat_map shelf_entries drain.array ≡ [] = nothing-owed h c drain.waiting drain.array none inv.arrays in
     record {
@@ -50,8 +50,6 @@ fields-first {E} eq key hash c d drain skipped inv none settings still bounded =
         not_waiting = λ i down. ap (filter (λ e. bucket_number (settings_of d).skipped (bucket_count d) (h e) == i)) nothing;
         bare = λ i up. absurd (let z : false ≡ true = ap (λ w. waits_at w i) (sym none) ∙ up in cc);
       };
-      skips = inv.skips ∙ ap (λ s. s.skipped) (sym settings);
-      few_bits = inv.few_bits;
       counted = inv.counted;
       none = inv.none;
       given_back = inv.given_back;

@@ -160,15 +160,13 @@ module _ {E S : Type 0} (hash : E → ℕ) (d : Contents E S) (n : ℕ) (olds : 
         }
 
 -- the invariant `IsTable` holds after the new array is installed
-pub started-fields : {E K S : Type 0} (eq : K → K → Bool) (laws : IsEquivalence eq) (key : E → K) (hash : K → ℕ) (d : Contents E S) (n : ℕ) (olds : List (Shelf E)) (counted : bucket_count d ≡ n) (none : lists_of d ≡ map shelf_entries (replicate n empty_shelf)) (skipped left over : ℕ)
-    → IsBuckets (λ e. hash (key e)) (settings_of d).skipped olds left over → IsBucketCount (length olds) → IsBucketCount n → n ≢ length olds → skipped ≡ (settings_of d).skipped → skipped ≤ 4 → overflow_of d ≡ 0 → IsDistinct eq (map key (flat_map shelf_entries olds))
-    → IsTable eq key hash d (record { array = olds; waiting = replicate n true; pending = n; next = 0; left = left; left_overflow = over }) skipped
-started-fields {E} eq laws key hash d n olds counted none skipped left over table was will differ skips few_bits nothing unique =
+pub started-fields : {E K S : Type 0} (eq : K → K → Bool) (laws : IsEquivalence eq) (key : E → K) (hash : K → ℕ) (d : Contents E S) (n : ℕ) (olds : List (Shelf E)) (counted : bucket_count d ≡ n) (none : lists_of d ≡ map shelf_entries (replicate n empty_shelf)) (left over : ℕ)
+    → IsBuckets (λ e. hash (key e)) (settings_of d).skipped olds left over → IsBucketCount (length olds) → IsBucketCount n → n ≢ length olds → overflow_of d ≡ 0 → IsDistinct eq (map key (flat_map shelf_entries olds))
+    → IsTable eq key hash d (record { array = olds; waiting = replicate n true; pending = n; next = 0; left = left; left_overflow = over })
+started-fields {E} eq laws key hash d n olds counted none left over table was will differ nothing unique =
     let h : E → ℕ = λ e. hash (key e) in
     record {
       arrays = started-arrays h d n olds counted none left over table was will differ;
-      skips = skips;
-      few_bits = few_bits;
       counted = sym (count-up n);
       none = λ z. absurd (omega (arith, will.least));
       given_back = λ z. absurd (omega (arith, will.least));

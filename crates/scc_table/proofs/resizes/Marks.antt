@@ -13,14 +13,14 @@ use Rattle.scc_table.proofs.arrays.SameParts.{count-same, entries-same, pending-
 both-are : (x : Bool × Bool) (p q : Bool) → x.0 ≡ p → x.1 ≡ q → x ≡ (p, q)
 both-are x p q l r = ap (λ (y : Bool). (y, x.1)) l ∙ ap (λ (y : Bool). (p, y)) r
 
-module _ {E K S X : Type 0} (eq : K → K → Bool) (key : E → K) (hash : K → ℕ) (a b : Contents E S) (h : ℕ) (result : Result ℕ X) (m : FindsBucketForNew eq key hash a h result b) where
+module _ {E K S X : Type 0} (eq : K → K → Bool) (key : E → K) (hash : K → ℕ) (most : ℕ) (great : most ≡ 2 ^ 63) (a b : Contents E S) (h : ℕ) (result : Result ℕ X) (m : FindsBucketForNew eq key hash most a h result b) where
   down-grown : 0 < bucket_count a → bucket_count b ≢ bucket_count a → notes_of b ≡ (false, false)
-  down-grown some ne = both-are (notes_of b) false false (m.down some ne) (m.unmarked record { array = some; not_waiting = m.growth.not_waiting some ne; full = λ room. ne (ap bucket_count (m.still room)); half = m.growth.half some ne; below = m.growth.below some ne })
+  down-grown some ne = both-are (notes_of b) false false (m.down some ne) (m.unmarked record { array = some; not_waiting = m.growth.not_waiting some ne; full = λ room. ne (ap bucket_count (m.still room)); half = m.growth.half some ne; below = m.growth.below some ne } (let l = m.growth.below some ne in omega (arith, great)))
 
   -- if no growth is due that wasn't made, the note and the mark are as `MarksPreparation` says
   pub marks-left : (IsGrowthDue hash key a h → bucket_count b ≡ bucket_count a → ⊥) → MarksPreparation hash key a h b
   marks-left none = record {
-    stays = m.noted;
+    stays = λ none_due. m.noted (λ due _. none_due due);
     grown = down-grown;
     denied = λ due same. absurd (none due same);
     once = λ some marked. m.once some (inr marked);

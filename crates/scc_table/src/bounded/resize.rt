@@ -1,9 +1,8 @@
-//! Growths and shrinks after which no list holds more than 32 entries.
+//! Shrinks after which no list holds more than 32 entries.
 ghost use Rattle.scc_buckets.specs.Bounded.{IsListed, MayShrinkWithin, ShrinksBounded};
 ghost use Rattle.scc_buckets.specs.Pour.{destined_for};
 ghost use Rattle.scc_common.specs.Contents.{entries, bucket_count, key_hash, settings_of, IsUniqueBy};
 ghost use Rattle.scc_common.specs.Sizes.{IsBucketCount};
-ghost use Rattle.scc_table.specs.Growths.{DoublesWithin, FindsBucketWithin};
 ghost use Rattle.scc_table.specs.Relocates.{Spreads};
 ghost use Rattle.std.specs.List.Sorted.{IsPermutation};
 ghost use Rattle.std.specs.Prelude.{◌≡◌, ◌≤◌, ◌<◌, ◌*◌, ◌^◌, ◌↔◌, ℕ, length, IsTrue};
@@ -11,64 +10,12 @@ ghost use Rattle.std.specs.Prelude.{◌≡◌, ◌≤◌, ◌<◌, ◌*◌, ◌^
 use crate::Table;
 use scc_buckets::sizes::buckets_for;
 use scc_common::Keyed;
-use std::alloc::AllocError;
 use std::hash::{BuildHasher, Hash};
 
 impl<E: Keyed, H: BuildHasher> Table<E, H>
 where
     E::Key: Eq + Hash,
 {
-    /// Returns the bucket of `hash`, for a put of a new key. Makes the first array if there is none. Doubles the array
-    /// if no bucket waits, the bucket holds 32 entries, and the table has at least half as many entries as slots and
-    /// fewer slots than `most`; then every bucket of the new array waits. The array stays if memory for the doubling is
-    /// refused, or if the growth is marked. Fails only if memory for the first array is refused.
-    #[inline(always)]
-    pub fn bucket_within(&mut self, hash: u64, most: usize) -> Result<usize, AllocError>
-        requires listed { IsListed (λ e. key_hash H.BuildHasher H.Hasher.Hasher E.Key.hash_input self.old
-            (E.key_of e)) self.old }
-        requires most { most ≤ 2 ^ 63 }
-        ensures { FindsBucketWithin E.Key.eq E.key_of (key_hash H.BuildHasher H.Hasher.Hasher E.Key.hash_input)
-            most self.old hash result self.new }
-    {
-        if self.bucket_count() == 0 {
-            self.install_first()?;
-            return Ok(self.bucket_at(hash));
-        }
-        let bucket = self.bucket_at(hash);
-        if self.list_len(bucket) < 32 {
-            return Ok(bucket);
-        }
-        let _ = self.double_within(most);
-        Ok(self.bucket_at(hash))
-    }
-
-    /// Doubles the array if no bucket waits, and the table has at least half as many entries as slots and fewer slots
-    /// than `most`; then every bucket of the new array waits. The array stays if memory is refused, or if the growth is
-    /// marked. Returns whether a doubling was due and wasn't made. Takes time proportional to the number of buckets.
-    #[cold]
-    pub(crate) fn double_within(&mut self, most: usize) -> bool
-        requires array { 0 < bucket_count self.old }
-        requires listed { IsListed (λ e. key_hash H.BuildHasher H.Hasher.Hasher E.Key.hash_input self.old
-            (E.key_of e)) self.old }
-        requires most { most ≤ 2 ^ 63 }
-        ensures { DoublesWithin E.Key.eq E.key_of (key_hash H.BuildHasher H.Hasher.Hasher E.Key.hash_input) most
-            self.old result self.new }
-    {
-        let count = self.bucket_count();
-        let length = self.len();
-        if self.pending() > 0 || length < 16 * count || 32 * count >= most {
-            return false;
-        }
-        if self.is_marked() {
-            self.note(true);
-            return true;
-        }
-        match self.install_fresh(2 * count) {
-            Ok(()) => false,
-            Err(_) => true,
-        }
-    }
-
     /// Shrinks the array if the table has at most an eighth as many entries as slots, a smaller array has enough slots,
     /// and each of its buckets would hold at most 32 entries; the array stays if memory is refused. First relocates all
     /// waiting buckets; then every bucket of the new array waits. If it tries, takes time proportional to the number of

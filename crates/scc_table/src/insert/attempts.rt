@@ -9,6 +9,7 @@ ghost use Rattle.std.specs.Prelude.{◌≡◌, ◌<◌, ◌≤◌, ◌+◌, fals
 
 use crate::Table;
 use scc_buckets::Place;
+use scc_buckets::sizes::GREATEST_CAPACITY;
 use scc_common::Keyed;
 use scc_draining::has_no_room;
 use std::hash::{BuildHasher, Hash};
@@ -58,7 +59,7 @@ where
         ensures { InsertsNew E.Key.eq E.key_of (key_hash H.BuildHasher H.Hasher.Hasher E.Key.hash_input self.old)
             self.old hash entry result self.new }
     {
-        match self.bucket_for_new(hash) {
+        match self.bucket_for_new(hash, GREATEST_CAPACITY) {
             Ok(bucket) => self.insert_and_relocate(bucket, hash, entry),
             Err(_) => Err(entry),
         }

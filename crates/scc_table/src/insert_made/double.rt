@@ -14,7 +14,6 @@ ghost use Rattle.std.specs.Prelude.{◌≡◌, ◌<◌, ◌*◌, ◌^◌, false,
 use crate::Table;
 use scc_array::Array;
 use scc_buckets::Place;
-use scc_buckets::place::bucket_index;
 use scc_common::{Keyed, Made};
 use scc_draining::count_destined;
 use std::hash::{BuildHasher, Hash};
@@ -36,16 +35,9 @@ where
             (bucket_number (settings_of self.now).skipped (2 * bucket_count self.now) hash) (entries self.now)) < 32 }
     {
         let count = 2 * self.bucket_count();
-        let target = bucket_index(hash, self.skipped, count);
+        let target = self.current.router().bucket(hash, count);
         let entry_count = self.list_len(bucket);
-        count_destined(
-            &self.current,
-            bucket,
-            entry_count,
-            target,
-            self.skipped,
-            count,
-        ) >= 32
+        count_destined(&self.current, bucket, entry_count, target, count) >= 32
     }
 
     /// Installs `fresh`, an array of twice as many buckets, and returns the new place of the entry at `place`, whose
@@ -71,15 +63,8 @@ where
             self.old place hash result self.new }
     {
         let count = 2 * self.bucket_count();
-        let bucket = bucket_index(hash, self.skipped, count);
-        let slot = count_destined(
-            &self.current,
-            place.bucket,
-            place.slot,
-            bucket,
-            self.skipped,
-            count,
-        );
+        let bucket = self.current.router().bucket(hash, count);
+        let slot = count_destined(&self.current, place.bucket, place.slot, bucket, count);
         match self.install_relocating(count, fresh, flags, bucket) {
             Ok(()) => {
                 self.note(false);

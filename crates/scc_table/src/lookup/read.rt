@@ -7,7 +7,7 @@ ghost use Rattle.std.specs.Prelude.{◌≡◌, ◌≤◌, ◌<◌, ◌^◌, ◌�
 use crate::Table;
 use scc_buckets::Place;
 use scc_common::{Keyed, SharedVersion, Version};
-use scc_draining::{count_all, sources};
+use scc_draining::{Relocation, sources};
 use std::hash::{BuildHasher, Hash};
 
 impl<E: Keyed, H: BuildHasher> Table<E, H>
@@ -79,15 +79,14 @@ where
         if self.is_waiting(bucket) {
             let count = self.current.bucket_count();
             let (first, last) = sources(self.draining.array.len(), count, bucket);
-            return count_all(
-                &self.draining.array,
+            let task = Relocation {
+                target: bucket,
+                count,
                 first,
                 last,
-                bucket,
-                &self.current,
-                self.skipped,
-                count,
-            );
+                whole: false,
+            };
+            return task.count_all(self.current.router(), &self.draining.array);
         }
         self.current.list_len(bucket)
     }

@@ -7,7 +7,7 @@ ghost use Rattle.std.specs.Prelude.{◌≡◌, ◌<◌, ◌≤◌, ◌^◌, None
 
 use crate::Table;
 use scc_buckets::Place;
-use scc_buckets::place::{bucket_index, tag};
+use scc_buckets::place::tag;
 use scc_common::Keyed;
 use std::hash::{BuildHasher, Hash};
 
@@ -59,7 +59,10 @@ where
         let count = self.current.bucket_count();
         let bucket = self.current.bucket_at(hash);
         if self.draining.waiting[bucket] {
-            let source = bucket_index(hash, self.skipped, self.draining.array.len());
+            let source = self
+                .current
+                .router()
+                .bucket(hash, self.draining.array.len());
             return match self.draining.array.search(source, key, tag(hash)) {
                 Some(slot) => Place {
                     bucket: count + source,
@@ -95,7 +98,10 @@ where
     {
         let bucket = self.current.bucket_at(hash);
         if self.draining.waiting[bucket] {
-            let source = bucket_index(hash, self.skipped, self.draining.array.len());
+            let source = self
+                .current
+                .router()
+                .bucket(hash, self.draining.array.len());
             return self.draining.array.find(source, key, tag(hash));
         }
         self.current.find(hash, key)

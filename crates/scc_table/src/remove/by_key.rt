@@ -9,7 +9,7 @@ ghost use Rattle.std.specs.Prelude.{◌≡◌, ◌<◌, length, []};
 use crate::Table;
 use crate::lookup::search::NOWHERE;
 use scc_buckets::Place;
-use scc_buckets::place::{bucket_index, tag};
+use scc_buckets::place::tag;
 use scc_common::Keyed;
 use std::hash::{BuildHasher, Hash};
 
@@ -119,7 +119,10 @@ where
         requires hashed { hash ≡ key_hash H.BuildHasher H.Hasher.Hasher E.Key.hash_input self.old key.now }
         ensures { SwapTakesFirst E.Key.eq E.key_of (λ e. E.Key.eq key.now (E.key_of e)) self.old self.new result }
     {
-        let source = bucket_index(hash, self.skipped, self.draining.array.len());
+        let source = self
+            .current
+            .router()
+            .bucket(hash, self.draining.array.len());
         match self.draining.array.take_in_slots(source, key, tag(hash)) {
             Some(entry) => {
                 self.draining.left -= 1;

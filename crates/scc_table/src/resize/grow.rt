@@ -1,11 +1,14 @@
 //! The first array, and growths for a new key.
-ghost use Rattle.scc_common.specs.Contents.{bucket_count, key_hash, pending_of};
+ghost use Rattle.scc_buckets.specs.Bounded.{IsListed};
+ghost use Rattle.scc_common.specs.Contents.{bucket_count, key_hash, pending_of, settings_of};
+ghost use Rattle.scc_common.specs.Routing.{bucket_number};
+ghost use Rattle.scc_table.specs.Bounded.{DoublesBelow, GrowsBelow};
 ghost use Rattle.scc_table.specs.Growths.{FindsBucketForNew, GrowsHalfFull};
 ghost use Rattle.scc_table.specs.Installations.{InstallsFirst};
-ghost use Rattle.std.specs.Prelude.{◌≡◌, ◌<◌};
+ghost use Rattle.std.specs.Prelude.{◌≡◌, ◌<◌, ◌≤◌, ◌^◌};
+ghost use Rattle.std.specs.Result.{OnOk};
 
 use crate::Table;
-use scc_buckets::sizes::MOST_BUCKETS;
 use scc_common::Keyed;
 use std::alloc::AllocError;
 use std::hash::{BuildHasher, Hash};
@@ -16,10 +19,19 @@ where
 {
     /// Returns the bucket of `hash`, for an insertion of a new key. Makes the first array if there is none. Doubles the
     /// array if no bucket waits, the bucket holds 32 entries or more, and the table has at least half as many entries
-    /// as slots. Fails only if memory for the first array is refused.
-    pub(crate) fn bucket_for_new(&mut self, hash: u64) -> Result<usize, AllocError>
-        ensures { FindsBucketForNew E.Key.eq E.key_of
-            (key_hash H.BuildHasher H.Hasher.Hasher E.Key.hash_input self.old) self.old hash result self.new }
+    /// as slots and fewer slots than `most`; then every bucket of the new array waits. The array stays if memory for
+    /// the doubling is refused, or if the growth is marked. Fails only if memory for the first array is refused.
+    #[inline(always)]
+    pub fn bucket_for_new(&mut self, hash: u64, most: usize) -> Result<usize, AllocError>
+        requires most { most ≤ 2 ^ 63 }
+        ensures finds { FindsBucketForNew E.Key.eq E.key_of
+            (key_hash H.BuildHasher H.Hasher.Hasher E.Key.hash_input self.old) most self.old hash result self.new }
+        ensures grows { OnOk result (IsListed (λ e. key_hash H.BuildHasher H.Hasher.Hasher E.Key.hash_input self.old
+            (E.key_of e)) self.old → GrowsBelow (λ e. key_hash H.BuildHasher H.Hasher.Hasher E.Key.hash_input self.old
+            (E.key_of e)) most (bucket_number (settings_of self.old).skipped (bucket_count self.old) hash) self.old
+            self.new) }
+        ensures listed { IsListed (λ e. key_hash H.BuildHasher H.Hasher.Hasher E.Key.hash_input self.old (E.key_of e)) self.old
+            → IsListed (λ e. key_hash H.BuildHasher H.Hasher.Hasher E.Key.hash_input self.new (E.key_of e)) self.new }
     {
         if self.bucket_count() == 0 {
             self.install_first()?;
@@ -32,22 +44,29 @@ where
         if self.list_len(bucket) < 32 {
             return Ok(bucket);
         }
-        self.grow();
+        self.grow(most);
         Ok(self.bucket_at(hash))
     }
 
-    /// Doubles the array if the table has at least half as many entries as slots; then every bucket of the new array
-    /// waits. No bucket may wait before. The array stays if it is the greatest, if memory is refused, or if the growth
-    /// is marked. Takes time proportional to the number of buckets.
-    pub(crate) fn grow(&mut self)
+    /// Doubles the array if the table has at least half as many entries as slots and fewer slots than `most`; then
+    /// every bucket of the new array waits. No bucket may wait before. The array stays if memory is refused, or if the
+    /// growth is marked. Takes time proportional to the number of buckets.
+    #[cold]
+    pub(crate) fn grow(&mut self, most: usize)
         requires some { 0 < bucket_count self.old }
         requires not_waiting { pending_of self.old ≡ 0 }
-        ensures { GrowsHalfFull E.Key.eq E.key_of (key_hash H.BuildHasher H.Hasher.Hasher E.Key.hash_input self.old)
-            self.old self.new }
+        requires most { most ≤ 2 ^ 63 }
+        ensures grows { GrowsHalfFull E.Key.eq E.key_of
+            (key_hash H.BuildHasher H.Hasher.Hasher E.Key.hash_input self.old) most self.old self.new }
+        ensures doubles { IsListed (λ e. key_hash H.BuildHasher H.Hasher.Hasher E.Key.hash_input self.old (E.key_of e)) self.old
+            → DoublesBelow (λ e. key_hash H.BuildHasher H.Hasher.Hasher E.Key.hash_input self.old (E.key_of e)) most self.old
+            self.new }
+        ensures listed { IsListed (λ e. key_hash H.BuildHasher H.Hasher.Hasher E.Key.hash_input self.old (E.key_of e)) self.old
+            → IsListed (λ e. key_hash H.BuildHasher H.Hasher.Hasher E.Key.hash_input self.new (E.key_of e)) self.new }
     {
         let count = self.bucket_count();
         let length = self.len();
-        if length < 16 * count || count >= MOST_BUCKETS {
+        if length < 16 * count || 32 * count >= most {
             return;
         }
         if self.is_marked() {

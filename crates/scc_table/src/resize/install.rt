@@ -121,7 +121,6 @@ where
             &mut old,
             bucket,
             overflow,
-            self.skipped,
             flags.as_slice(),
         ) {
             Ok(moved) => {

@@ -80,7 +80,6 @@ where
             &mut self.draining.array,
             bucket,
             aside,
-            self.skipped,
             self.draining.waiting.as_slice(),
         ) {
             Ok(moved) => {

@@ -8,9 +8,8 @@ ghost use Rattle.std.specs.Prelude.{◌≡◌, ◌≤◌, ◌<◌, ◌^◌, ◌+
 
 use crate::Table;
 use scc_buckets::Place;
-use scc_buckets::place::bucket_index;
 use scc_common::Keyed;
-use scc_draining::{end_past, sources, spot_from};
+use scc_draining::{Relocation, end_past, sources};
 use std::hash::{BuildHasher, Hash};
 
 impl<E: Keyed, H: BuildHasher> Table<E, H>
@@ -54,7 +53,8 @@ where
             .draining
             .array
             .entry_at(place.bucket - count, place.slot);
-        bucket_index(self.current.hash(entry.key()), self.skipped, count)
+        let router = self.current.router();
+        router.bucket(router.hash(entry.key()), count)
     }
 
     /// Returns the place of the first entry of `target` from `slot` of `bucket` on, or else of the first entry of a
@@ -129,16 +129,14 @@ where
         let count = self.current.bucket_count();
         let (_, end) = sources(self.draining.array.len(), count, target);
         let last = end_past(end, source);
-        match spot_from(
-            &self.draining.array,
-            source,
-            slot,
-            last,
+        let rest = Relocation {
             target,
-            &self.current,
-            self.skipped,
             count,
-        ) {
+            first: source,
+            last,
+            whole: false,
+        };
+        match rest.spot_from(self.current.router(), &self.draining.array, slot) {
             Some((old, number)) => Some(Place {
                 bucket: count + old,
                 slot: number,

@@ -9,7 +9,7 @@ pub returns-clause-value : goal.returns-clause-value
 returns-clause-value g c =
     let bs = c.self.inside.buckets in
     let len : c.len.result ≡ length bs = search rules in
-    rw (settings-view bs _ c.args.self.now c.self.view_is, count-view bs _ c.args.self.now c.self.view_is) (c.bucket_index.ensures.value ∙ ap (λ n. bucket_number c.self.inside.skipped n c.args.hash) len)
+    rw (settings-view bs _ c.args.self.now c.self.view_is, count-view bs _ c.args.self.now c.self.view_is) (c.bucket.ensures.value ∙ ap (λ n. bucket_number c.self.inside.router.skipped n c.args.hash) len)
 
 pub returns-clause-within : goal.returns-clause-within
 returns-clause-within g c =
@@ -21,4 +21,4 @@ returns-clause-unique g c = rw (entries-view c.self.inside.buckets _ c.args.self
 pub returns-clause-routed : goal.returns-clause-routed
 returns-clause-routed g c =
     rw (settings-view c.self.inside.buckets _ c.args.self.now c.self.view_is)
-    (routed-view (λ e. hash_of g.H.BuildHasher g.H.Hasher.Hasher c.self.inside.hasher (g.E.Key.Hash.hash_input (g.E.Keyed.key_of e))) _ _ c.self.inside.buckets _ c.args.self.now c.self.view_is c.self.invariant.table)
+    (routed-view (λ e. hash_of g.H.BuildHasher g.H.Hasher.Hasher c.self.inside.router.hasher (g.E.Key.Hash.hash_input (g.E.Keyed.key_of e))) _ _ c.self.inside.buckets _ c.args.self.now c.self.view_is c.self.invariant.table)

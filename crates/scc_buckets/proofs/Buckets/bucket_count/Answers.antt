@@ -29,7 +29,7 @@ returns-clause-few g c =
 pub returns-clause-routed : goal.returns-clause-routed
 returns-clause-routed g c =
     rw (settings-view c.self.inside.buckets _ c.args.self.now c.self.view_is)
-    (routed-view (λ e. hash_of g.H.BuildHasher g.H.Hasher.Hasher c.self.inside.hasher (g.E.Key.Hash.hash_input (g.E.Keyed.key_of e))) _ _ c.self.inside.buckets _ c.args.self.now c.self.view_is c.self.invariant.table)
+    (routed-view (λ e. hash_of g.H.BuildHasher g.H.Hasher.Hasher c.self.inside.router.hasher (g.E.Key.Hash.hash_input (g.E.Keyed.key_of e))) _ _ c.self.inside.buckets _ c.args.self.now c.self.view_is c.self.invariant.table)
 
 pub returns-clause-unique : goal.returns-clause-unique
 returns-clause-unique g c = rw (entries-view c.self.inside.buckets _ c.args.self.now c.self.view_is) c.self.invariant.unique

@@ -6,6 +6,5 @@ use Rattle.scc_buckets.proofs.Buckets.bucket_index.Goals as goal
 pub returns : goal.returns
 returns g c =
     let len : c.len.result ≡ length c.self.inside.buckets = search rules in
-    let hashed = rw (settings-view c.self.inside.buckets _ c.args.self.now c.self.view_is) at c.hash.ensures in
     rw (count-view c.self.inside.buckets _ c.args.self.now c.self.view_is, settings-view c.self.inside.buckets _ c.args.self.now c.self.view_is)
-    (c.bucket_index.ensures.value ∙ ap (λ n. bucket_number c.self.inside.skipped n c.hash.result) len ∙ ap (bucket_number c.self.inside.skipped (length c.self.inside.buckets)) hashed)
+    (c.bucket.ensures.value ∙ ap (λ n. bucket_number c.self.inside.router.skipped n c.hash.result) len ∙ ap (bucket_number c.self.inside.router.skipped (length c.self.inside.buckets)) c.hash.ensures)

@@ -13,7 +13,7 @@ destroy_empty-requires g c =
 
 pub invariant_of-self : goal.invariant_of-self
 invariant_of-self g c =
-    rw (c.replace-old.ensures.after, c.none-none.ensures) (kept-none _ _ _ c.self.inside.skipped _ c.self.invariant.few_bits c.self.invariant.small_minimum)
+    rw (c.replace-old.ensures.after, c.none-none.ensures) (kept-none _ _ _ c.self.inside.router.skipped _ c.self.invariant.small_minimum)
 
 pub returns-clause-still : goal.returns-clause-still
 unfolding entries

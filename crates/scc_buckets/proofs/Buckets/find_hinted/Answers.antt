@@ -22,16 +22,16 @@ returns-in-Some g c =
     let bs = c.self.inside.buckets in
     let x = c.in-Some.entry.now in
     let p = λ (e : g.row.E.Denot). g.E.Key.PartialEq.eq c.args.key.now (g.E.Keyed.key_of e) in
-    let one = passing-flat p shelf_entries empty_shelf bs c.bucket_index-bucket.result x c.in-Some.ensures (search rules) in
+    let one = passing-flat p shelf_entries empty_shelf bs c.bucket-bucket.result x c.in-Some.ensures (search rules) in
     ap (find p) (entries-view bs _ c.args.self.now c.self.view_is) ∙ find-passing g.E.Key.PartialEq.eq g.E.Keyed.key_of g.met.E.Key.Eq.laws c.args.key.now _ x c.self.invariant.unique one
 
 pub returns-in-None : goal.returns-in-None
 returns-in-None g c = λ hinted.
     let bs = c.self.inside.buckets in
-    let i = c.bucket_index-bucket.result in
+    let i = c.bucket-bucket.result in
     let p = λ (e : g.row.E.Denot). g.E.Key.PartialEq.eq c.args.key.now (g.E.Keyed.key_of e) in
-    let hash = λ (e : g.row.E.Denot). hash_of g.H.BuildHasher g.H.Hasher.Hasher c.self.inside.hasher (g.E.Key.Hash.hash_input (g.E.Keyed.key_of e)) in
+    let hash = λ (e : g.row.E.Denot). hash_of g.H.BuildHasher g.H.Hasher.Hasher c.self.inside.router.hasher (g.E.Key.Hash.hash_input (g.E.Keyed.key_of e)) in
     let hashed = rw (settings-view bs _ c.args.self.now c.self.view_is) at hinted in
-    let same : HashOf p hash c.args.hint = record { same = λ e w. sym (hashed ∙ ap (hash_of g.H.BuildHasher g.H.Hasher.Hasher c.self.inside.hasher) (g.met.E.Key.Hash.respects_eq c.args.key.now (g.E.Keyed.key_of e) w)) } in
-    let tagged : HasTag p c.tag.result (shelf_of bs i) = rw c.tag.ensures (has_tag p hash c.args.hint c.self.inside.skipped (length bs) i (shelf_of bs i) same (c.self.invariant.table.own i (shelf_of bs i) (search rules) (shelf-at bs i (search rules)))) in
-    ap (find p) (entries-view bs _ c.args.self.now c.self.view_is) ∙ find-own p hash c.args.hint same c.self.inside.skipped bs (λ j l. c.self.invariant.table.own j (shelf_of bs j) l (shelf-at bs j l)) i (search rules) (search rules) ∙ c.in-None.ensures tagged
+    let same : HashOf p hash c.args.hint = record { same = λ e w. sym (hashed ∙ ap (hash_of g.H.BuildHasher g.H.Hasher.Hasher c.self.inside.router.hasher) (g.met.E.Key.Hash.respects_eq c.args.key.now (g.E.Keyed.key_of e) w)) } in
+    let tagged : HasTag p c.tag.result (shelf_of bs i) = rw c.tag.ensures (has_tag p hash c.args.hint c.self.inside.router.skipped (length bs) i (shelf_of bs i) same (c.self.invariant.table.own i (shelf_of bs i) (search rules) (shelf-at bs i (search rules)))) in
+    ap (find p) (entries-view bs _ c.args.self.now c.self.view_is) ∙ find-own p hash c.args.hint same c.self.inside.router.skipped bs (λ j l. c.self.invariant.table.own j (shelf_of bs j) l (shelf-at bs j l)) i (search rules) (search rules) ∙ c.in-None.ensures tagged

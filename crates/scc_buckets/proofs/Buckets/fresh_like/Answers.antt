@@ -9,21 +9,21 @@ pub returns-then-count-eq0-clause-buckets : goal.returns-then-count-eq0-clause-b
 returns-then-count-eq0-clause-buckets g c =
     let bs = c.self.inside.buckets in
     let len : c.len-count.result ≡ length bs = search rules in
-    rw (c.new.ensures.buckets, count-view bs _ c.args.self.now c.self.view_is) (sym c.if-count-eq0.true ∙ len)
+    rw (c.bare.ensures.buckets, count-view bs _ c.args.self.now c.self.view_is) (sym c.if-count-eq0.true ∙ len)
 
 pub returns-then-count-eq0-clause-settings : goal.returns-then-count-eq0-clause-settings
 returns-then-count-eq0-clause-settings g c =
     let bs = c.self.inside.buckets in
     let len : c.len-count.result ≡ length bs = search rules in
     let none : length bs ≡ 0 = sym len ∙ c.if-count-eq0.true in
-    rw (c.new.ensures.settings, settings-view bs _ c.args.self.now c.self.view_is, count-view bs _ c.args.self.now c.self.view_is, none) refl
+    rw (c.bare.ensures.settings, count-view bs _ c.args.self.now c.self.view_is, none) refl
 
 pub invariant_of-result : goal.invariant_of-result
 invariant_of-result g c =
     let bs = c.self.inside.buckets in
     let len : c.len-count.result ≡ length bs = search rules in
     let array = array-of_some (length bs) c.self.invariant.table.sized (λ n. c.if-count-eq0.false (len ∙ n)) in
-    kept-fresh _ _ _ c.self.inside.skipped _ (length bs) 0 0 c.in-Ok.buckets c.in-Ok.ensures.empty (c.in-Ok.ensures.count ∙ len) array c.self.invariant.few_bits (omega (arith, array.most, len)) refl refl
+    kept-fresh _ _ _ c.args.router.skipped _ (length bs) 0 0 c.in-Ok.buckets c.in-Ok.ensures.empty (c.in-Ok.ensures.count ∙ len) array (omega (arith, array.most, len)) refl refl
 
 pub returns-in-Ok-clause-entries : goal.returns-in-Ok-clause-entries
 returns-in-Ok-clause-entries g c = entries-fresh c.in-Ok.buckets _ _ c.in-Ok.ensures.empty
@@ -38,7 +38,7 @@ pub returns-in-Ok-clause-settings : goal.returns-in-Ok-clause-settings
 returns-in-Ok-clause-settings g c =
     let bs = c.self.inside.buckets in
     let len : c.len-count.result ≡ length bs = search rules in
-    rw (settings-view c.in-Ok.buckets _ _ refl, settings-view bs _ c.args.self.now c.self.view_is, count-view bs _ c.args.self.now c.self.view_is, len) refl
+    rw (settings-view c.in-Ok.buckets _ _ refl, count-view bs _ c.args.self.now c.self.view_is, len) refl
 
 pub returns-in-Ok-clause-noted : goal.returns-in-Ok-clause-noted
 unfolding notes_of

@@ -9,8 +9,8 @@ insert_in-requires g c =
     let len : c.len-count.result ≡ length bs = search rules in
     let count = count-view bs _ c.args.self.now c.self.view_is in
     record {
-      within = rw count (omega (arith, len, c.bucket_index-bucket.ensures.within (omega (arith, c.if-count-eq0.false))));
-      routed = rw (settings-view bs _ c.args.self.now c.self.view_is, count) (c.bucket_index-bucket.ensures.value ∙ ap (λ n. bucket_number c.self.inside.skipped n c.hash-hash.result) len);
+      within = rw count (omega (arith, len, c.bucket-bucket.ensures.within (omega (arith, c.if-count-eq0.false))));
+      routed = rw (settings-view bs _ c.args.self.now c.self.view_is, count) (c.bucket-bucket.ensures.value ∙ ap (λ n. bucket_number c.self.inside.router.skipped n c.hash-hash.result) len);
       hashed = search rules;
       absent = search rules;
     }

@@ -27,21 +27,21 @@ insert_reserved-slot-requires-clause-room g c =
 
 pub overflow_add-self : goal.overflow_add-self
 overflow_add-self g c =
-    record { fits = let m = table-bound (λ e. hash_of g.H.BuildHasher g.H.Hasher.Hasher c.self.inside.hasher (g.E.Key.Hash.hash_input (g.E.Keyed.key_of e))) c.self.inside.skipped c.self.inside.length c.self.inside.overflowing c.self.inside.buckets c.self.invariant.table in omega arith }
+    record { fits = let m = table-bound (λ e. hash_of g.H.BuildHasher g.H.Hasher.Hasher c.self.inside.router.hasher (g.E.Key.Hash.hash_input (g.E.Keyed.key_of e))) c.self.inside.router.skipped c.self.inside.length c.self.inside.overflowing c.self.inside.buckets c.self.invariant.table in omega arith }
 
 pub invariant_of-self : goal.invariant_of-self
 invariant_of-self g c =
     let t = c.self.inside in
     let bs = t.buckets in
     let i = c.args.bucket in
-    let f : g.row.E.Denot → ℕ = λ e. hash_of g.H.BuildHasher g.H.Hasher.Hasher t.hasher (g.E.Key.Hash.hash_input (g.E.Keyed.key_of e)) in
+    let f : g.row.E.Denot → ℕ = λ e. hash_of g.H.BuildHasher g.H.Hasher.Hasher t.router.hasher (g.E.Key.Hash.hash_input (g.E.Keyed.key_of e)) in
     let count = count-view bs _ c.args.self.now c.self.view_is in
     let l : i < length bs = rw count at c.requires.new.within in
     let b = shelf_of bs i in
     let at = shelf-at bs i l in
     let hashed = rw (settings-view bs _ c.args.self.now c.self.view_is) at c.requires.new.hashed in
-    let routed : i ≡ bucket_number t.skipped (length bs) (f c.args.entry) =
-    let r = rw (settings-view bs _ c.args.self.now c.self.view_is, count) at c.requires.new.routed in r ∙ ap (bucket_number t.skipped (length bs)) hashed in
+    let routed : i ≡ bucket_number t.router.skipped (length bs) (f c.args.entry) =
+    let r = rw (settings-view bs _ c.args.self.now c.self.view_is, count) at c.requires.new.routed in r ∙ ap (bucket_number t.router.skipped (length bs)) hashed in
     let short : length b.slots < 32 = let here = ap length (list-view bs _ c.args.self.now c.self.view_is i b l at) in omega (arith, here, length-append b.slots b.overflow, c.requires.short) in
     let put = c.insert_reserved-slot.ensures.value in
     let d = shelf_of c.insert_reserved-slot.new.self i in
@@ -49,10 +49,9 @@ invariant_of-self g c =
     let new = stored-slot b d c.args.entry (tag_of (f c.args.entry)) short is in
     let place = sym (slot-entry b c.args.entry 0 short).1 in
     rw (put-own bs i l c.insert_reserved-slot.new.self _ put) record {
-      table = inserted-table f t.skipped t.length t.overflowing i bs c.self.invariant.table _ c.args.self.now c.self.view_is b l at d c.args.entry (length b.slots) new place t.overflowing routed (ap (λ x. t.overflowing + length x.overflow) (sym is)) c.self.invariant.table.few;
-      few_bits = c.self.invariant.few_bits;
+      table = inserted-table f t.router.skipped t.length t.overflowing i bs c.self.invariant.table _ c.args.self.now c.self.view_is b l at d c.args.entry (length b.slots) new place t.overflowing routed (ap (λ x. t.overflowing + length x.overflow) (sym is)) c.self.invariant.table.few;
       small_minimum = c.self.invariant.small_minimum;
-      unique = let u = unique-inserted g.met.E.Key.Eq.laws g.E.Keyed.key_of c.args.entry (entries c.args.self.now) _ (rw (entries-view bs _ c.args.self.now c.self.view_is) c.self.invariant.unique) c.requires.new.absent (inserted-holds f t.skipped t.length t.overflowing i bs c.self.invariant.table _ c.args.self.now c.self.view_is b l at d c.args.entry (length b.slots) new place).same in rw (entries-view (set bs i d) _ _ refl) at u;
+      unique = let u = unique-inserted g.met.E.Key.Eq.laws g.E.Keyed.key_of c.args.entry (entries c.args.self.now) _ (rw (entries-view bs _ c.args.self.now c.self.view_is) c.self.invariant.unique) c.requires.new.absent (inserted-holds f t.router.skipped t.length t.overflowing i bs c.self.invariant.table _ c.args.self.now c.self.view_is b l at d c.args.entry (length b.slots) new place).same in rw (entries-view (set bs i d) _ _ refl) at u;
     }
 
 pub returns-clause-inserts : goal.returns-clause-inserts
@@ -60,7 +59,7 @@ returns-clause-inserts g c =
     let t = c.self.inside in
     let bs = t.buckets in
     let i = c.args.bucket in
-    let f : g.row.E.Denot → ℕ = λ e. hash_of g.H.BuildHasher g.H.Hasher.Hasher t.hasher (g.E.Key.Hash.hash_input (g.E.Keyed.key_of e)) in
+    let f : g.row.E.Denot → ℕ = λ e. hash_of g.H.BuildHasher g.H.Hasher.Hasher t.router.hasher (g.E.Key.Hash.hash_input (g.E.Keyed.key_of e)) in
     let l : i < length bs = rw (count-view bs _ c.args.self.now c.self.view_is) at c.requires.new.within in
     let b = shelf_of bs i in
     let at = shelf-at bs i l in
@@ -74,11 +73,11 @@ returns-clause-inserts g c =
     rw (put-own bs i l c.insert_reserved-slot.new.self _ put) record {
       exact = put-in-list bs _ c.args.self.now c.self.view_is i b l at d c.args.entry _ c.insert_reserved-slot.result (c.self.invariant.table.own i b l at).within new place;
       last = λ bounded. c.insert_reserved-slot.ensures.slot ∙ ap length (sym (slots-are bs _ c.args.self.now c.self.view_is i b l at bounded)) ∙ ap length (sym (list-view bs _ c.args.self.now c.self.view_is i b l at));
-      unique = unique-inserted g.met.E.Key.Eq.laws g.E.Keyed.key_of c.args.entry (entries c.args.self.now) _ (rw (entries-view bs _ c.args.self.now c.self.view_is) c.self.invariant.unique) c.requires.new.absent (inserted-holds f t.skipped t.length t.overflowing i bs c.self.invariant.table _ c.args.self.now c.self.view_is b l at d c.args.entry c.insert_reserved-slot.result new place).same;
+      unique = unique-inserted g.met.E.Key.Eq.laws g.E.Keyed.key_of c.args.entry (entries c.args.self.now) _ (rw (entries-view bs _ c.args.self.now c.self.view_is) c.self.invariant.unique) c.requires.new.absent (inserted-holds f t.router.skipped t.length t.overflowing i bs c.self.invariant.table _ c.args.self.now c.self.view_is b l at d c.args.entry c.insert_reserved-slot.result new place).same;
     }
 
 pub returns-clause-listed : goal.returns-clause-listed
 returns-clause-listed g c =
     λ bounded.
     rw (settings-view c.insert_reserved-slot.new.self _ _ refl)
-    (listed-view (λ e. hash_of g.H.BuildHasher g.H.Hasher.Hasher c.self.inside.hasher (g.E.Key.Hash.hash_input (g.E.Keyed.key_of e))) _ _ c.insert_reserved-slot.new.self _ _ refl (invariant_of-self g c).table bounded)
+    (listed-view (λ e. hash_of g.H.BuildHasher g.H.Hasher.Hasher c.self.inside.router.hasher (g.E.Key.Hash.hash_input (g.E.Keyed.key_of e))) _ _ c.insert_reserved-slot.new.self _ _ refl (invariant_of-self g c).table bounded)

@@ -12,9 +12,8 @@ invariant_of-self g c =
     let at = settings-view c.self.inside.buckets _ c.args.self.now c.self.view_is in
     record {
       table =
-          subst (λ (bs : List (Shelf g.row.E.Denot)). IsBuckets (λ e. hash_of g.H.BuildHasher g.H.Hasher.Hasher c.self.inside.hasher (g.E.Key.Hash.hash_input (g.E.Keyed.key_of e))) c.self.inside.skipped bs c.args.count c.args.overflowing) now
+          subst (λ (bs : List (Shelf g.row.E.Denot)). IsBuckets (λ e. hash_of g.H.BuildHasher g.H.Hasher.Hasher c.self.inside.router.hasher (g.E.Key.Hash.hash_input (g.E.Keyed.key_of e))) c.self.inside.router.skipped bs c.args.count c.args.overflowing) now
           (rw at at c.requires.table);
-      few_bits = c.self.invariant.few_bits;
       small_minimum = c.self.invariant.small_minimum;
       unique = subst (λ (bs : List (Shelf g.row.E.Denot)). IsDistinct g.E.Key.PartialEq.eq (map g.E.Keyed.key_of (flat_map shelf_entries bs))) now c.requires.unique;
     }

@@ -18,7 +18,7 @@ invariant_of-self g c =
     let none = rw (count-view c.self.inside.buckets _ c.args.self.now c.self.view_is) at c.requires in
     let counts = counts-none _ _ _ _ c.self.inside.buckets none c.self.invariant.table in
     rw c.replace-old.ensures.after
-    (kept-fresh _ _ _ _ _ c.buckets_for-count.result c.self.inside.length c.self.inside.overflowing c.in_ok-buckets.buckets c.in_ok-buckets.ensures.empty c.in_ok-buckets.ensures.count c.buckets_for-count.ensures.array c.self.invariant.few_bits c.self.invariant.small_minimum counts.0 counts.1)
+    (kept-fresh _ _ _ _ _ c.buckets_for-count.result c.self.inside.length c.self.inside.overflowing c.in_ok-buckets.buckets c.in_ok-buckets.ensures.empty c.in_ok-buckets.ensures.count c.buckets_for-count.ensures.array c.self.invariant.small_minimum counts.0 counts.1)
 
 pub returns-in_err-buckets : goal.returns-in_err-buckets
 returns-in_err-buckets g c =

@@ -38,10 +38,9 @@ invariant_of-self g c =
     let got = place-get c.args.self.now c.args.place c.requires.within c.replace_at.result (rw here x) in
     let equal = c.requires.same c.replace_at.result got in
     rw c.replace_at.ensures.new record {
-      table = written-table put_whole (λ e. hash_of g.H.BuildHasher g.H.Hasher.Hasher c.self.inside.hasher (g.E.Key.Hash.hash_input (g.E.Keyed.key_of e))) t.skipped t.length t.overflowing c.args.place bs c.self.invariant.table _ c.args.self.now c.self.view_is b l (shelf-at c.self.inside.buckets c.args.place.bucket l) c.replace_at.result x c.args.entry (ap (hash_of g.H.BuildHasher g.H.Hasher.Hasher t.hasher) (g.met.E.Key.Hash.respects_eq (g.E.Keyed.key_of c.args.entry) (g.E.Keyed.key_of c.replace_at.result) equal));
-      few_bits = c.self.invariant.few_bits;
+      table = written-table put_whole (λ e. hash_of g.H.BuildHasher g.H.Hasher.Hasher c.self.inside.router.hasher (g.E.Key.Hash.hash_input (g.E.Keyed.key_of e))) t.router.skipped t.length t.overflowing c.args.place bs c.self.invariant.table _ c.args.self.now c.self.view_is b l (shelf-at c.self.inside.buckets c.args.place.bucket l) c.replace_at.result x c.args.entry (ap (hash_of g.H.BuildHasher g.H.Hasher.Hasher t.router.hasher) (g.met.E.Key.Hash.respects_eq (g.E.Keyed.key_of c.args.entry) (g.E.Keyed.key_of c.replace_at.result) equal));
       small_minimum = c.self.invariant.small_minimum;
-      unique = written-unique put_whole (λ e. hash_of g.H.BuildHasher g.H.Hasher.Hasher c.self.inside.hasher (g.E.Key.Hash.hash_input (g.E.Keyed.key_of e))) t.skipped t.length t.overflowing c.args.place bs c.self.invariant.table _ c.args.self.now c.self.view_is b l (shelf-at c.self.inside.buckets c.args.place.bucket l) c.replace_at.result x c.args.entry c.requires.within (rw here x) g.met.E.Key.Eq.laws g.E.Keyed.key_of equal c.self.invariant.unique;
+      unique = written-unique put_whole (λ e. hash_of g.H.BuildHasher g.H.Hasher.Hasher c.self.inside.router.hasher (g.E.Key.Hash.hash_input (g.E.Keyed.key_of e))) t.router.skipped t.length t.overflowing c.args.place bs c.self.invariant.table _ c.args.self.now c.self.view_is b l (shelf-at c.self.inside.buckets c.args.place.bucket l) c.replace_at.result x c.args.entry c.requires.within (rw here x) g.met.E.Key.Eq.laws g.E.Keyed.key_of equal c.self.invariant.unique;
     }
 
 pub returns-clause-old : goal.returns-clause-old
@@ -64,4 +63,4 @@ returns-clause-new g c =
     let b = (shelf_of c.self.inside.buckets c.args.place.bucket) in
     let here = list-view bs _ c.args.self.now c.self.view_is c.args.place.bucket b l (shelf-at c.self.inside.buckets c.args.place.bucket l) in
     let x = c.replace_at.ensures.old in
-    rw c.replace_at.ensures.new (written-view put_whole (λ e. hash_of g.H.BuildHasher g.H.Hasher.Hasher c.self.inside.hasher (g.E.Key.Hash.hash_input (g.E.Keyed.key_of e))) t.skipped t.length t.overflowing c.args.place bs c.self.invariant.table _ c.args.self.now c.self.view_is b l (shelf-at c.self.inside.buckets c.args.place.bucket l) c.replace_at.result x c.args.entry)
+    rw c.replace_at.ensures.new (written-view put_whole (λ e. hash_of g.H.BuildHasher g.H.Hasher.Hasher c.self.inside.router.hasher (g.E.Key.Hash.hash_input (g.E.Keyed.key_of e))) t.router.skipped t.length t.overflowing c.args.place bs c.self.invariant.table _ c.args.self.now c.self.view_is b l (shelf-at c.self.inside.buckets c.args.place.bucket l) c.replace_at.result x c.args.entry)

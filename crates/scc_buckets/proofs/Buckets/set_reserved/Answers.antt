@@ -6,7 +6,6 @@ use Rattle.scc_buckets.proofs.Buckets.set_reserved.Goals as goal
 pub invariant_of-self : goal.invariant_of-self
 invariant_of-self g c = record {
   table = c.self.invariant.table;
-  few_bits = c.self.invariant.few_bits;
   small_minimum = rw (settings-view c.self.inside.buckets _ c.args.self.now c.self.view_is) at c.requires;
   unique = c.self.invariant.unique;
 }

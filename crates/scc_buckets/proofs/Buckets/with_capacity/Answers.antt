@@ -9,7 +9,7 @@ use Rattle.scc_buckets.proofs.Buckets.with_capacity.Goals as goal
 
 pub invariant_of-result : goal.invariant_of-result
 invariant_of-result g c =
-    kept-fresh _ _ _ c.args.skipped _ c.buckets_for-count.result 0 0 c.in-Ok.buckets c.in-Ok.ensures.empty c.in-Ok.ensures.count c.buckets_for-count.ensures.array c.requires (omega (arith, c.buckets_for-count.ensures.array.most)) refl refl
+    rw c.new-in-Ok.ensures (kept-fresh _ _ _ c.args.skipped _ c.buckets_for-count.result 0 0 c.in-Ok.buckets c.in-Ok.ensures.empty c.in-Ok.ensures.count c.buckets_for-count.ensures.array (omega (arith, c.buckets_for-count.ensures.array.most)) refl refl)
 
 pub returns-in-Ok : goal.returns-in-Ok
 unfolding settings_of notes_of waiting_of
@@ -19,10 +19,10 @@ returns-in-Ok g c =
       listed = (
           let bs = c.in-Ok.buckets in
           let lawful : IsLawful (length bs) = inr (rw c.in-Ok.ensures.count c.buckets_for-count.ensures.array) in
-          (listed-view _ 0 0 bs _ _ refl (table-empty (λ e. hash_of g.H.BuildHasher g.H.Hasher.Hasher c.args.hasher (g.E.Key.Hash.hash_input (g.E.Keyed.key_of e))) c.args.skipped bs c.in-Ok.ensures.empty lawful) (bounded-fresh _ bs _ c.in-Ok.ensures.empty)));
+          rw c.new-in-Ok.ensures (listed-view _ 0 0 bs _ _ refl (table-empty (λ e. hash_of g.H.BuildHasher g.H.Hasher.Hasher c.args.hasher (g.E.Key.Hash.hash_input (g.E.Keyed.key_of e))) c.args.skipped bs c.in-Ok.ensures.empty lawful) (bounded-fresh _ bs _ c.in-Ok.ensures.empty)));
       none = (search rules);
       size = (λ _. rw (count-view c.in-Ok.buckets _ _ refl, c.in-Ok.ensures.count) c.buckets_for-count.ensures.size);
-      settings = (rw (count-view c.in-Ok.buckets _ _ refl, c.in-Ok.ensures.count) refl);
+      settings = (rw (c.new-in-Ok.ensures, count-view c.in-Ok.buckets _ _ refl, c.in-Ok.ensures.count) refl);
       succeeds = (search rules);
       noted = refl;
       waiting = refl;

@@ -6,6 +6,7 @@ use Rattle.scc_common.specs.Hashing.{hash_of}
 use Rattle.scc_common.specs.Routing.{bucket_number}
 use Rattle.scc_table.specs.Bounded.{GrowsBelow, IsPreparedBelow}
 use Rattle.scc_table.proofs.relocations.OneByOne.{pending-is}
+use Rattle.scc_table.proofs.resizes.Installation.{count-up}
 use Rattle.scc_cache.proofs.Caching.{grown-within, state-after}
 use Rattle.scc_cache.specs.Caches.{Cached}
 use Rattle.scc_cache.proofs.Owned.make_room.Goals as goal
@@ -15,14 +16,14 @@ pub invariant_of-self : goal.invariant_of-self
 invariant_of-self g c =
     let h = c.self.invariant in
     let t = c.self.inside.table in
-    let d = c.prepare_within.new.self in
+    let d = c.prepare.new.self in
     let m = c.self.inside.maximum in
-    let r = c.prepare_within.ensures in
-    let within : 32 * bucket_count d ≤ m = elim c.match-prepare_within.branch as (λ _. 32 * bucket_count d ≤ m) [
-      | in-Ok w ↦ grown-within _ t d m _ w.in-Ok.ensures.grows h.power h.least h.within h.minimum
-      | in-Err w ↦ subst (λ z. 32 * bucket_count z ≤ m) (sym w.in-Err.ensures.none.1) h.within
+    let r = c.prepare.ensures in
+    let within : 32 * bucket_count d ≤ m = elim c.match-prepare.branch as (λ _. 32 * bucket_count d ≤ m) [
+      | in-Ok w ↦ grown-within _ t d m _ (w.in-Ok.ensures.grows c.self.invariant.lists) h.power h.least h.within h.minimum
+      | in-Err w ↦ subst (λ z. 32 * bucket_count z ≤ m) (sym w.in-Err.ensures.same) h.within
     ] in
-    state-after g.K.PartialEq.eq _ _ t d m h r.listed r.unique r.settings within
+    state-after g.K.PartialEq.eq _ _ t d m h (r.listed h.lists) r.unique r.settings within
 
 pub returns-in-Some-clause-present : goal.returns-in-Some-clause-present
 returns-in-Some-clause-present g c = λ p there. (refl, refl)
@@ -30,21 +31,21 @@ returns-in-Some-clause-present g c = λ p there. (refl, refl)
 pub returns-in-Some-clause-ok : goal.returns-in-Some-clause-ok
 returns-in-Some-clause-ok g c = λ absent. absurd (let there = c.in-Some.ensures.there.first in let z = sym absent ∙ there in cc)
 
-pub returns-after-prepare_within-clause-present : goal.returns-after-prepare_within-clause-present
-returns-after-prepare_within-clause-present g c = λ p (i, at). absurd (let z = sym c.in-None.ensures.absent ∙ at.first in cc)
+pub returns-after-prepare-clause-present : goal.returns-after-prepare-clause-present
+returns-after-prepare-clause-present g c = λ p (i, at). absurd (let z = sym c.in-None.ensures.absent ∙ at.first in cc)
 
-pub returns-after-prepare_within-clause-ok : goal.returns-after-prepare_within-clause-ok
-returns-after-prepare_within-clause-ok g c =
+pub returns-after-prepare-clause-ok : goal.returns-after-prepare-clause-ok
+returns-after-prepare-clause-ok g c =
     let t = c.self.inside.table in
-    let d = c.prepare_within.new.self in
+    let d = c.prepare.new.self in
     let m = c.self.inside.maximum in
-    let r = c.prepare_within.ensures in
+    let r = c.prepare.ensures in
     let f : g.row.K.Denot → ℕ = (λ k. hash_of g.H.BuildHasher g.H.Hasher.Hasher (settings_of t).hasher (g.K.Hash.hash_input k)) in
-    let listed = subst (λ s. IsListed (λ e. hash_of g.H.BuildHasher g.H.Hasher.Hasher s.hasher (g.K.Hash.hash_input e.0)) d) r.settings r.listed in
-    elim c.match-prepare_within.branch [
+    let listed = subst (λ s. IsListed (λ e. hash_of g.H.BuildHasher g.H.Hasher.Hasher s.hasher (g.K.Hash.hash_input e.0)) d) r.settings (r.listed c.self.invariant.lists) in
+    elim c.match-prepare.branch [
       | in-Ok w ↦ λ absent. rw (w.result-is, ← c.self.view_is) record {
         grows = record {
-          grows = subst (λ h. GrowsBelow (λ e. f e.0) m (bucket_number (settings_of t).skipped (bucket_count t) h) t d) c.hash-hash.ensures w.in-Ok.ensures.grows;
+          grows = subst (λ h. GrowsBelow (λ e. f e.0) m (bucket_number (settings_of t).skipped (bucket_count t) h) t d) c.hash-hash.ensures (w.in-Ok.ensures.grows c.self.invariant.lists);
           listed = listed;
           settings = r.settings;
           maximum = refl;
@@ -53,41 +54,41 @@ returns-after-prepare_within-clause-ok g c =
         marked = r.marked;
         first = λ none. pending-is d ∙ ap (count_by (λ x. x)) (r.first none);
         waiting = r.waiting;
-        all = r.all;
+        all = λ some other. pending-is d ∙ ap (count_by (λ x. x)) (r.all some other) ∙ count-up (bucket_count d);
       }
       | in-Err w ↦ λ absent. rw w.result-is tt
     ]
 
-pub returns-after-prepare_within-clause-err : goal.returns-after-prepare_within-clause-err
-returns-after-prepare_within-clause-err g c =
-    elim c.match-prepare_within.branch [
+pub returns-after-prepare-clause-err : goal.returns-after-prepare-clause-err
+returns-after-prepare-clause-err g c =
+    elim c.match-prepare.branch [
       | in-Ok w ↦ rw w.result-is tt
-      | in-Err w ↦ rw w.result-is (c.in-None.ensures.absent, rw (← c.self.view_is) w.in-Err.ensures.none.0)
+      | in-Err w ↦ rw w.result-is (c.in-None.ensures.absent, rw (← c.self.view_is) w.in-Err.ensures.err)
     ]
 
-pub returns-after-prepare_within-clause-same : goal.returns-after-prepare_within-clause-same
-returns-after-prepare_within-clause-same g c =
+pub returns-after-prepare-clause-same : goal.returns-after-prepare-clause-same
+returns-after-prepare-clause-same g c =
     let m = c.self.inside.maximum in
-    elim c.match-prepare_within.branch [
+    elim c.match-prepare.branch [
       | in-Ok w ↦ rw w.result-is tt
-      | in-Err w ↦ rw (w.result-is, ← c.self.view_is) (ap (λ x. let z : Cached _ _ = record { contents = x; maximum = m } in z) w.in-Err.ensures.none.1)
+      | in-Err w ↦ rw (w.result-is, ← c.self.view_is) (ap (λ x. let z : Cached _ _ = record { contents = x; maximum = m } in z) w.in-Err.ensures.same)
     ]
 
-pub returns-after-prepare_within-clause-settings : goal.returns-after-prepare_within-clause-settings
-returns-after-prepare_within-clause-settings g c = rw (← c.self.view_is) c.prepare_within.ensures.settings
+pub returns-after-prepare-clause-settings : goal.returns-after-prepare-clause-settings
+returns-after-prepare-clause-settings g c = rw (← c.self.view_is) c.prepare.ensures.settings
 
-pub returns-after-prepare_within-clause-maximum : goal.returns-after-prepare_within-clause-maximum
-returns-after-prepare_within-clause-maximum g c = rw (← c.self.view_is) refl
+pub returns-after-prepare-clause-maximum : goal.returns-after-prepare-clause-maximum
+returns-after-prepare-clause-maximum g c = rw (← c.self.view_is) refl
 
-pub returns-after-prepare_within-clause-state : goal.returns-after-prepare_within-clause-state
-returns-after-prepare_within-clause-state g c =
+pub returns-after-prepare-clause-state : goal.returns-after-prepare-clause-state
+returns-after-prepare-clause-state g c =
     let h = c.self.invariant in
     let t = c.self.inside.table in
-    let d = c.prepare_within.new.self in
+    let d = c.prepare.new.self in
     let m = c.self.inside.maximum in
-    let r = c.prepare_within.ensures in
-    let within : 32 * bucket_count d ≤ m = elim c.match-prepare_within.branch as (λ _. 32 * bucket_count d ≤ m) [
-      | in-Ok w ↦ grown-within _ t d m _ w.in-Ok.ensures.grows h.power h.least h.within h.minimum
-      | in-Err w ↦ subst (λ z. 32 * bucket_count z ≤ m) (sym w.in-Err.ensures.none.1) h.within
+    let r = c.prepare.ensures in
+    let within : 32 * bucket_count d ≤ m = elim c.match-prepare.branch as (λ _. 32 * bucket_count d ≤ m) [
+      | in-Ok w ↦ grown-within _ t d m _ (w.in-Ok.ensures.grows c.self.invariant.lists) h.power h.least h.within h.minimum
+      | in-Err w ↦ subst (λ z. 32 * bucket_count z ≤ m) (sym w.in-Err.ensures.same) h.within
     ] in
-    state-after g.K.PartialEq.eq _ _ t d m h r.listed r.unique r.settings within
+    state-after g.K.PartialEq.eq _ _ t d m h (r.listed h.lists) r.unique r.settings within

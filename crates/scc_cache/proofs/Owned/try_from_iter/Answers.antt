@@ -16,17 +16,17 @@ returns-clause-items g c =
       (last.0, (ran.3.0, ran.3.1, last.1)),
       record {
         made = made;
-        empty = c.in_ok-made.ensures.entries;
-        none = λ z. c.in_ok-made.ensures.none (count ∙ z);
-        size = λ l. rw (← count) (c.in_ok-made.ensures.size (rw count l));
-        maximum = rw (← count) c.in_ok-made.ensures.maximum;
-        asked = ap (λ s. s.asked) c.in_ok-made.ensures.settings;
-        reserved = ap (λ s. s.reserved) c.in_ok-made.ensures.settings;
-        skipped = ap (λ s. s.skipped) c.in_ok-made.ensures.settings;
-        noted = c.in_ok-made.ensures.noted;
-        waiting = c.in_ok-made.ensures.waiting;
-        settings = collected-settings g.K.PartialEq.eq hash made _ _ c.in_ok-put_all.ensures;
-        most = collected-maximum g.K.PartialEq.eq hash made _ _ c.in_ok-put_all.ensures;
-        run = rw (← ran.4.0) c.in_ok-put_all.ensures;
+        empty = c.in_ok-made.ensures.made.entries;
+        none = λ z. c.in_ok-made.ensures.made.none (count ∙ z);
+        size = λ l. rw (← count) (c.in_ok-made.ensures.made.size (rw count l));
+        maximum = rw (← count) c.in_ok-made.ensures.made.maximum;
+        asked = ap (λ s. s.asked) c.in_ok-made.ensures.made.settings;
+        reserved = ap (λ s. s.reserved) c.in_ok-made.ensures.made.settings;
+        skipped = ap (λ s. s.skipped) c.in_ok-made.ensures.made.settings;
+        noted = c.in_ok-made.ensures.made.noted;
+        waiting = c.in_ok-made.ensures.made.waiting;
+        settings = collected-settings g.K.PartialEq.eq hash made _ _ c.in_ok-put_all.ensures.puts;
+        most = collected-maximum g.K.PartialEq.eq hash made _ _ c.in_ok-put_all.ensures.puts;
+        run = rw (← ran.4.0) c.in_ok-put_all.ensures.puts;
       },
     )

@@ -1,15 +1,15 @@
 use Rattle.std.proofs.Common.{◌<◌, ◌+◌, ◌∙◌, sym, ap, arith, length, take, length-take}
-use Rattle.scc_common.specs.Contents.{key_hash, list_of}
+use Rattle.scc_common.specs.Contents.{key_hash, list_of, settings_of}
 use Rattle.scc_common.specs.Routing.{bucket_number}
 use Rattle.scc_draining.proofs.Counted.{destined-le, counts-one, counts-none}
 use Rattle.scc_draining.proofs.count.count_destined.Goals as goal
-use Rattle.scc_draining.proofs.count.count_destined.Goals.{then-bucket_index-target, else-bucket_index-target}
+use Rattle.scc_draining.proofs.count.count_destined.Goals.{then-bucket-target, else-bucket-target}
 
 pub overflow_add-found : goal.overflow_add-found
 overflow_add-found g c =
     let hash = λ (e : g.row.E.Denot). key_hash g.H.BuildHasher g.H.Hasher.Hasher g.E.Key.Hash.hash_input c.args.table.now (g.E.Keyed.key_of e) in
     let es = list_of c.args.table.now c.args.bucket in
-    let m = destined-le hash c.args.skipped c.args.count c.args.target (take c.loop-slot.slot es) in
+    let m = destined-le hash (settings_of c.args.table.now).skipped c.args.count c.args.target (take c.loop-slot.slot es) in
     let n = length-take c.loop-slot.slot es in
     omega (arith, c.loop-slot.invariant, c.requires.first)
 
@@ -20,12 +20,12 @@ loop-slot-preserved g c =
     let es = list_of a c.args.bucket in
     let l : c.loop-slot.slot < length es = omega (arith, c.requires.first) in
     let hashed = c.hash-hash.ensures ∙ ap (λ k. key_hash g.H.BuildHasher g.H.Hasher.Hasher g.E.Key.Hash.hash_input a k) c.key.ensures in
-    let number = c.bucket_index.ensures.value ∙ ap (bucket_number c.args.skipped c.args.count) hashed in
-    elim c.if-bucket_index-target.branch [
-      | then-bucket_index-target w ↦
-          let one = counts-one hash c.args.skipped c.args.count c.args.target c.loop-slot.slot es c.entry_in.result.now l c.entry_in.ensures (sym w.if-bucket_index-target.true ∙ number) in
+    let number = rw c.router.ensures at c.bucket.ensures.value ∙ ap (bucket_number (settings_of c.args.table.now).skipped c.args.count) hashed in
+    elim c.if-bucket-target.branch [
+      | then-bucket-target w ↦
+          let one = counts-one hash (settings_of c.args.table.now).skipped c.args.count c.args.target c.loop-slot.slot es c.entry_in.result.now l c.entry_in.ensures (sym w.if-bucket-target.true ∙ number) in
           w.found-is ∙ ap (λ n. n + 1) c.loop-slot.invariant ∙ sym one
-      | else-bucket_index-target w ↦
-          let none = counts-none hash c.args.skipped c.args.count c.args.target c.loop-slot.slot es c.entry_in.result.now l c.entry_in.ensures (λ z. w.if-bucket_index-target.false (number ∙ sym z)) in
+      | else-bucket-target w ↦
+          let none = counts-none hash (settings_of c.args.table.now).skipped c.args.count c.args.target c.loop-slot.slot es c.entry_in.result.now l c.entry_in.ensures (λ z. w.if-bucket-target.false (number ∙ sym z)) in
           w.found-is ∙ c.loop-slot.invariant ∙ sym none
     ]

@@ -1,6 +1,6 @@
 use Rattle.std.proofs.Common.{◌^◌, ◌<◌, ◌∙◌, sym, arith, rules}
 use Rattle.std.proofs.lemmas.Result.{on_ok_weaker, on_err_weaker}
-use Rattle.scc_common.specs.Contents.{bucket_count, key_hash}
+use Rattle.scc_common.specs.Contents.{bucket_count, key_hash, settings_of}
 use Rattle.scc_buckets.specs.Tables.{overflow_in}
 use Rattle.scc_draining.specs.Moves.{IsDrainable}
 use Rattle.scc_draining.proofs.Counted.{short-counted}
@@ -20,14 +20,13 @@ count_coming-coming-requires-clause-drainable g c =
     let all = rw (c.len-before.ensures.count, c.bucket_count-count.ensures.count) at c.sources-first.ensures.joined in
     let two = rw (c.len-before.ensures.count, c.bucket_count-count.ensures.count) at c.sources-first.ensures.doubled in
     let whole = rw (c.len-before.ensures.count, c.bucket_count-count.ensures.count) at c.is_whole-whole.ensures in
-    let drainable : IsDrainable hash c.args.skipped (bucket_count cur) c.args.target first end c.is_whole-whole.result olds = record {
-      bits = c.requires.bits;
-      sources = within-sources hash c.args.skipped (bucket_count cur) c.args.target first end olds c.requires.own c.sources-first.ensures.order last only;
-      joined = whole-joined hash c.args.skipped (bucket_count cur) c.args.target first end olds c.args.waiting.now c.is_whole-whole.result c.requires.own last all two c.requires.not_waiting whole;
+    let drainable : IsDrainable hash (settings_of cur).skipped (bucket_count cur) c.args.target first end c.is_whole-whole.result olds = record {
+      sources = within-sources hash (settings_of cur).skipped (bucket_count cur) c.args.target first end olds c.requires.own c.sources-first.ensures.order last only;
+      joined = whole-joined hash (settings_of cur).skipped (bucket_count cur) c.args.target first end olds c.args.waiting.now c.is_whole-whole.result c.requires.own last all two c.requires.not_waiting whole;
       few = few-each olds c.args.aside c.requires.spilled (let f = c.requires.aside in omega arith);
       own = c.requires.own;
     } in
-    rw c.bucket_count-count.ensures.count drainable
+    rw (c.router.ensures, c.bucket_count-count.ensures.count) drainable
 
 pub move_in-requires-clause-drainable : goal.move_in-requires-clause-drainable
 move_in-requires-clause-drainable g c =
@@ -41,10 +40,9 @@ move_in-requires-clause-drainable g c =
     let all = rw (c.len-before.ensures.count, c.bucket_count-count.ensures.count) at c.sources-first.ensures.joined in
     let two = rw (c.len-before.ensures.count, c.bucket_count-count.ensures.count) at c.sources-first.ensures.doubled in
     let whole = rw (c.len-before.ensures.count, c.bucket_count-count.ensures.count) at c.is_whole-whole.ensures in
-    let drainable : IsDrainable hash c.args.skipped (bucket_count cur) c.args.target first end c.is_whole-whole.result olds = record {
-      bits = c.requires.bits;
-      sources = within-sources hash c.args.skipped (bucket_count cur) c.args.target first end olds c.requires.own c.sources-first.ensures.order last only;
-      joined = whole-joined hash c.args.skipped (bucket_count cur) c.args.target first end olds c.args.waiting.now c.is_whole-whole.result c.requires.own last all two c.requires.not_waiting whole;
+    let drainable : IsDrainable hash (settings_of cur).skipped (bucket_count cur) c.args.target first end c.is_whole-whole.result olds = record {
+      sources = within-sources hash (settings_of cur).skipped (bucket_count cur) c.args.target first end olds c.requires.own c.sources-first.ensures.order last only;
+      joined = whole-joined hash (settings_of cur).skipped (bucket_count cur) c.args.target first end olds c.args.waiting.now c.is_whole-whole.result c.requires.own last all two c.requires.not_waiting whole;
       few = few-each olds c.args.aside c.requires.spilled (let f = c.requires.aside in omega arith);
       own = c.requires.own;
     } in
@@ -66,7 +64,7 @@ pub count_coming-coming-requires-clause-most : goal.count_coming-coming-requires
 count_coming-coming-requires-clause-most g c =
     let hash = λ (e : g.row.E.Denot). key_hash g.H.BuildHasher g.H.Hasher.Hasher g.E.Key.Hash.hash_input c.args.current.now (g.E.Keyed.key_of e) in
     let low : overflow_in c.args.old.now < 2 ^ 62 = omega (arith, c.requires.spilled, c.requires.aside) in
-    let m = most-entry_count hash c.args.skipped c.args.old.now c.requires.sized c.requires.own low in
+    let m = most-entry_count hash (settings_of c.args.current.now).skipped c.args.old.now c.requires.sized c.requires.own low in
     omega arith
 
 pub is_whole-whole-requires-clause-flags : goal.is_whole-whole-requires-clause-flags
@@ -74,7 +72,7 @@ is_whole-whole-requires-clause-flags g c = c.requires.flags ∙ sym c.bucket_cou
 
 pub returns : goal.returns
 returns g c =
-    let exact = rw c.bucket_count-count.ensures.count at c.count_coming-coming.ensures.exact in
+    let exact = rw (c.router.ensures, c.bucket_count-count.ensures.count) at c.count_coming-coming.ensures.exact in
     record {
       ok = (search rules);
       few = (search rules);

@@ -1,4 +1,4 @@
-use Rattle.std.proofs.Common.{rules, subst, ℕ, ◌≡◌}
+use Rattle.std.proofs.Common.{rules, refl, subst, ℕ, ◌≡◌}
 use Rattle.scc_common.specs.Contents.{Contents, entries}
 use Rattle.scc_common.specs.Steps.{Prepares}
 use Rattle.scc_table.specs.Marks.{MarksPreparation}
@@ -21,35 +21,35 @@ for_hash {E} {K} {S} {hash} {key} {m} {n} e room = subst (λ x. Prepares hash ke
 marks_for : {E K S : Type 0} {hash : K → ℕ} {key : E → K} {m n : Contents E S} {h i : ℕ} → h ≡ i → MarksPreparation hash key m h n → MarksPreparation hash key m i n
 marks_for {E} {K} {S} {hash} {key} {m} {n} e marks = subst (λ x. MarksPreparation hash key m x n) e marks
 
-pub returns-after-make_room-clause-present : goal.returns-after-make_room-clause-present
-returns-after-make_room-clause-present g c =
+pub returns-after-prepare-clause-present : goal.returns-after-prepare-clause-present
+returns-after-prepare-clause-present g c =
     let none = g.met.E.Stored.lawful.missing (g.E.Key.PartialEq.eq c.args.k.now) (entries c.self.inside.table) c.in-None.ensures.place in
     rw (← c.self.view_is, none) (λ there. absurd (search rules))
 
-pub returns-after-make_room-clause-ok : goal.returns-after-make_room-clause-ok
-returns-after-make_room-clause-ok g c =
-    elim c.match-make_room.branch [
-      | in-Ok w ↦ λ _. rw (w.result-is, ← c.self.view_is) (for_hash c.hash-hash.ensures w.in-Ok.ensures.ok)
+pub returns-after-prepare-clause-ok : goal.returns-after-prepare-clause-ok
+returns-after-prepare-clause-ok g c =
+    elim c.match-prepare.branch [
+      | in-Ok w ↦ λ _. rw (w.result-is, ← c.self.view_is) (for_hash c.hash-hash.ensures (w.in-Ok.ensures.ok refl))
       | in-Err w ↦ λ _. rw w.result-is tt
     ]
 
-pub returns-after-make_room-clause-marks : goal.returns-after-make_room-clause-marks
-returns-after-make_room-clause-marks g c = λ _. rw (← c.self.view_is) (marks_for c.hash-hash.ensures c.make_room.ensures.marks)
+pub returns-after-prepare-clause-marks : goal.returns-after-prepare-clause-marks
+returns-after-prepare-clause-marks g c = λ _. rw (← c.self.view_is) (marks_for c.hash-hash.ensures (c.prepare.ensures.marks refl))
 
-pub returns-after-make_room-clause-marked : goal.returns-after-make_room-clause-marked
-returns-after-make_room-clause-marked g c = rw (← c.self.view_is) c.make_room.ensures.marks.marked
+pub returns-after-prepare-clause-marked : goal.returns-after-prepare-clause-marked
+returns-after-prepare-clause-marked g c = rw (← c.self.view_is) c.prepare.ensures.marked
 
-pub returns-after-make_room-clause-err : goal.returns-after-make_room-clause-err
-returns-after-make_room-clause-err g c =
+pub returns-after-prepare-clause-err : goal.returns-after-prepare-clause-err
+returns-after-prepare-clause-err g c =
     let none = g.met.E.Stored.lawful.missing (g.E.Key.PartialEq.eq c.args.k.now) (entries c.self.inside.table) c.in-None.ensures.place in
-    elim c.match-make_room.branch [
+    elim c.match-prepare.branch [
       | in-Ok w ↦ rw w.result-is tt
       | in-Err w ↦ rw (w.result-is, ← c.self.view_is) (none, w.in-Err.ensures.err)
     ]
 
-pub returns-after-make_room-clause-same : goal.returns-after-make_room-clause-same
-returns-after-make_room-clause-same g c =
-    elim c.match-make_room.branch [
+pub returns-after-prepare-clause-same : goal.returns-after-prepare-clause-same
+returns-after-prepare-clause-same g c =
+    elim c.match-prepare.branch [
       | in-Ok w ↦ rw w.result-is tt
       | in-Err w ↦ rw (w.result-is, ← c.self.view_is) w.in-Err.ensures.same
     ]

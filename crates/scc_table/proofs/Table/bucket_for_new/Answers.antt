@@ -3,10 +3,12 @@ use Rattle.std.specs.List.{count_by}
 use Rattle.scc_common.specs.Contents.{HasRoomAt, bucket_count, entries, key_hash, list_of, pending_of, settings_of}
 use Rattle.scc_common.specs.Routing.{bucket_number}
 use Rattle.scc_table.proofs.places.OneList.{count-listed}
+use Rattle.scc_table.proofs.relocations.ShortLists.{listed-none}
+use Rattle.scc_table.proofs.resizes.Below.{grows-waiting}
 use Rattle.scc_table.proofs.Table.bucket_for_new.Goals as goal
 
-pub returns-then-list_len-lt32 : goal.returns-then-list_len-lt32
-returns-then-list_len-lt32 g c =
+pub returns-then-list_len-lt32-clause-finds : goal.returns-then-list_len-lt32-clause-finds
+returns-then-list_len-lt32-clause-finds g c =
     let a = c.args.self.now in
     let i = c.bucket_at-bucket.result in
     let hk = key_hash g.H.BuildHasher g.H.Hasher.Hasher g.E.Key.Hash.hash_input a in
@@ -20,7 +22,7 @@ returns-then-list_len-lt32 g c =
       within = (search rules);
       routed = (search rules);
       still = (search rules);
-      due = (λ due. absurd (due.full (due.array, omega arith)));
+      due = (λ due _. absurd (due.full (due.array, omega arith)));
       raised = (search rules);
       lowered = (search rules);
       down = (search rules);
@@ -32,7 +34,7 @@ returns-then-list_len-lt32 g c =
       all = (search rules);
       lists = (search rules);
       once = (search rules);
-      unmarked = (λ due. absurd (due.full (due.array, omega arith)));
+      unmarked = (λ due _. absurd (due.full (due.array, omega arith)));
       none = (search rules);
       refused = (search rules);
       same = (search rules);
@@ -41,8 +43,8 @@ returns-then-list_len-lt32 g c =
       unique = (search rules);
     }
 
-pub returns : goal.returns
-returns g c =
+pub returns-clause-finds : goal.returns-clause-finds
+returns-clause-finds g c =
     let a = c.args.self.now in
     let i = c.bucket_at-bucket.result in
     let hk = key_hash g.H.BuildHasher g.H.Hasher.Hasher g.E.Key.Hash.hash_input a in
@@ -53,18 +55,18 @@ returns g c =
     record {
       rests = (search rules);
       growth = (search rules);
-      within = (search rules);
+      within = c.bucket_at-2.ensures.within c.grow.ensures.grows.array;
       routed = (search rules);
       still = (λ room. absurd (let r = room.1 in omega arith));
-      due = (λ due. c.grow.ensures.due due.half due.below);
+      due = (λ due below. c.grow.ensures.grows.due due.half below);
       raised = (
           let full : HasRoomAt hk g.E.Keyed.key_of a c.args.hash → ⊥ = λ room. absurd (let r = room.1 in omega arith) in
           let some : 0 < bucket_count a = let z = c.if-bucket_count-eq0.false in let m = c.bucket_count.ensures.count in omega arith in
           let none : pending_of a ≡ 0 = let z = c.if-pending-gt0.false in omega arith in
-          λ low up. let r = c.grow.ensures.raised low up in record { array = some; not_waiting = none; full = full; half = r.0; below = r.1 });
+          λ low up. let r = c.grow.ensures.grows.raised low up in (record { array = some; not_waiting = none; full = full; half = r.0; below = omega (arith, r.1, c.requires.most) }, r.1));
       lowered = (
           let some : 0 < bucket_count c.args.self.now = let z = c.if-bucket_count-eq0.false in let m = c.bucket_count.ensures.count in omega arith in
-          λ up low. (some, c.grow.ensures.lowered up low));
+          λ up low. (some, c.grow.ensures.grows.lowered up low));
       down = (search rules);
       first = (search rules);
       bare = (search rules);
@@ -74,7 +76,7 @@ returns g c =
       all = (search rules);
       lists = (search rules);
       once = (search rules);
-      unmarked = (λ due. c.grow.ensures.unmarked due.half due.below);
+      unmarked = (λ due below. c.grow.ensures.grows.unmarked due.half below);
       none = (search rules);
       refused = (search rules);
       same = (search rules);
@@ -82,7 +84,18 @@ returns g c =
           let full : HasRoomAt hk g.E.Keyed.key_of a c.args.hash → ⊥ = λ room. absurd (let r = room.1 in omega arith) in
           let some : 0 < bucket_count a = let z = c.if-bucket_count-eq0.false in let m = c.bucket_count.ensures.count in omega arith in
           let none : pending_of a ≡ 0 = let z = c.if-pending-gt0.false in omega arith in
-          λ none_due. c.grow.ensures.noted (λ p. none_due record { array = some; not_waiting = none; full = full; half = p.0; below = p.1 }));
+          λ none_due. c.grow.ensures.grows.noted (λ p. none_due record { array = some; not_waiting = none; full = full; half = p.0; below = omega (arith, p.1, c.requires.most) } p.1));
       marked = (search rules);
       unique = (search rules);
     }
+
+pub returns-then-bucket_count-eq0-clause-listed : goal.returns-then-bucket_count-eq0-clause-listed
+returns-then-bucket_count-eq0-clause-listed g c =
+    let r = c.in_ok-install_first.ensures.resized in
+    λ _. listed-none _ c.install_first.new.self r.array r.bounded c.install_first.ensures.bare
+
+pub returns-then-pending-gt0-clause-grows : goal.returns-then-pending-gt0-clause-grows
+returns-then-pending-gt0-clause-grows g c =
+    let some : 0 < bucket_count c.args.self.now = let z = c.if-bucket_count-eq0.false in let m = c.bucket_count.ensures.count in omega arith in
+    let waits : 0 < pending_of c.args.self.now = let z = c.if-pending-gt0.true in omega arith in
+    λ _. grows-waiting _ c.args.most _ c.args.self.now some waits

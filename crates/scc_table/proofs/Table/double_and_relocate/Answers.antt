@@ -45,7 +45,7 @@ pub install_relocating-requires-clause-within : goal.install_relocating-requires
 install_relocating-requires-clause-within g c =
     let n = c.bucket_count-count.result in
     let array = double-array n c.bucket_count-count.ensures.lawful (omega (arith, c.requires.within, c.bucket_count-count.ensures.count)) (omega (arith, c.requires.below, c.bucket_count-count.ensures.count)) in
-    c.bucket_index-bucket.ensures.within (omega (arith, array.least))
+    c.bucket-bucket.ensures.within (omega (arith, array.least))
 
 pub returns-in-Ok : goal.returns-in-Ok
 returns-in-Ok g c =
@@ -55,18 +55,18 @@ returns-in-Ok g c =
     let b = c.install_relocating.new.self in
     let m = c.note.new.self in
     let d = c.relocate_some.new.self in
-    let k = c.bucket_index-bucket.result in
+    let k = c.bucket-bucket.result in
     let hash = λ (e : g.row.E.Denot). key_hash g.H.BuildHasher g.H.Hasher.Hasher g.E.Key.Hash.hash_input a (g.E.Keyed.key_of e) in
     let done = c.in-Ok.ensures in
     let rel = c.relocate_some.ensures in
     let counted : n ≡ bucket_count a = c.bucket_count-count.ensures.count in
-    let l : k < 2 * n = c.bucket_index-bucket.ensures.within (omega (arith, array.least)) in
+    let l : k < 2 * n = c.bucket-bucket.ensures.within (omega (arith, array.least)) in
     let lists = rel.lists ∙ c.note.ensures.lists in
     let settings = rel.settings ∙ c.note.ensures.settings in
     let reg : IsRegrouped hash (2 * n) a d = regrouped-same hash (2 * n) a b d lists settings done.lists in
     let set = settings-seen _ c.self.inside.current c.self.inside.draining.waiting.items c.self.inside.draining.array a c.self.view_is in
-    let s : c.self.inside.skipped ≡ (settings_of a).skipped = c.self.invariant.skips ∙ ap (λ z. z.skipped) (sym set) in
-    let at : k ≡ bucket_number (settings_of a).skipped (2 * n) c.args.hash = c.bucket_index-bucket.ensures.value ∙ ap (λ z. bucket_number z (2 * n) c.args.hash) s in
+    let s : (settings_of c.self.inside.current).skipped ≡ (settings_of a).skipped = ap (λ z. z.skipped) (sym set) in
+    let at : k ≡ bucket_number (settings_of a).skipped (2 * n) c.args.hash = rw c.router.ensures at c.bucket-bucket.ensures.value ∙ ap (λ z. bucket_number z (2 * n) c.args.hash) s in
     record {
       rests = (
           let perm = subst (λ es. IsPermutation (entries a) es) (sym (entries-same b d lists)) done.same in
@@ -86,8 +86,8 @@ returns-in-Ok g c =
           let lists-now = lists-seen _ c.self.inside.current c.self.inside.draining.waiting.items c.self.inside.draining.array a c.self.view_is (not_waiting-flags a c.self.invariant c.self.view_is c.requires.pending) in
           let own : es ≡ list_of c.self.inside.current c.args.place.bucket = list-same c.self.inside.current a lists-now c.args.place.bucket in
           let hashes = λ (s : Settings g.row.H.Denot). let h : g.row.E.Denot → ℕ = λ e. hash_of g.H.BuildHasher g.H.Hasher.Hasher s.hasher (g.E.Key.Hash.hash_input (g.E.Keyed.key_of e)) in h in
-          let few = c.count_destined-slot.ensures ∙ ap (λ xs. length (destined_for (hashes (settings_of c.self.inside.current)) c.self.inside.skipped (2 * n) k (take c.args.place.slot xs))) (sym own)
-          ∙ ap (λ s. length (destined_for (hashes s) c.self.inside.skipped (2 * n) k (take c.args.place.slot es))) (sym set) in
+          let few = c.count_destined-slot.ensures ∙ ap (λ xs. length (destined_for (hashes (settings_of c.self.inside.current)) (settings_of c.self.inside.current).skipped (2 * n) k (take c.args.place.slot xs))) (sym own)
+          ∙ ap (λ s. length (destined_for (hashes s) (settings_of c.self.inside.current).skipped (2 * n) k (take c.args.place.slot es))) (sym set) in
           let slot : c.count_destined-slot.result ≡ length (destined_for hash t (2 * bucket_count a) k (take c.args.place.slot es)) = few ∙ ap (λ z. length (destined_for hash z (2 * n) k (take c.args.place.slot es))) s ∙ ap (λ z. length (destined_for hash t z k (take c.args.place.slot es))) twice in
           ap (slice_get (list_of d k)) slot ∙ stands-after hash a d c.bucket_count-count.ensures.routed c.args.place.bucket c.args.place.slot c.args.hash x.0 x.1 (c.requires.hashed x.0 x.1) k near list);
       routed = (at ∙ ap (λ z. bucket_number (settings_of a).skipped z c.args.hash) (sym reg.count));

@@ -23,7 +23,7 @@ find-requires-clause-bucket g c =
     let i = c.bucket_at-bucket.result in
     let here = flag-read c.self.invariant c.self.view_is c.requires.pending c.bucket_at-bucket.ensures.within c.index.ensures in
     let up : waits_at ws i ≡ true = sym here ∙ c.if-index.true in
-    let lj = source-within c.self.invariant _ up c.len.ensures.count c.bucket_index-source.ensures.within in
+    let lj = source-within c.self.invariant _ up c.len.ensures.count c.bucket-source.ensures.within in
     lj
 
 pub find-requires-clause-tagged : goal.find-requires-clause-tagged
@@ -43,8 +43,8 @@ find-requires-clause-tagged g c =
     let i = c.bucket_at-bucket.result in
     let here = flag-read c.self.invariant c.self.view_is c.requires.pending c.bucket_at-bucket.ensures.within c.index.ensures in
     let up : waits_at ws i ≡ true = sym here ∙ c.if-index.true in
-    let j = c.bucket_index-source.result in
-    let lj = source-within c.self.invariant _ up c.len.ensures.count c.bucket_index-source.ensures.within in
+    let j = c.bucket-source.result in
+    let lj = source-within c.self.invariant _ up c.len.ensures.count c.bucket-source.ensures.within in
     rw c.tag.ensures (has_tag passes hash c.args.hash (settings_of cur).skipped (length olds) j (shelf_of olds j) same (inv.arrays.own.own j lj))
 
 pub returns-then-index : goal.returns-then-index
@@ -65,9 +65,9 @@ returns-then-index g c =
     let within = bucket-within c.self.invariant c.self.view_is c.requires.pending c.bucket_at-bucket.ensures.within in
     let here = flag-read c.self.invariant c.self.view_is c.requires.pending c.bucket_at-bucket.ensures.within c.index.ensures in
     let up : waits_at ws i ≡ true = sym here ∙ c.if-index.true in
-    let j = c.bucket_index-source.result in
-    let lj = source-within c.self.invariant _ up c.len.ensures.count c.bucket_index-source.ensures.within in
-    let source = source-number c.self.invariant _ c.len.ensures.count c.bucket_index-source.ensures.value in
+    let j = c.bucket-source.result in
+    let lj = source-within c.self.invariant _ up c.len.ensures.count c.bucket-source.ensures.within in
+    let source = source-number c.self.invariant _ c.len.ensures.count (rw c.router.ensures at c.bucket-source.ensures.value) in
     let at = c.bucket_at-bucket.ensures.value in
     c.find.ensures ∙ sym (find-draining hash cur ws olds inv.arrays c.bucket_at-bucket.ensures.routed passes c.args.hash i same at within up j lj source) ∙ ap (λ d. find passes (entries d)) c.self.view_is
 

@@ -1,22 +1,27 @@
-use Rattle.std.proofs.Common.{◌∙◌, ◌*◌, inl, inr, replicate, true, sym, ap, subst, arith, rules}
-use Rattle.scc_common.specs.Contents.{key_hash}
-use Rattle.scc_buckets.specs.Pour.{IsRegrouped}
+use Rattle.std.proofs.Common.{◌≡◌, ◌∙◌, ◌*◌, ◌≤◌, inl, inr, replicate, length, true, sym, ap, subst, arith, rules}
+use Rattle.scc_common.specs.Contents.{bucket_count, entries, key_hash, settings_of}
+use Rattle.scc_common.specs.Hashing.{hash_of}
+use Rattle.scc_common.specs.Sizes.{IsBucketCount}
+use Rattle.scc_buckets.specs.Bounded.{IsResized}
+use Rattle.scc_buckets.specs.Pour.{IsRegrouped, destined_for}
 use Rattle.scc_buckets.proofs.Powers.{double-array}
 use Rattle.scc_buckets.proofs.Resizes.{regrouped-resizes}
+use Rattle.scc_table.specs.Bounded.{IsDoublingDue, doubles}
 use Rattle.scc_table.proofs.arrays.SameParts.{count-same, unchanged-same}
+use Rattle.scc_table.proofs.relocations.ShortLists.{listed-anew, listed-later, listed-resized, short-doubled}
 use Rattle.scc_table.proofs.Table.grow.Goals as goal
 
 pub install_fresh-requires-clause-array : goal.install_fresh-requires-clause-array
-install_fresh-requires-clause-array g c = double-array c.bucket_count-count.result c.bucket_count-count.ensures.lawful (omega (arith, c.requires.some, c.bucket_count-count.ensures.count)) (omega arith)
+install_fresh-requires-clause-array g c = double-array c.bucket_count-count.result c.bucket_count-count.ensures.lawful (omega (arith, c.requires.some, c.bucket_count-count.ensures.count)) (omega (arith, c.requires.most))
 
 pub install_fresh-requires-clause-other : goal.install_fresh-requires-clause-other
 install_fresh-requires-clause-other g c = λ e. absurd (omega (arith, c.requires.some, c.bucket_count-count.ensures.count))
 
-pub returns-in-Ok : goal.returns-in-Ok
-returns-in-Ok g c =
+pub returns-in-Ok-clause-grows : goal.returns-in-Ok-clause-grows
+returns-in-Ok-clause-grows g c =
     record {
       rests = (
-          let array = double-array c.bucket_count-count.result c.bucket_count-count.ensures.lawful (omega (arith, c.requires.some, c.bucket_count-count.ensures.count)) (omega arith) in
+          let array = double-array c.bucket_count-count.result c.bucket_count-count.ensures.lawful (omega (arith, c.requires.some, c.bucket_count-count.ensures.count)) (omega (arith, c.requires.most)) in
           inr (
             λ z. let n = c.in-Ok.ensures.lists.count in absurd (omega (arith, c.requires.some, c.bucket_count-count.ensures.count)),
             regrouped-resizes _ (2 * c.bucket_count-count.result) c.args.self.now c.install_fresh.new.self c.in-Ok.ensures.lists c.in-Ok.ensures.same array (λ less. absurd (omega (arith, c.bucket_count-count.ensures.count))),
@@ -40,8 +45,8 @@ returns-in-Ok g c =
       unique = (search rules);
     }
 
-pub returns-in-Err : goal.returns-in-Err
-returns-in-Err g c =
+pub returns-in-Err-clause-grows : goal.returns-in-Err-clause-grows
+returns-in-Err-clause-grows g c =
     record {
       rests = (inl (unchanged-same c.args.self.now c.install_fresh.new.self c.in-Err.ensures.err c.in-Err.ensures.settings));
       growth = (
@@ -63,8 +68,8 @@ returns-in-Err g c =
       unique = (search rules);
     }
 
-pub returns-then-is_marked : goal.returns-then-is_marked
-returns-then-is_marked g c =
+pub returns-then-is_marked-clause-grows : goal.returns-then-is_marked-clause-grows
+returns-then-is_marked-clause-grows g c =
     record {
       rests = (inl (unchanged-same c.args.self.now c.note.new.self c.note.ensures.lists c.note.ensures.settings));
       growth = (
@@ -85,3 +90,41 @@ returns-then-is_marked g c =
       marked = (search rules);
       unique = (search rules);
     }
+
+pub returns-in-Ok-clause-doubles : goal.returns-in-Ok-clause-doubles
+returns-in-Ok-clause-doubles g c =
+    let a = c.args.self.now in
+    let d = c.install_fresh.new.self in
+    let hash = λ (e : g.row.E.Denot). key_hash g.H.BuildHasher g.H.Hasher.Hasher g.E.Key.Hash.hash_input c.args.self.now (g.E.Keyed.key_of e) in
+    let r = c.in-Ok.ensures in
+    let size : bucket_count d ≡ 2 * bucket_count a = r.lists.count ∙ ap (λ n. 2 * n) c.bucket_count-count.ensures.count in
+    let array = double-array c.bucket_count-count.result c.bucket_count-count.ensures.lawful (omega (arith, c.requires.some, c.bucket_count-count.ensures.count)) (omega (arith, c.requires.most)) in
+    let due : IsDoublingDue c.args.most a = record { not_waiting = c.requires.not_waiting; half = omega arith; below = omega arith } in
+    λ listed. doubles due (sym c.is_marked.ensures ∙ c.if-is_marked.false) r.down size record {
+      array = subst IsBucketCount (sym r.lists.count) array;
+      lists = subst (λ n. IsRegrouped hash n a d) (sym r.lists.count) r.lists;
+      bounded = c.install_fresh.ensures.bounded listed.bounded;
+    }
+
+pub returns-in-Ok-clause-listed : goal.returns-in-Ok-clause-listed
+returns-in-Ok-clause-listed g c =
+    let a = c.args.self.now in
+    let d = c.install_fresh.new.self in
+    let hash = λ (e : g.row.E.Denot). key_hash g.H.BuildHasher g.H.Hasher.Hasher g.E.Key.Hash.hash_input c.args.self.now (g.E.Keyed.key_of e) in
+    let r = c.in-Ok.ensures in
+    let size : bucket_count d ≡ 2 * bucket_count a = r.lists.count ∙ ap (λ n. 2 * n) c.bucket_count-count.ensures.count in
+    let array = double-array c.bucket_count-count.result c.bucket_count-count.ensures.lawful (omega (arith, c.requires.some, c.bucket_count-count.ensures.count)) (omega (arith, c.requires.most)) in
+    λ listed.
+    let resized : IsResized hash a d = record {
+      array = subst IsBucketCount (sym r.lists.count) array;
+      lists = subst (λ n. IsRegrouped hash n a d) (sym r.lists.count) r.lists;
+      bounded = c.install_fresh.ensures.bounded listed.bounded;
+    } in
+    listed-anew (λ s (e : g.row.E.Denot). hash_of g.H.BuildHasher g.H.Hasher.Hasher s.hasher (g.E.Key.Hash.hash_input (g.E.Keyed.key_of e))) a d c.install_fresh.ensures.settings
+    (listed-resized hash a d resized (λ i l. subst (λ n. length (destined_for hash (settings_of a).skipped n i (entries a)) ≤ 32) (sym size) (short-doubled hash a listed i)))
+
+pub returns-in-Err-clause-listed : goal.returns-in-Err-clause-listed
+returns-in-Err-clause-listed g c = λ listed. listed-later (λ s (e : g.row.E.Denot). hash_of g.H.BuildHasher g.H.Hasher.Hasher s.hasher (g.E.Key.Hash.hash_input (g.E.Keyed.key_of e))) c.args.self.now c.install_fresh.new.self c.in-Err.ensures.err c.install_fresh.ensures.settings (c.install_fresh.ensures.bounded listed.bounded) listed
+
+pub returns-then-is_marked-clause-listed : goal.returns-then-is_marked-clause-listed
+returns-then-is_marked-clause-listed g c = λ listed. listed-later (λ s (e : g.row.E.Denot). hash_of g.H.BuildHasher g.H.Hasher.Hasher s.hasher (g.E.Key.Hash.hash_input (g.E.Keyed.key_of e))) c.args.self.now c.note.new.self c.note.ensures.lists c.note.ensures.settings (c.note.ensures.spilled ∙ listed.bounded) listed

@@ -1,4 +1,4 @@
-use Rattle.std.proofs.Common.{◌≡◌, ◌∙◌, ◌-◌, ◌≤◌, length, replicate, true, sym, ap, subst, arith, Bool, rules}
+use Rattle.std.proofs.Common.{◌≡◌, ◌∙◌, ◌-◌, ◌≤◌, length, replicate, true, false, sym, ap, subst, arith, Bool, rules}
 use Rattle.std.specs.List.{count_by, range_with_len}
 use Rattle.scc_common.specs.Contents.{HasRoomAt, bucket_count, entries, key_hash, settings_of, waiting_of}
 use Rattle.scc_buckets.specs.Pour.{IsRegrouped}
@@ -10,8 +10,8 @@ use Rattle.scc_table.specs.Relocates.{AreMovedBeside, AreShort, left_after}
 use Rattle.scc_table.specs.TwoArrays.{pending_targets, waits_at}
 use Rattle.scc_table.proofs.relocations.OneByOne.{pending-is}
 use Rattle.scc_table.proofs.resizes.Growth.{grown-spread}
-use Rattle.scc_table.proofs.arrays.SameParts.{if-ok, list-same, on-err, on-ok, pending-same}
-use Rattle.scc_table.proofs.insertions.Room.{once-made}
+use Rattle.scc_table.proofs.arrays.SameParts.{if-err, if-ok, list-same, on-err, on-ok, pending-same}
+use Rattle.scc_table.proofs.insertions.Room.{once-made, rests-kept}
 use Rattle.scc_table.proofs.resizes.Installation.{count-up}
 use Rattle.scc_table.proofs.relocations.Targets.{all-but-two, by-two, targets-all, targets-same}
 use Rattle.scc_table.proofs.Table.insert_after_growth.Goals as goal
@@ -22,79 +22,82 @@ insert_and_relocate-requires g c =
       within = search rules;
       routed = search rules;
       hashed = search rules;
-      absent = absent-permuted _ (entries c.args.self.now) (entries c.bucket_for_new.new.self) (rests-resizes c.args.self.now c.bucket_for_new.new.self c.bucket_for_new.ensures.rests).same c.requires.absent;
+      absent = absent-permuted _ (entries c.args.self.now) (entries c.bucket_for_new.new.self) (rests-resizes c.args.self.now c.bucket_for_new.new.self c.bucket_for_new.ensures.finds.rests).same c.requires.absent;
     }
 
 pub returns-in-Ok : goal.returns-in-Ok
 returns-in-Ok g c =
     let a = c.args.self.now in
     let b = c.bucket_for_new.new.self in
-    let made = c.bucket_for_new.ensures in
+    let made = c.bucket_for_new.ensures.finds in
     let f = c.insert_and_relocate.new.self in
     let n = bucket_count f in
     let same : n ≡ bucket_count b = c.insert_and_relocate.ensures.buckets in
     let hash = λ (e : g.row.E.Denot). key_hash g.H.BuildHasher g.H.Hasher.Hasher g.E.Key.Hash.hash_input a (g.E.Keyed.key_of e) in
     record {
-      ok = (if-ok c.insert_and_relocate.result (λ p i. rests-inserted c.args.self.now c.bucket_for_new.new.self c.insert_and_relocate.new.self c.args.entry (spot_of c.insert_and_relocate.new.self p) c.bucket_for_new.ensures.rests i) c.insert_and_relocate.ensures.ok);
-      err = (search rules);
+      ok = (if-ok c.insert_and_relocate.result (λ p i. rests-inserted c.args.self.now c.bucket_for_new.new.self c.insert_and_relocate.new.self c.args.entry (spot_of c.insert_and_relocate.new.self p) c.bucket_for_new.ensures.finds.rests i) c.insert_and_relocate.ensures.ok);
+      err = (if-err c.insert_and_relocate.result (λ y p. (p.0, rests-kept a b f p.1 made.rests)) c.insert_and_relocate.ensures.err);
       full = (
           on-err c.insert_and_relocate.result
           (λ none room.
           let had : HasRoomAt (key_hash g.H.BuildHasher g.H.Hasher.Hasher g.E.Key.Hash.hash_input c.args.self.now) g.E.Keyed.key_of c.args.self.now c.args.hash = rw c.requires.hashed room in
-          let same = c.bucket_for_new.ensures.still had in
+          let same = c.bucket_for_new.ensures.finds.still had in
           none (rw same room))
           c.insert_and_relocate.ensures.full);
       growth = (search rules);
       due = (
           let hk = key_hash g.H.BuildHasher g.H.Hasher.Hasher g.E.Key.Hash.hash_input a in
           record {
-            doubled = λ due down. c.insert_and_relocate.ensures.buckets ∙ c.bucket_for_new.ensures.due (subst (IsGrowthDue hk g.E.Keyed.key_of a) (sym c.requires.hashed) due) (sym (ap (λ (x : Bool × Bool). x.0) c.insert_and_relocate.ensures.refused) ∙ down);
-            raised = λ low up. subst (IsGrowthDue hk g.E.Keyed.key_of a) c.requires.hashed (c.bucket_for_new.ensures.raised low (sym (ap (λ (x : Bool × Bool). x.0) c.insert_and_relocate.ensures.refused) ∙ up));
-            unmarked = λ due. ap (λ (x : Bool × Bool). x.1) c.insert_and_relocate.ensures.refused ∙ c.bucket_for_new.ensures.unmarked (subst (IsGrowthDue hk g.E.Keyed.key_of a) (sym c.requires.hashed) due);
+            doubled = λ due down. c.insert_and_relocate.ensures.buckets ∙ c.bucket_for_new.ensures.finds.due (subst (IsGrowthDue hk g.E.Keyed.key_of a) (sym c.requires.hashed) due) due.below (sym (ap (λ (x : Bool × Bool). x.0) c.insert_and_relocate.ensures.refused) ∙ down);
+            raised = λ low up. subst (IsGrowthDue hk g.E.Keyed.key_of a) c.requires.hashed (c.bucket_for_new.ensures.finds.raised low (sym (ap (λ (x : Bool × Bool). x.0) c.insert_and_relocate.ensures.refused) ∙ up)).0;
+            unmarked = λ due. ap (λ (x : Bool × Bool). x.1) c.insert_and_relocate.ensures.refused ∙ c.bucket_for_new.ensures.finds.unmarked (subst (IsGrowthDue hk g.E.Keyed.key_of a) (sym c.requires.hashed) due) due.below;
             marked = λ up.
                 let still = sym (ap (λ (x : Bool × Bool). x.1) c.insert_and_relocate.ensures.refused) ∙ up in
-                sym (ap (λ (x : Bool × Bool). x.1) (c.bucket_for_new.ensures.marked still)) ∙ still;
+                sym (ap (λ (x : Bool × Bool). x.1) (c.bucket_for_new.ensures.finds.marked still)) ∙ still;
             lowered = λ up low.
                 let f = sym (ap (λ (x : Bool × Bool). x.0) c.insert_and_relocate.ensures.refused) in
-                let r = c.bucket_for_new.ensures.lowered up (f ∙ low) in
+                let r = c.bucket_for_new.ensures.finds.lowered up (f ∙ low) in
                 (r.0, λ e. r.1 (sym c.insert_and_relocate.ensures.buckets ∙ e));
-            down = λ some ne. ap (λ (x : Bool × Bool). x.0) c.insert_and_relocate.ensures.refused ∙ c.bucket_for_new.ensures.down some (λ e. ne (c.insert_and_relocate.ensures.buckets ∙ e));
+            down = λ some ne. ap (λ (x : Bool × Bool). x.0) c.insert_and_relocate.ensures.refused ∙ c.bucket_for_new.ensures.finds.down some (λ e. ne (c.insert_and_relocate.ensures.buckets ∙ e));
           });
-      first = (on-ok c.insert_and_relocate.result (λ h. record { made = λ z. rw c.insert_and_relocate.ensures.buckets (c.in-Ok.ensures.first.made z) }) c.insert_and_relocate.ensures.exact);
+      first = (on-ok c.insert_and_relocate.result (λ h. record { made = λ z. rw c.insert_and_relocate.ensures.buckets (c.in-Ok.ensures.finds.first.made z) }) c.insert_and_relocate.ensures.exact);
       none = (
           on-err c.insert_and_relocate.result
           (λ full none.
-          let bare = c.bucket_for_new.ensures.bare none in
-          absurd (full (omega (arith, c.in-Ok.ensures.within), rw bare (omega arith))))
+          let bare = c.bucket_for_new.ensures.finds.bare none in
+          absurd (full (omega (arith, c.in-Ok.ensures.finds.within), rw bare (omega arith))))
           c.insert_and_relocate.ensures.full);
       kept = (
           λ room.
           let had : HasRoomAt (key_hash g.H.BuildHasher g.H.Hasher.Hasher g.E.Key.Hash.hash_input c.args.self.now) g.E.Keyed.key_of c.args.self.now c.args.hash = rw c.requires.hashed room in
-          c.insert_and_relocate.ensures.buckets ∙ ap bucket_count (c.bucket_for_new.ensures.still had));
+          c.insert_and_relocate.ensures.buckets ∙ ap bucket_count (c.bucket_for_new.ensures.finds.still had));
       once = (
           let hk = key_hash g.H.BuildHasher g.H.Hasher.Hasher g.E.Key.Hash.hash_input a in
           λ ready. c.insert_and_relocate.ensures.buckets ∙ once-made hk g.E.Keyed.key_of a b c.args.hash made.growth (λ had. ap bucket_count (made.still had)) (λ some why. made.once some why) (rw (← c.requires.hashed) at ready));
       fewer = (λ some kept i up. let w = made.waiting some (sym same ∙ kept) in rw (sym w) (c.insert_and_relocate.ensures.fewer i up));
       less = (
           λ some same.
-          let w = c.bucket_for_new.ensures.waiting some (sym c.insert_and_relocate.ensures.buckets ∙ same) in
+          let w = c.bucket_for_new.ensures.finds.waiting some (sym c.insert_and_relocate.ensures.buckets ∙ same) in
           let p = pending-same c.args.self.now c.bucket_for_new.new.self w in
           omega (arith, c.insert_and_relocate.ensures.less));
       most = (
           λ some same.
-          let w = c.bucket_for_new.ensures.waiting some (sym c.insert_and_relocate.ensures.buckets ∙ same) in
+          let w = c.bucket_for_new.ensures.finds.waiting some (sym c.insert_and_relocate.ensures.buckets ∙ same) in
           let p = pending-same c.args.self.now c.bucket_for_new.new.self w in
           omega (arith, c.insert_and_relocate.ensures.most));
       grown = (
           λ some ne.
           let b = c.bucket_for_new.new.self in
-          let p = pending-is b ∙ ap (count_by (λ w. w)) (c.bucket_for_new.ensures.all some (λ z. ne (c.insert_and_relocate.ensures.buckets ∙ z))) ∙ count-up (bucket_count b) in
+          let p = pending-is b ∙ ap (count_by (λ w. w)) (c.bucket_for_new.ensures.finds.all some (λ z. ne (c.insert_and_relocate.ensures.buckets ∙ z))) ∙ count-up (bucket_count b) in
           omega (arith, c.insert_and_relocate.ensures.most, c.insert_and_relocate.ensures.buckets));
       array = (
           λ none.
-          let p = pending-is c.bucket_for_new.new.self ∙ ap (count_by (λ w. w)) (c.bucket_for_new.ensures.not_waiting none) in
+          let p = pending-is c.bucket_for_new.new.self ∙ ap (count_by (λ w. w)) (c.bucket_for_new.ensures.finds.not_waiting none) in
           omega (arith, c.insert_and_relocate.ensures.less));
-      not_waiting = (search rules);
+      not_waiting = (
+          let settings = (rests-resizes a b made.rests).settings in
+          let at = c.in-Ok.ensures.finds.routed ∙ ap (λ s. bucket_number s.skipped (bucket_count b) c.args.hash) settings ∙ ap (λ m. bucket_number (settings_of a).skipped m c.args.hash) (sym same) in
+          on-ok c.insert_and_relocate.result (subst (λ i. waits_at (waiting_of f) i ≡ false) at) c.insert_and_relocate.ensures.not_waiting);
       exact = (
           on-ok c.insert_and_relocate.result
           (λ h some same short.
@@ -103,7 +106,7 @@ returns-in-Ok g c =
           let after : AreShort b = record { short = λ k up. subst (λ z. length z ≤ 32) (sym (list-same a b (made.stays some e) k)) (short.short k (ap (λ v. waits_at v k) (sym w) ∙ up)) } in
           let settings = (rests-resizes a b made.rests).settings in
           h after ∙ ap (left_after c.in-Ok.bucket) (targets-same a b w)
-          ∙ ap (λ i. left_after i (pending_targets a)) (c.in-Ok.ensures.routed ∙ ap (λ s. bucket_number s.skipped (bucket_count b) c.args.hash) settings ∙ ap (λ m. bucket_number (settings_of a).skipped m c.args.hash) e))
+          ∙ ap (λ i. left_after i (pending_targets a)) (c.in-Ok.ensures.finds.routed ∙ ap (λ s. bucket_number s.skipped (bucket_count b) c.args.hash) settings ∙ ap (λ m. bucket_number (settings_of a).skipped m c.args.hash) e))
           c.insert_and_relocate.ensures.exact);
       spread = (
           on-ok c.insert_and_relocate.result
@@ -111,7 +114,7 @@ returns-in-Ok g c =
           let other = λ (z : bucket_count b ≡ bucket_count a). ne (same ∙ z) in
           let reg : IsRegrouped hash n a b = subst (λ m. IsRegrouped hash m a b) (sym same) (made.lists some other) in
           let all : waiting_of b ≡ replicate n true = made.all some other ∙ ap (λ m. replicate m true) (sym same) in
-          grown-spread hash n a b f c.args.hash c.in-Ok.bucket reg all c.in-Ok.ensures.routed h)
+          grown-spread hash n a b f c.args.hash c.in-Ok.bucket reg all c.in-Ok.ensures.finds.routed h)
           c.insert_and_relocate.ensures.exact);
       all_but_two = (
           on-ok c.insert_and_relocate.result
@@ -120,7 +123,7 @@ returns-in-Ok g c =
           let reg : IsRegrouped hash n a b = subst (λ m. IsRegrouped hash m a b) (sym same) (made.lists some other) in
           let all : waiting_of b ≡ replicate n true = made.all some other ∙ ap (λ m. replicate m true) (sym same) in
           let twice = made.growth.doubled some other in
-          all-but-two _ n f (omega arith) (grown-spread hash n a b f c.args.hash c.in-Ok.bucket reg all c.in-Ok.ensures.routed h short))
+          all-but-two _ n f (omega arith) (grown-spread hash n a b f c.args.hash c.in-Ok.bucket reg all c.in-Ok.ensures.finds.routed h short))
           c.insert_and_relocate.ensures.exact);
       by_two = (
           on-ok c.insert_and_relocate.result
@@ -135,7 +138,7 @@ returns-in-Ok g c =
           (λ h some same.
           let e : bucket_count b ≡ bucket_count a = sym c.insert_and_relocate.ensures.buckets ∙ same in
           let settings = (rests-resizes a b made.rests).settings in
-          let at = c.in-Ok.ensures.routed ∙ ap (λ s. bucket_number s.skipped (bucket_count b) c.args.hash) settings ∙ ap (λ m. bucket_number (settings_of a).skipped m c.args.hash) e in
+          let at = c.in-Ok.ensures.finds.routed ∙ ap (λ s. bucket_number s.skipped (bucket_count b) c.args.hash) settings ∙ ap (λ m. bucket_number (settings_of a).skipped m c.args.hash) e in
           subst (λ i. AreMovedBeside i (pending_targets a) f) at (subst (λ ts. AreMovedBeside c.in-Ok.bucket ts f) (targets-same a b (made.waiting some e)) h))
           c.insert_and_relocate.ensures.moved);
       drained = (
@@ -144,7 +147,7 @@ returns-in-Ok g c =
           let other = λ (z : bucket_count b ≡ bucket_count a). ne (same ∙ z) in
           let all : waiting_of b ≡ replicate n true = made.all some other ∙ ap (λ m. replicate m true) (sym same) in
           let settings = (rests-resizes a b made.rests).settings in
-          let at = c.in-Ok.ensures.routed ∙ ap (λ s. bucket_number s.skipped (bucket_count b) c.args.hash) settings ∙ ap (λ m. bucket_number (settings_of a).skipped m c.args.hash) (sym same) in
+          let at = c.in-Ok.ensures.finds.routed ∙ ap (λ s. bucket_number s.skipped (bucket_count b) c.args.hash) settings ∙ ap (λ m. bucket_number (settings_of a).skipped m c.args.hash) (sym same) in
           subst (λ i. AreMovedBeside i (range_with_len 0 n) f) at (subst (λ ts. AreMovedBeside c.in-Ok.bucket ts f) (targets-all n b all) h))
           c.insert_and_relocate.ensures.moved);
       unique = (search rules);
@@ -166,7 +169,7 @@ returns-in-Err g c =
       less = (search rules);
       most = (search rules);
       grown = (search rules);
-      array = (λ none. pending-is c.bucket_for_new.new.self ∙ ap (count_by (λ w. w)) (c.bucket_for_new.ensures.not_waiting none));
+      array = (λ none. pending-is c.bucket_for_new.new.self ∙ ap (count_by (λ w. w)) (c.bucket_for_new.ensures.finds.not_waiting none));
       not_waiting = (search rules);
       exact = (search rules);
       spread = (search rules);

@@ -74,7 +74,7 @@ invariant_of-self g c =
     let new = c.insert_in.new.self in
     let after : settings_of new ≡ settings_of cur = by-answer c.insert_in.result c.insert_in.ensures.exact c.insert_in.ensures.stays (λ p put. put.settings) (λ z. z.settings) in
     let inner = hash-same g.H.BuildHasher g.H.Hasher.Hasher g.E.Key.Hash.hash_input cur new after in
-    let IsAfter = IsTable g.E.Key.PartialEq.eq g.E.Keyed.key_of hk new (draining_of t.draining) t.skipped in
+    let IsAfter = IsTable g.E.Key.PartialEq.eq g.E.Keyed.key_of hk new (draining_of t.draining) in
     let there : IsAfter = by-answer c.insert_in.result c.insert_in.ensures.exact c.insert_in.ensures.stays
     (λ p put.
     let left : overflow_of new + t.draining.left_overflow < 2 ^ 62 = elim c.if-self-gt0.branch [
@@ -86,9 +86,9 @@ invariant_of-self g c =
           ]
       | else-self-gt0 w ↦ let z = w.if-self-gt0.false in omega (arith, c.insert_in.ensures.few)
     ] in
-    fields-put g.E.Key.PartialEq.eq g.met.E.Key.Eq.laws g.E.Keyed.key_of hk cur (draining_of t.draining) t.skipped inv c.args.self.now view c.args.entry i new p put within down left c.requires.new.absent)
-    (λ z. fields-less g.E.Key.PartialEq.eq g.E.Keyed.key_of hk cur new (draining_of t.draining) t.skipped z.lists (ap (λ s. s.skipped) z.settings) z.spilled inv) in
-    subst (λ (h : g.row.E-Key.Denot → ℕ). IsTable g.E.Key.PartialEq.eq g.E.Keyed.key_of h new (draining_of t.draining) t.skipped) (sym inner) there
+    fields-put g.E.Key.PartialEq.eq g.met.E.Key.Eq.laws g.E.Keyed.key_of hk cur (draining_of t.draining) inv c.args.self.now view c.args.entry i new p put within down left c.requires.new.absent)
+    (λ z. fields-less g.E.Key.PartialEq.eq g.E.Keyed.key_of hk cur new (draining_of t.draining) z.lists (ap (λ s. s.skipped) z.settings) z.spilled inv) in
+    subst (λ (h : g.row.E-Key.Denot → ℕ). IsTable g.E.Key.PartialEq.eq g.E.Keyed.key_of h new (draining_of t.draining)) (sym inner) there
 
 pub returns : goal.returns
 returns g c =

@@ -47,8 +47,8 @@ invariant_of-self g c =
     let inner = hash-same g.H.BuildHasher g.H.Hasher.Hasher g.E.Key.Hash.hash_input cur new put.settings in
     let own = ap length (sym (own-list (λ e. hk (g.E.Keyed.key_of e)) cur t.draining.waiting.items t.draining.array inv.arrays i within down)) ∙ ap (λ d. length (list_of d i)) c.self.view_is in
     let left : overflow_of new + t.draining.left_overflow < 2 ^ 62 = let s = put.short (omega (arith, own, c.requires.short)) in omega (arith, inv.few) in
-    subst (λ (h : g.row.E-Key.Denot → ℕ). IsTable g.E.Key.PartialEq.eq g.E.Keyed.key_of h new (draining_of t.draining) t.skipped) (sym inner)
-    (fields-put g.E.Key.PartialEq.eq g.met.E.Key.Eq.laws g.E.Keyed.key_of hk cur (draining_of t.draining) t.skipped inv c.args.self.now c.self.view_is c.args.entry i new c.insert_with_room.result put within down left c.requires.new.absent)
+    subst (λ (h : g.row.E-Key.Denot → ℕ). IsTable g.E.Key.PartialEq.eq g.E.Keyed.key_of h new (draining_of t.draining)) (sym inner)
+    (fields-put g.E.Key.PartialEq.eq g.met.E.Key.Eq.laws g.E.Keyed.key_of hk cur (draining_of t.draining) inv c.args.self.now c.self.view_is c.args.entry i new c.insert_with_room.result put within down left c.requires.new.absent)
 
 pub returns : goal.returns
 returns g c =

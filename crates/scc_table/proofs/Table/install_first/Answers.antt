@@ -33,8 +33,8 @@ invariant_of-self-2 g c =
     let count = count-seen hash cur ws olds a view inv.arrays.flags in
     let none = no-flags ws (bucket_count cur) inv.arrays.flags (sym count ∙ c.requires) in
     let same = hash-same g.H.BuildHasher g.H.Hasher.Hasher g.E.Key.Hash.hash_input cur new c.install_first.ensures.settings in
-    subst (λ (h : g.row.E-Key.Denot → ℕ). IsTable g.E.Key.PartialEq.eq g.E.Keyed.key_of h new (draining_of t.draining) t.skipped) (sym same)
-    (fields-first g.E.Key.PartialEq.eq g.E.Keyed.key_of hk cur new (draining_of t.draining) t.skipped inv none c.install_first.ensures.settings c.install_first.ensures.still c.in_ok-install_first.ensures.resized.bounded)
+    subst (λ (h : g.row.E-Key.Denot → ℕ). IsTable g.E.Key.PartialEq.eq g.E.Keyed.key_of h new (draining_of t.draining)) (sym same)
+    (fields-first g.E.Key.PartialEq.eq g.E.Keyed.key_of hk cur new (draining_of t.draining) inv none c.install_first.ensures.settings c.install_first.ensures.still c.in_ok-install_first.ensures.resized.bounded)
 
 pub returns : goal.returns
 returns g c =

@@ -60,7 +60,7 @@ move_target-requires-clause-own g c =
     let e = c.install-old.ensures in
     let x = exchanged g.met.E.Key.Eq.laws (λ (s : Settings g.row.H.Denot) (k : g.row.E-Key.Denot). hash_of g.H.BuildHasher g.H.Hasher.Hasher s.hasher (g.E.Key.Hash.hash_input k)) c.self.invariant c.self.view_is r.not_waiting r.empty r.array r.some r.other e.lists e.settings e.spilled e.were e.table in
     let s = begun x in
-    rw s.skips s.arrays.own
+    s.arrays.own
 
 pub move_target-requires-clause-unique : goal.move_target-requires-clause-unique
 move_target-requires-clause-unique g c =
@@ -93,7 +93,7 @@ invariant_of-self g c =
     let takes = c.in-Ok.ensures.ok in
     let later = hash-same g.H.BuildHasher g.H.Hasher.Hasher g.E.Key.Hash.hash_input c.install-old.new.self c.move_target.new.current takes.settings in
     let down : set c.args.flags.items c.args.bucket false ≡ set (replicate c.args.count true) c.args.bucket false = ap (λ w. set w c.args.bucket false) r.flags in
-    rw c.replace-bare.ensures.after (subst (λ (h : g.row.E-Key.Denot → ℕ). IsTable g.E.Key.PartialEq.eq g.E.Keyed.key_of h c.move_target.new.current (record { array = c.move_target.new.old; waiting = set c.args.flags.items c.args.bucket false; pending = c.args.count - 1; next = 0; left = c.install-old.result.1 - c.in-Ok.moved; left_overflow = c.install-old.result.2 }) c.self.inside.skipped) (sym later) (taken-fields x r.within takes down c.in-Ok.ensures.few))
+    rw c.replace-bare.ensures.after (subst (λ (h : g.row.E-Key.Denot → ℕ). IsTable g.E.Key.PartialEq.eq g.E.Keyed.key_of h c.move_target.new.current (record { array = c.move_target.new.old; waiting = set c.args.flags.items c.args.bucket false; pending = c.args.count - 1; next = 0; left = c.install-old.result.1 - c.in-Ok.moved; left_overflow = c.install-old.result.2 })) (sym later) (taken-fields x r.within takes down c.in-Ok.ensures.few))
 
 pub returns-in-Ok : goal.returns-in-Ok
 returns-in-Ok g c =
@@ -118,7 +118,7 @@ returns-in-Ok g c =
       waiting = (waiting-together _ d vs c.replace-bare.new.dest ∙ ap (λ w. set w c.args.bucket false) r.flags ∙ sym (settle-all n c.args.bucket r.array.least r.within));
       noted = (refused-together _ d vs c.replace-bare.new.dest ∙ takes.refused ∙ e.noted ∙ sym (refused-seen _ _ _ _ a c.self.view_is));
       err = (search rules);
-      unique = (rw c.replace-bare.ensures.after (subst (λ (h : g.row.E-Key.Denot → ℕ). IsTable g.E.Key.PartialEq.eq g.E.Keyed.key_of h c.move_target.new.current (record { array = c.move_target.new.old; waiting = set c.args.flags.items c.args.bucket false; pending = c.args.count - 1; next = 0; left = c.install-old.result.1 - c.in-Ok.moved; left_overflow = c.install-old.result.2 }) c.self.inside.skipped) (sym later) (taken-fields x r.within takes down c.in-Ok.ensures.few)).unique);
+      unique = (rw c.replace-bare.ensures.after (subst (λ (h : g.row.E-Key.Denot → ℕ). IsTable g.E.Key.PartialEq.eq g.E.Keyed.key_of h c.move_target.new.current (record { array = c.move_target.new.old; waiting = set c.args.flags.items c.args.bucket false; pending = c.args.count - 1; next = 0; left = c.install-old.result.1 - c.in-Ok.moved; left_overflow = c.install-old.result.2 })) (sym later) (taken-fields x r.within takes down c.in-Ok.ensures.few)).unique);
     }
 
 pub install-bare-requires-clause-table : goal.install-bare-requires-clause-table

@@ -42,12 +42,11 @@ count_all-requires-clause-sources g c =
     let only = rw (c.len.ensures.count, c.bucket_count-count.ensures.count) at c.sources-first.ensures.only in
     let end = rw c.len.ensures.count at c.sources-first.ensures.within in
     let sources = within-sources hash (settings_of cur).skipped (bucket_count cur) i c.sources-first.result.0 c.sources-first.result.1 olds inv.arrays.own c.sources-first.ensures.order end only in
-    rw (c.bucket_count-count.ensures.count, inv.skips) sources
+    rw (c.router.ensures, c.bucket_count-count.ensures.count) sources
 
 pub count_all-requires-clause-own : goal.count_all-requires-clause-own
 count_all-requires-clause-own g c =
-    let inv = c.self.invariant in
-    rw inv.skips inv.arrays.own
+    rw c.router.ensures c.self.invariant.arrays.own
 
 pub count_all-requires-clause-most : goal.count_all-requires-clause-most
 count_all-requires-clause-most g c =
@@ -77,7 +76,7 @@ returns-then-is_waiting-clause-len g c =
     let up = flag-up c.self.invariant _ c.self.view_is (c.is_waiting.ensures.0 c.if-is_waiting.true) in
     let es = flat_map shelf_entries olds in
     let all = waiting-list hash cur ws olds inv.arrays i up (long-flags cur ws i inv.arrays.flags up) in
-    c.count_all.ensures ∙ ap (λ s. length (destined_for hash s c.bucket_count-count.result i es)) inv.skips ∙ ap (λ n. length (destined_for hash (settings_of cur).skipped n i es)) c.bucket_count-count.ensures.count ∙ ap length (sym all)
+    rw c.router.ensures at c.count_all.ensures ∙ ap (λ n. length (destined_for hash (settings_of cur).skipped n i es)) c.bucket_count-count.ensures.count ∙ ap length (sym all)
     ∙ ap (λ d. length (list_of d i)) c.self.view_is
 
 pub list_len-requires : goal.list_len-requires

@@ -13,8 +13,8 @@ invariant_of-self g c =
     let d = c.mark.new.self in
     let hk = key_hash g.H.BuildHasher g.H.Hasher.Hasher g.E.Key.Hash.hash_input t.current in
     let same = hash-same g.H.BuildHasher g.H.Hasher.Hasher g.E.Key.Hash.hash_input t.current d c.mark.ensures.settings in
-    subst (λ (h : g.row.E-Key.Denot → ℕ). IsTable g.E.Key.PartialEq.eq g.E.Keyed.key_of h d (draining_of t.draining) t.skipped) (sym same)
-    (fields-kept g.E.Key.PartialEq.eq g.E.Keyed.key_of hk t.current d (draining_of t.draining) t.skipped c.mark.ensures.lists (ap (λ s. s.skipped) c.mark.ensures.settings) c.mark.ensures.spilled c.self.invariant)
+    subst (λ (h : g.row.E-Key.Denot → ℕ). IsTable g.E.Key.PartialEq.eq g.E.Keyed.key_of h d (draining_of t.draining)) (sym same)
+    (fields-kept g.E.Key.PartialEq.eq g.E.Keyed.key_of hk t.current d (draining_of t.draining) c.mark.ensures.lists (ap (λ s. s.skipped) c.mark.ensures.settings) c.mark.ensures.spilled c.self.invariant)
 
 pub returns : goal.returns
 returns g c =
@@ -30,6 +30,6 @@ returns g c =
       waiting = (waiting-together _ c.mark.new.self t.draining.waiting.items t.draining.array ∙ sym (waiting-seen _ t.current t.draining.waiting.items t.draining.array c.args.self.now c.self.view_is));
       owed = (ap (λ (h : g.row.E-Key.Denot → ℕ). owed_of (together (λ e. h (g.E.Keyed.key_of e)) d t.draining.waiting.items t.draining.array)) same ∙ owed-kept (λ e. hk (g.E.Keyed.key_of e)) t.current d t.draining.waiting.items t.draining.array c.mark.ensures.lists (ap (λ s. s.skipped) c.mark.ensures.settings) ∙ ap owed_of c.self.view_is);
       unique = (
-          let kept = fields-kept g.E.Key.PartialEq.eq g.E.Keyed.key_of hk t.current d (draining_of t.draining) t.skipped c.mark.ensures.lists (ap (λ s. s.skipped) c.mark.ensures.settings) c.mark.ensures.spilled c.self.invariant in
-          (subst (λ (h : g.row.E-Key.Denot → ℕ). IsTable g.E.Key.PartialEq.eq g.E.Keyed.key_of h d (draining_of t.draining) t.skipped) (sym same) kept).unique);
+          let kept = fields-kept g.E.Key.PartialEq.eq g.E.Keyed.key_of hk t.current d (draining_of t.draining) c.mark.ensures.lists (ap (λ s. s.skipped) c.mark.ensures.settings) c.mark.ensures.spilled c.self.invariant in
+          (subst (λ (h : g.row.E-Key.Denot → ℕ). IsTable g.E.Key.PartialEq.eq g.E.Keyed.key_of h d (draining_of t.draining)) (sym same) kept).unique);
     }

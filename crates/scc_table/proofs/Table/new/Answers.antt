@@ -4,9 +4,6 @@ use Rattle.scc_common.specs.Contents.{key_hash}
 use Rattle.scc_table.proofs.arrays.SameParts.{entries-same, count-same, listed-same, hash-same}
 use Rattle.scc_table.proofs.Table.new.Goals as goal
 
-pub over-requires-clause-skips : goal.over-requires-clause-skips
-over-requires-clause-skips g c = sym (ap (λ s. s.skipped) c.new.ensures.settings)
-
 pub returns : goal.returns
 returns g c =
     record {

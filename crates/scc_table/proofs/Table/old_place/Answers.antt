@@ -72,7 +72,7 @@ returns-in-Some g c =
     let within = target-within c.self.invariant _ up in
     let few : c.args.source < length olds = let h = owed-length c.self.invariant _ up c.self.view_is in omega (arith, h, c.requires.source) in
     let p : Place = record { bucket = c.bucket_count-count.result + c.in-Some.old; slot = c.in-Some.number } in
-    let next = next-same hash t.skipped (settings_of cur).skipped c.bucket_count-count.result (bucket_count cur) i olds c.args.source c.args.slot _ _ inv.skips c.bucket_count-count.ensures.count c.in-Some.ensures in
+    let next = next-same hash (settings_of cur).skipped c.bucket_count-count.result (bucket_count cur) i olds c.args.source c.args.slot _ _ c.bucket_count-count.ensures.count (rw c.router.ensures at c.in-Some.ensures) in
     subst (λ d. StandsAt d (spots.index_of_spot d (record { bucket = i; slot = rank_on d i c.args.source c.args.slot })) p) c.self.view_is
     (rank-next hash cur ws olds inv.arrays i up c.args.source c.args.slot _ _ few next p (omega (arith, c.in-Some.old-is, c.bucket_count-count.ensures.count)) (omega (arith, c.in-Some.number-is)))
 
@@ -95,5 +95,5 @@ returns-in-None g c =
     let sources = within-sources hash (settings_of cur).skipped (bucket_count cur) i c.sources-end.result.0 c.sources-end.result.1 olds inv.arrays.own c.sources-end.ensures.order end only in
     let past : c.end_past-last.result ≤ length olds = elim c.end_past-last.ensures.one [ inl e ↦ omega (arith, e, end) | inr e ↦ omega (arith, e, few) ] in
     let more = sources-more hash (settings_of cur).skipped (bucket_count cur) i c.sources-end.result.0 c.sources-end.result.1 c.end_past-last.result olds sources c.end_past-last.ensures.least past in
-    let none = destined-same hash t.skipped (settings_of cur).skipped c.bucket_count-count.result (bucket_count cur) i _ _ inv.skips c.bucket_count-count.ensures.count c.in-None.ensures in
+    let none = destined-same hash (settings_of cur).skipped c.bucket_count-count.result (bucket_count cur) i _ _ c.bucket_count-count.ensures.count (rw c.router.ensures at c.in-None.ensures) in
     subst (λ d. rank_on d i c.args.source c.args.slot ≡ length (list_of d i)) c.self.view_is (rank-end hash cur ws olds inv.arrays i up c.sources-end.result.0 c.end_past-last.result c.args.source c.args.slot few more none)

@@ -8,7 +8,7 @@ use Rattle.scc_table.proofs.Table.over.Goals as goal
 pub invariant_of-result : goal.invariant_of-result
 invariant_of-result g c =
     let hk = key_hash g.H.BuildHasher g.H.Hasher.Hasher g.E.Key.Hash.hash_input c.args.current in
-    rw (c.none.ensures, c.new.ensures.items) (fields-alone g.E.Key.PartialEq.eq g.E.Keyed.key_of hk c.args.current c.args.skipped 0 c.requires.skips c.requires.few_bits (omega (arith, c.allocator-alloc.ensures.few)) c.allocator-alloc.ensures.unique)
+    rw (c.none.ensures, c.new.ensures.items) (fields-alone g.E.Key.PartialEq.eq g.E.Keyed.key_of hk c.args.current 0 (omega (arith, c.allocator-alloc.ensures.few)) c.allocator-alloc.ensures.unique)
 
 pub returns-clause-lists : goal.returns-clause-lists
 returns-clause-lists g c = lists-alone _ c.args.current c.new.result.items c.none.result c.new.ensures.items

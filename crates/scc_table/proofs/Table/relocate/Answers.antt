@@ -29,9 +29,7 @@ pub move_target-requires-clause-multiples : goal.move_target-requires-clause-mul
 move_target-requires-clause-multiples g c = old-multiples c.self.invariant _ (flag-up c.self.invariant _ c.self.view_is c.requires)
 
 pub move_target-requires-clause-own : goal.move_target-requires-clause-own
-move_target-requires-clause-own g c =
-    let inv = c.self.invariant in
-    rw inv.skips inv.arrays.own
+move_target-requires-clause-own g c = c.self.invariant.arrays.own
 
 pub move_target-requires-clause-unique : goal.move_target-requires-clause-unique
 move_target-requires-clause-unique g c = unique-coming c.self.invariant _ (flag-up c.self.invariant _ c.self.view_is c.requires)
@@ -83,8 +81,8 @@ invariant_of-self g c =
     let fewer = one-down ws i l up in
     let none : count_by (λ w. w) (set ws i false) ≡ 0 = omega (arith, fewer, inv.counted, c.if-self-eq0.true) in
     rw (c.clear.ensures.items, c.replace-bare.ensures.after, c.none-none.ensures)
-    (subst (λ (h : g.row.E-Key.Denot → ℕ). IsTable g.E.Key.PartialEq.eq g.E.Keyed.key_of h c.move_target.new.current (record (draining_of t.draining) { array = []; waiting = []; pending = t.draining.pending - 1; left = t.draining.left - c.in-Ok.moved; left_overflow = 0 }) t.skipped) (sym same)
-    (fields-last g.E.Key.PartialEq.eq g.E.Keyed.key_of hk i c.in-Ok.moved cur c.move_target.new.current (draining_of t.draining) c.move_target.new.old t.skipped inv up takes none c.in-Ok.ensures.few))
+    (subst (λ (h : g.row.E-Key.Denot → ℕ). IsTable g.E.Key.PartialEq.eq g.E.Keyed.key_of h c.move_target.new.current (record (draining_of t.draining) { array = []; waiting = []; pending = t.draining.pending - 1; left = t.draining.left - c.in-Ok.moved; left_overflow = 0 })) (sym same)
+    (fields-last g.E.Key.PartialEq.eq g.E.Keyed.key_of hk i c.in-Ok.moved cur c.move_target.new.current (draining_of t.draining) c.move_target.new.old inv up takes none c.in-Ok.ensures.few))
 
 pub invariant_of-self-else-self-eq0 : goal.invariant_of-self-else-self-eq0
 invariant_of-self-else-self-eq0 g c =
@@ -100,8 +98,8 @@ invariant_of-self-else-self-eq0 g c =
     let same = ap (λ s. let h : g.row.E-Key.Denot → ℕ = λ k. hash_of g.H.BuildHasher g.H.Hasher.Hasher s.hasher (g.E.Key.Hash.hash_input k) in h) takes.settings in
     let fewer = one-down ws i l up in
     let some : 0 < count_by (λ w. w) (set ws i false) = omega (arith, fewer, inv.counted, c.if-self-eq0.false) in
-    subst (λ (h : g.row.E-Key.Denot → ℕ). IsTable g.E.Key.PartialEq.eq g.E.Keyed.key_of h c.move_target.new.current (record (draining_of t.draining) { array = c.move_target.new.old; waiting = set ws i false; pending = t.draining.pending - 1; left = t.draining.left - c.in-Ok.moved }) t.skipped) (sym same)
-    (fields-after g.E.Key.PartialEq.eq g.E.Keyed.key_of hk i c.in-Ok.moved cur c.move_target.new.current (draining_of t.draining) (set ws i false) c.move_target.new.old t.skipped inv up takes refl some c.in-Ok.ensures.few)
+    subst (λ (h : g.row.E-Key.Denot → ℕ). IsTable g.E.Key.PartialEq.eq g.E.Keyed.key_of h c.move_target.new.current (record (draining_of t.draining) { array = c.move_target.new.old; waiting = set ws i false; pending = t.draining.pending - 1; left = t.draining.left - c.in-Ok.moved })) (sym same)
+    (fields-after g.E.Key.PartialEq.eq g.E.Keyed.key_of hk i c.in-Ok.moved cur c.move_target.new.current (draining_of t.draining) (set ws i false) c.move_target.new.old inv up takes refl some c.in-Ok.ensures.few)
 
 pub returns-then-self-eq0-clause-ok : goal.returns-then-self-eq0-clause-ok
 returns-then-self-eq0-clause-ok g c =
@@ -159,7 +157,7 @@ returns-in-Err-clause-refused g c =
     let up = flag-up c.self.invariant _ c.self.view_is c.requires in
     let l = up-within ws i up in
     let list = list-coming inv _ up c.self.view_is in
-    let coming = rw inv.skips at c.in-Err.ensures.refused in
+    let coming = c.in-Err.ensures.refused in
     let same = ap length list in
     omega arith
 
@@ -175,7 +173,7 @@ returns-then-self-eq0-clause-bounded g c =
     let up = flag-up c.self.invariant _ c.self.view_is c.requires in
     let list = list-coming inv _ up c.self.view_is in
     let same = ap length list in
-    let short = rw inv.skips at c.in-Ok.ensures.short in
+    let short = c.in-Ok.ensures.short in
     let was = spilled-seen hash cur ws olds c.args.self.now c.self.view_is in
     λ none few.
     let less = short (omega (arith, same, few)) in
@@ -195,7 +193,7 @@ returns-else-self-eq0-clause-bounded g c =
     let up = flag-up c.self.invariant _ c.self.view_is c.requires in
     let list = list-coming inv _ up c.self.view_is in
     let same = ap length list in
-    let short = rw inv.skips at c.in-Ok.ensures.short in
+    let short = c.in-Ok.ensures.short in
     let was = spilled-seen hash cur ws olds c.args.self.now c.self.view_is in
     let takes = c.in-Ok.ensures.ok in
     let left = spilled-le olds c.move_target.new.old takes.count takes.overflow in

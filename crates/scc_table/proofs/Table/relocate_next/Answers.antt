@@ -11,8 +11,6 @@ invariant_of-self g c =
     let flags : waiting_of c.args.self.now ≡ t.draining.waiting.items = ap waiting_of (sym c.self.view_is) ∙ waiting-together _ t.current t.draining.waiting.items t.draining.array in
     record {
       arrays = inv.arrays;
-      skips = inv.skips;
-      few_bits = inv.few_bits;
       counted = inv.counted;
       none = inv.none;
       given_back = inv.given_back;

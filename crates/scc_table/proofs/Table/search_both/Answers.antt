@@ -24,7 +24,7 @@ search-requires-clause-bucket g c =
     let i = c.bucket_at-bucket.result in
     let here = flag-read c.self.invariant c.self.view_is c.requires.pending c.bucket_at-bucket.ensures.within c.index.ensures in
     let up : waits_at ws i ≡ true = sym here ∙ c.if-index.true in
-    let lj = source-within c.self.invariant _ up c.len.ensures.count c.bucket_index-source.ensures.within in
+    let lj = source-within c.self.invariant _ up c.len.ensures.count c.bucket-source.ensures.within in
     lj
 
 pub search-requires-clause-tagged : goal.search-requires-clause-tagged
@@ -44,8 +44,8 @@ search-requires-clause-tagged g c =
     let i = c.bucket_at-bucket.result in
     let here = flag-read c.self.invariant c.self.view_is c.requires.pending c.bucket_at-bucket.ensures.within c.index.ensures in
     let up : waits_at ws i ≡ true = sym here ∙ c.if-index.true in
-    let j = c.bucket_index-source.result in
-    let lj = source-within c.self.invariant _ up c.len.ensures.count c.bucket_index-source.ensures.within in
+    let j = c.bucket-source.result in
+    let lj = source-within c.self.invariant _ up c.len.ensures.count c.bucket-source.ensures.within in
     rw c.tag.ensures (has_tag passes hash c.args.hash (settings_of cur).skipped (length olds) j (shelf_of olds j) same (inv.arrays.own.own j lj))
 
 pub returns-in-Some-clause-found : goal.returns-in-Some-clause-found
@@ -66,9 +66,9 @@ returns-in-Some-clause-found g c =
     let within = bucket-within c.self.invariant c.self.view_is c.requires.pending c.bucket_at-bucket.ensures.within in
     let here = flag-read c.self.invariant c.self.view_is c.requires.pending c.bucket_at-bucket.ensures.within c.index.ensures in
     let up : waits_at ws i ≡ true = sym here ∙ c.if-index.true in
-    let j = c.bucket_index-source.result in
-    let lj = source-within c.self.invariant _ up c.len.ensures.count c.bucket_index-source.ensures.within in
-    let source = source-number c.self.invariant _ c.len.ensures.count c.bucket_index-source.ensures.value in
+    let j = c.bucket-source.result in
+    let lj = source-within c.self.invariant _ up c.len.ensures.count c.bucket-source.ensures.within in
+    let source = source-number c.self.invariant _ c.len.ensures.count (rw c.router.ensures at c.bucket-source.ensures.value) in
     let at = c.bucket_at-bucket.ensures.value in
     let q : Place = record { bucket = c.bucket_count-count.result + j; slot = c.in-Some.slot } in
     λ _. subst (λ d. IsFoundAt passes d q) c.self.view_is (found-old hash cur ws olds inv.arrays c.bucket_at-bucket.ensures.routed passes c.args.hash i same at within up j lj source q (ap (λ n. n + j) c.bucket_count-count.ensures.count) (sym c.in-Some.ensures))
@@ -90,7 +90,7 @@ returns-in-Some-clause-missed g c =
     let within = bucket-within c.self.invariant c.self.view_is c.requires.pending c.bucket_at-bucket.ensures.within in
     let here = flag-read c.self.invariant c.self.view_is c.requires.pending c.bucket_at-bucket.ensures.within c.index.ensures in
     let up : waits_at ws i ≡ true = sym here ∙ c.if-index.true in
-    let lj = source-within c.self.invariant _ up c.len.ensures.count c.bucket_index-source.ensures.within in
+    let lj = source-within c.self.invariant _ up c.len.ensures.count c.bucket-source.ensures.within in
     let most = c.bucket_count-count.ensures.most in
     let old = c.len.ensures.most in
     λ far. absurd (omega (arith, c.len.ensures.count, lj, most, old, far))
@@ -116,9 +116,9 @@ returns-in-None-clause-missed g c =
     let within = bucket-within c.self.invariant c.self.view_is c.requires.pending c.bucket_at-bucket.ensures.within in
     let here = flag-read c.self.invariant c.self.view_is c.requires.pending c.bucket_at-bucket.ensures.within c.index.ensures in
     let up : waits_at ws i ≡ true = sym here ∙ c.if-index.true in
-    let j = c.bucket_index-source.result in
-    let lj = source-within c.self.invariant _ up c.len.ensures.count c.bucket_index-source.ensures.within in
-    let source = source-number c.self.invariant _ c.len.ensures.count c.bucket_index-source.ensures.value in
+    let j = c.bucket-source.result in
+    let lj = source-within c.self.invariant _ up c.len.ensures.count c.bucket-source.ensures.within in
+    let source = source-number c.self.invariant _ c.len.ensures.count (rw c.router.ensures at c.bucket-source.ensures.value) in
     let at = c.bucket_at-bucket.ensures.value in
     λ _. ap (λ d. position passes (entries d)) (sym c.self.view_is) ∙ missed-old hash cur ws olds inv.arrays c.bucket_at-bucket.ensures.routed passes c.args.hash i same at within up j lj source (sym c.in-None.ensures)
 

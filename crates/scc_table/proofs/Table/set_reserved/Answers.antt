@@ -20,8 +20,8 @@ invariant_of-self g c =
     let e = c.set_reserved.ensures in
     let same = hash-like g.H.BuildHasher g.H.Hasher.Hasher g.E.Key.Hash.hash_input t.current d (ap (λ s. s.hasher) e.settings) in
     let skips = ap (λ s. s.skipped) e.settings in
-    subst (λ (h : g.row.E-Key.Denot → ℕ). IsTable g.E.Key.PartialEq.eq g.E.Keyed.key_of h d (draining_of t.draining) t.skipped) (sym same)
-    (fields-kept g.E.Key.PartialEq.eq g.E.Keyed.key_of hk t.current d (draining_of t.draining) t.skipped e.lists skips e.spilled c.self.invariant)
+    subst (λ (h : g.row.E-Key.Denot → ℕ). IsTable g.E.Key.PartialEq.eq g.E.Keyed.key_of h d (draining_of t.draining)) (sym same)
+    (fields-kept g.E.Key.PartialEq.eq g.E.Keyed.key_of hk t.current d (draining_of t.draining) e.lists skips e.spilled c.self.invariant)
 
 pub returns : goal.returns
 returns g c =

@@ -55,7 +55,7 @@ invariant_of-self g c =
     ] in
     let d = c.swap_take_at.new.self in
     let same = ap (λ s. let h : g.row.E-Key.Denot → ℕ = λ k. hash_of g.H.BuildHasher g.H.Hasher.Hasher s.hasher (g.E.Key.Hash.hash_input k) in h) c.swap_take_at.ensures.exact.settings in
-    subst (λ (h : g.row.E-Key.Denot → ℕ). IsTable g.E.Key.PartialEq.eq key h d (draining_of t.draining) t.skipped) (sym same) (own-less_swapped laws inv c.args.place within near d c.swap_take_at.result c.swap_take_at.ensures.entry c.swap_take_at.ensures.exact)
+    subst (λ (h : g.row.E-Key.Denot → ℕ). IsTable g.E.Key.PartialEq.eq key h d (draining_of t.draining)) (sym same) (own-less_swapped laws inv c.args.place within near d c.swap_take_at.result c.swap_take_at.ensures.entry c.swap_take_at.ensures.exact)
 
 pub returns-then-self-eq0 : goal.returns-then-self-eq0
 returns-then-self-eq0 g c =

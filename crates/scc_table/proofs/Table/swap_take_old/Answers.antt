@@ -112,7 +112,7 @@ invariant_of-self g c =
     let laws = g.met.E.Key.Eq.laws in
     let j = p.bucket - n in
     let x = c.swap_remove_at.result in
-    subst (λ ns. IsTable g.E.Key.PartialEq.eq key hk cur (record (draining_of t.draining) { array = ns; left = t.draining.left - 1 }) t.skipped) (sym c.swap_remove_at.ensures.others)
+    subst (λ ns. IsTable g.E.Key.PartialEq.eq key hk cur (record (draining_of t.draining) { array = ns; left = t.draining.left - 1 })) (sym c.swap_remove_at.ensures.others)
     (swap-table laws inv p within j there.0 there.1 x c.swap_remove_at.ensures.entry fewer)
 
 pub returns : goal.returns

@@ -46,7 +46,7 @@ invariant_of-self g c =
     let near : p.bucket < bucket_count cur = omega (arith, count, c.if-place-bucket_count.true, count-seen (λ e. hk (key e)) cur ws olds c.args.self.now view inv.arrays.flags) in
     let d = c.take_in.new.self in
     let same = ap (λ s. let h : g.row.E-Key.Denot → ℕ = λ k. hash_of g.H.BuildHasher g.H.Hasher.Hasher s.hasher (g.E.Key.Hash.hash_input k) in h) c.take_in.ensures.exact.settings in
-    subst (λ (h : g.row.E-Key.Denot → ℕ). IsTable g.E.Key.PartialEq.eq key h d (draining_of t.draining) t.skipped) (sym same) (own-less laws inv c.args.place within near d c.take_in.result c.take_in.ensures.entry c.take_in.ensures.exact)
+    subst (λ (h : g.row.E-Key.Denot → ℕ). IsTable g.E.Key.PartialEq.eq key h d (draining_of t.draining)) (sym same) (own-less laws inv c.args.place within near d c.take_in.result c.take_in.ensures.entry c.take_in.ensures.exact)
 
 pub returns-then-place-bucket_count-clause-entry : goal.returns-then-place-bucket_count-clause-entry
 returns-then-place-bucket_count-clause-entry g c =

@@ -70,7 +70,7 @@ invariant_of-self g c =
     let here = routed-own inv c.args.hash view c.bucket_at-bucket.ensures.value in
     let hash_for = λ (s : Settings g.row.H.Denot) (k : g.row.E-Key.Denot). hash_of g.H.BuildHasher g.H.Hasher.Hasher s.hasher (g.E.Key.Hash.hash_input k) in
     let d = c.take_first.new.self in
-    down-left key passes g.met.E.Key.Eq.laws hash_for cur d (draining_of t.draining) t.skipped inv routed c.args.hash i same here l down c.take_first.result c.take_first.ensures
+    down-left key passes g.met.E.Key.Eq.laws hash_for cur d (draining_of t.draining) inv routed c.args.hash i same here l down c.take_first.result c.take_first.ensures
 
 pub returns-then-not-index : goal.returns-then-not-index
 returns-then-not-index g c =
@@ -101,7 +101,7 @@ returns-then-not-index g c =
     let d = c.take_first.new.self in
     let new = together (λ (e : g.row.E.Denot). hash_for (settings_of d) (key e)) d ws olds in
     subst (λ (z : Contents g.row.E.Denot g.row.H.Denot). SwapTakesFirst g.E.Key.PartialEq.eq key passes z new c.take_first.result) view
-    (down-taken key passes g.met.E.Key.Eq.laws hash_for cur d (draining_of t.draining) t.skipped inv routed c.args.hash i same here l down c.take_first.result c.take_first.ensures)
+    (down-taken key passes g.met.E.Key.Eq.laws hash_for cur d (draining_of t.draining) inv routed c.args.hash i same here l down c.take_first.result c.take_first.ensures)
 
 pub take_from_old-requires-clause-waiting : goal.take_from_old-requires-clause-waiting
 take_from_old-requires-clause-waiting g c =

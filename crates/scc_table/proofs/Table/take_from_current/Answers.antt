@@ -23,7 +23,7 @@ invariant_of-self g c =
     let hash = λ (e : g.row.E.Denot). key_hash g.H.BuildHasher g.H.Hasher.Hasher g.E.Key.Hash.hash_input t.current (g.E.Keyed.key_of e) in
     let hash_for = λ (s : Settings g.row.H.Denot) (k : g.row.E-Key.Denot). hash_of g.H.BuildHasher g.H.Hasher.Hasher s.hasher (g.E.Key.Hash.hash_input k) in
     let none = sym (waiting-together hash t.current t.draining.waiting.items t.draining.array) ∙ ap waiting_of c.self.view_is ∙ c.requires.not_waiting in
-    not_waiting-left g.E.Keyed.key_of passes g.met.E.Key.Eq.laws hash_for t.current c.take_first.new.self (draining_of t.draining) t.skipped c.self.invariant none c.take_first.result c.take_first.ensures
+    not_waiting-left g.E.Keyed.key_of passes g.met.E.Key.Eq.laws hash_for t.current c.take_first.new.self (draining_of t.draining) c.self.invariant none c.take_first.result c.take_first.ensures
 
 pub returns : goal.returns
 returns g c =
@@ -34,4 +34,4 @@ returns g c =
     let none = sym (waiting-together hash t.current t.draining.waiting.items t.draining.array) ∙ ap waiting_of c.self.view_is ∙ c.requires.not_waiting in
     let new = together (λ (e : g.row.E.Denot). key_hash g.H.BuildHasher g.H.Hasher.Hasher g.E.Key.Hash.hash_input c.take_first.new.self (g.E.Keyed.key_of e)) c.take_first.new.self t.draining.waiting.items t.draining.array in
     subst (λ (z : Contents g.row.E.Denot g.row.H.Denot). SwapTakesFirst g.E.Key.PartialEq.eq g.E.Keyed.key_of passes z new c.take_first.result) c.self.view_is
-    (not_waiting-taken g.E.Keyed.key_of passes g.met.E.Key.Eq.laws hash_for t.current c.take_first.new.self (draining_of t.draining) t.skipped c.self.invariant none c.take_first.result c.take_first.ensures)
+    (not_waiting-taken g.E.Keyed.key_of passes g.met.E.Key.Eq.laws hash_for t.current c.take_first.new.self (draining_of t.draining) c.self.invariant none c.take_first.result c.take_first.ensures)

@@ -29,8 +29,8 @@ take_in_slots-requires-clause-bucket g c =
     let set = settings-seen hash cur ws olds now view in
     let i = bucket_number (settings_of now).skipped (bucket_count now) c.args.hash in
     let up : waits_at ws i ≡ true = flag-up inv i view c.requires.waiting in
-    let j = c.bucket_index-source.result in
-    let lj : j < length olds = source-within inv i up c.len.ensures.count c.bucket_index-source.ensures.within in
+    let j = c.bucket-source.result in
+    let lj : j < length olds = source-within inv i up c.len.ensures.count c.bucket-source.ensures.within in
     lj
 
 pub take_in_slots-requires-clause-tagged : goal.take_in_slots-requires-clause-tagged
@@ -51,8 +51,8 @@ take_in_slots-requires-clause-tagged g c =
     let same : HashOf passes hash c.args.hash = record { same = λ e w. sym (hashed ∙ ap (hash_of g.H.BuildHasher g.H.Hasher.Hasher (settings_of cur).hasher) (g.met.E.Key.Hash.respects_eq c.args.key.now (key e) w)) } in
     let i = bucket_number (settings_of now).skipped (bucket_count now) c.args.hash in
     let up : waits_at ws i ≡ true = flag-up inv i view c.requires.waiting in
-    let j = c.bucket_index-source.result in
-    let lj : j < length olds = source-within inv i up c.len.ensures.count c.bucket_index-source.ensures.within in
+    let j = c.bucket-source.result in
+    let lj : j < length olds = source-within inv i up c.len.ensures.count c.bucket-source.ensures.within in
     rw c.tag.ensures (has_tag passes hash c.args.hash (settings_of cur).skipped (length olds) j (shelf_of olds j) same (inv.arrays.own.own j lj))
 
 pub invariant_of-self : goal.invariant_of-self
@@ -75,11 +75,11 @@ invariant_of-self g c =
     let routed = subst (λ d. IsRouted hash d) (sym view) as_now in
     let i = bucket_number (settings_of now).skipped (bucket_count now) c.args.hash in
     let up : waits_at ws i ≡ true = flag-up inv i view c.requires.waiting in
-    let j = c.bucket_index-source.result in
-    let lj : j < length olds = source-within inv i up c.len.ensures.count c.bucket_index-source.ensures.within in
+    let j = c.bucket-source.result in
+    let lj : j < length olds = source-within inv i up c.len.ensures.count c.bucket-source.ensures.within in
     let here = routed-own inv c.args.hash view refl in
     let l = target-within inv i up in
-    let source = source-number inv c.args.hash c.len.ensures.count c.bucket_index-source.ensures.value in
+    let source = source-number inv c.args.hash c.len.ensures.count (rw c.router.ensures at c.bucket-source.ensures.value) in
     let fewer : bucket_count cur < length olds = let shrunk = c.requires.shrunk in omega (arith, shrunk, owed-length inv i up view, count-own inv view) in
     let ds = c.take_in_slots.new.self in
     let took = c.in-Some.ensures in
@@ -102,8 +102,8 @@ may_overflow-requires g c =
     let set = settings-seen hash cur ws olds now view in
     let i = bucket_number (settings_of now).skipped (bucket_count now) c.args.hash in
     let up : waits_at ws i ≡ true = flag-up inv i view c.requires.waiting in
-    let j = c.bucket_index-source.result in
-    let lj : j < length olds = source-within inv i up c.len.ensures.count c.bucket_index-source.ensures.within in
+    let j = c.bucket-source.result in
+    let lj : j < length olds = source-within inv i up c.len.ensures.count c.bucket-source.ensures.within in
     subst (λ (z : List (Shelf g.row.E.Denot)). j < length z) (sym c.in-None.ensures.1) lj
 
 pub returns-then-not-may_overflow : goal.returns-then-not-may_overflow
@@ -126,11 +126,11 @@ returns-then-not-may_overflow g c =
     let routed = subst (λ d. IsRouted hash d) (sym view) as_now in
     let i = bucket_number (settings_of now).skipped (bucket_count now) c.args.hash in
     let up : waits_at ws i ≡ true = flag-up inv i view c.requires.waiting in
-    let j = c.bucket_index-source.result in
-    let lj : j < length olds = source-within inv i up c.len.ensures.count c.bucket_index-source.ensures.within in
+    let j = c.bucket-source.result in
+    let lj : j < length olds = source-within inv i up c.len.ensures.count c.bucket-source.ensures.within in
     let here = routed-own inv c.args.hash view refl in
     let l = target-within inv i up in
-    let source = source-number inv c.args.hash c.len.ensures.count c.bucket_index-source.ensures.value in
+    let source = source-number inv c.args.hash c.len.ensures.count (rw c.router.ensures at c.bucket-source.ensures.value) in
     let ds = c.take_in_slots.new.self in
     let stays : ds ≡ olds = c.in-None.ensures.1 in
     let empty : (shelf_of olds j).overflow ≡ [] = subst (λ (z : List (Shelf g.row.E.Denot)). (shelf_of z j).overflow ≡ []) stays (c.may_overflow.ensures c.if-not-may_overflow.true) in
@@ -152,8 +152,8 @@ take_in_overflow-requires-clause-bucket g c =
     let set = settings-seen hash cur ws olds now view in
     let i = bucket_number (settings_of now).skipped (bucket_count now) c.args.hash in
     let up : waits_at ws i ≡ true = flag-up inv i view c.requires.waiting in
-    let j = c.bucket_index-source.result in
-    let lj : j < length olds = source-within inv i up c.len.ensures.count c.bucket_index-source.ensures.within in
+    let j = c.bucket-source.result in
+    let lj : j < length olds = source-within inv i up c.len.ensures.count c.bucket-source.ensures.within in
     subst (λ (z : List (Shelf g.row.E.Denot)). j < length z) (sym c.in-None.ensures.1) lj
 
 pub invariant_of-self-in-Some-take_in_overflow : goal.invariant_of-self-in-Some-take_in_overflow
@@ -176,11 +176,11 @@ invariant_of-self-in-Some-take_in_overflow g c =
     let routed = subst (λ d. IsRouted hash d) (sym view) as_now in
     let i = bucket_number (settings_of now).skipped (bucket_count now) c.args.hash in
     let up : waits_at ws i ≡ true = flag-up inv i view c.requires.waiting in
-    let j = c.bucket_index-source.result in
-    let lj : j < length olds = source-within inv i up c.len.ensures.count c.bucket_index-source.ensures.within in
+    let j = c.bucket-source.result in
+    let lj : j < length olds = source-within inv i up c.len.ensures.count c.bucket-source.ensures.within in
     let here = routed-own inv c.args.hash view refl in
     let l = target-within inv i up in
-    let source = source-number inv c.args.hash c.len.ensures.count c.bucket_index-source.ensures.value in
+    let source = source-number inv c.args.hash c.len.ensures.count (rw c.router.ensures at c.bucket-source.ensures.value) in
     let fewer : bucket_count cur < length olds = let shrunk = c.requires.shrunk in omega (arith, shrunk, owed-length inv i up view, count-own inv view) in
     let ds = c.take_in_overflow.new.self in
     let took = c.in-Some-take_in_overflow.ensures in
@@ -208,11 +208,11 @@ returns-in-Some g c =
     let routed = subst (λ d. IsRouted hash d) (sym view) as_now in
     let i = bucket_number (settings_of now).skipped (bucket_count now) c.args.hash in
     let up : waits_at ws i ≡ true = flag-up inv i view c.requires.waiting in
-    let j = c.bucket_index-source.result in
-    let lj : j < length olds = source-within inv i up c.len.ensures.count c.bucket_index-source.ensures.within in
+    let j = c.bucket-source.result in
+    let lj : j < length olds = source-within inv i up c.len.ensures.count c.bucket-source.ensures.within in
     let here = routed-own inv c.args.hash view refl in
     let l = target-within inv i up in
-    let source = source-number inv c.args.hash c.len.ensures.count c.bucket_index-source.ensures.value in
+    let source = source-number inv c.args.hash c.len.ensures.count (rw c.router.ensures at c.bucket-source.ensures.value) in
     let fewer : bucket_count cur < length olds = let shrunk = c.requires.shrunk in omega (arith, shrunk, owed-length inv i up view, count-own inv view) in
     let ds = c.take_in_slots.new.self in
     let took = c.in-Some.ensures in
@@ -241,11 +241,11 @@ returns-in-Some-take_in_overflow g c =
     let routed = subst (λ d. IsRouted hash d) (sym view) as_now in
     let i = bucket_number (settings_of now).skipped (bucket_count now) c.args.hash in
     let up : waits_at ws i ≡ true = flag-up inv i view c.requires.waiting in
-    let j = c.bucket_index-source.result in
-    let lj : j < length olds = source-within inv i up c.len.ensures.count c.bucket_index-source.ensures.within in
+    let j = c.bucket-source.result in
+    let lj : j < length olds = source-within inv i up c.len.ensures.count c.bucket-source.ensures.within in
     let here = routed-own inv c.args.hash view refl in
     let l = target-within inv i up in
-    let source = source-number inv c.args.hash c.len.ensures.count c.bucket_index-source.ensures.value in
+    let source = source-number inv c.args.hash c.len.ensures.count (rw c.router.ensures at c.bucket-source.ensures.value) in
     let fewer : bucket_count cur < length olds = let shrunk = c.requires.shrunk in omega (arith, shrunk, owed-length inv i up view, count-own inv view) in
     let ds = c.take_in_overflow.new.self in
     let took = c.in-Some-take_in_overflow.ensures in
@@ -274,11 +274,11 @@ returns-in-None-take_in_overflow g c =
     let routed = subst (λ d. IsRouted hash d) (sym view) as_now in
     let i = bucket_number (settings_of now).skipped (bucket_count now) c.args.hash in
     let up : waits_at ws i ≡ true = flag-up inv i view c.requires.waiting in
-    let j = c.bucket_index-source.result in
-    let lj : j < length olds = source-within inv i up c.len.ensures.count c.bucket_index-source.ensures.within in
+    let j = c.bucket-source.result in
+    let lj : j < length olds = source-within inv i up c.len.ensures.count c.bucket-source.ensures.within in
     let here = routed-own inv c.args.hash view refl in
     let l = target-within inv i up in
-    let source = source-number inv c.args.hash c.len.ensures.count c.bucket_index-source.ensures.value in
+    let source = source-number inv c.args.hash c.len.ensures.count (rw c.router.ensures at c.bucket-source.ensures.value) in
     let ds = c.take_in_overflow.new.self in
     let stays = c.in-None.ensures.1 in
     let missed : position passes (shelf_entries (shelf_of olds j)) ≡ None = subst (λ (z : List (Shelf g.row.E.Denot)). position passes (shelf_entries (shelf_of z j)) ≡ None) stays c.in-None-take_in_overflow.ensures.0 in

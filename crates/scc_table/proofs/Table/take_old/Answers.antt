@@ -98,7 +98,7 @@ invariant_of-self g c =
     let far : bucket_count cur ≤ p.bucket = omega (arith, count-seen (λ e. hk (key e)) cur ws olds c.args.self.now view inv.arrays.flags, c.requires.old) in
     let got = subst (λ n. slice_get (shelf_entries (shelf_of olds (p.bucket - n))) p.slot ≡ Some c.remove_at-entry.result) count c.remove_at-entry.ensures.entry in
     let new = c.remove_at-entry.ensures.others ∙ ap (λ n. let r : List (Shelf g.row.E.Denot) = set olds (p.bucket - n) (without_slot (shelf_of olds (p.bucket - n)) p.slot) in r) count in
-    subst (λ ns. IsTable g.E.Key.PartialEq.eq key hk cur (record (draining_of t.draining) { array = ns; left = t.draining.left - 1 }) t.skipped) (sym new) (old-less laws inv c.args.place within far c.remove_at-entry.result got)
+    subst (λ ns. IsTable g.E.Key.PartialEq.eq key hk cur (record (draining_of t.draining) { array = ns; left = t.draining.left - 1 })) (sym new) (old-less laws inv c.args.place within far c.remove_at-entry.result got)
 
 pub returns-clause-entry : goal.returns-clause-entry
 returns-clause-entry g c =

@@ -92,8 +92,8 @@ returns-clause-value g c =
     let at = old-here c.self.invariant c.args.place c.self.view_is c.requires c.bucket_count-count.result c.bucket_count-count.ensures.count c.if-place-count.false in
     let j = p.bucket - c.bucket_count-count.result in
     let e = c.entry_at-entry.result.now in
-    let hashed = c.hash.ensures ∙ ap (λ k. hk k) c.key.ensures in
-    let number = c.bucket_index.ensures.value ∙ ap (bucket_number t.skipped c.bucket_count-count.result) hashed ∙ ap (λ s. bucket_number s c.bucket_count-count.result (hash e)) inv.skips
+    let hashed = rw c.router-router.ensures at c.hash.ensures ∙ ap (λ k. hk k) c.key.ensures in
+    let number = rw c.router-router.ensures at c.bucket.ensures.value ∙ ap (bucket_number (settings_of cur).skipped c.bucket_count-count.result) hashed
     ∙ ap (λ n. bucket_number (settings_of cur).skipped n (hash e)) c.bucket_count-count.ensures.count in
     number ∙ sym (ap (λ d. (spot_of d p).bucket) (sym c.self.view_is) ∙ ap (λ q. q.bucket) (old-spot hash cur ws olds inv.arrays j p.slot e at.1 c.entry_at-entry.ensures p at.0 (omega arith)))
 
@@ -111,8 +111,8 @@ returns-clause-next g c =
     let at = old-here c.self.invariant c.args.place c.self.view_is c.requires c.bucket_count-count.result c.bucket_count-count.ensures.count c.if-place-count.false in
     let j = p.bucket - c.bucket_count-count.result in
     let e = c.entry_at-entry.result.now in
-    let hashed = c.hash.ensures ∙ ap (λ k. hk k) c.key.ensures in
-    let number = c.bucket_index.ensures.value ∙ ap (bucket_number t.skipped c.bucket_count-count.result) hashed ∙ ap (λ s. bucket_number s c.bucket_count-count.result (hash e)) inv.skips
+    let hashed = rw c.router-router.ensures at c.hash.ensures ∙ ap (λ k. hk k) c.key.ensures in
+    let number = rw c.router-router.ensures at c.bucket.ensures.value ∙ ap (bucket_number (settings_of cur).skipped c.bucket_count-count.result) hashed
     ∙ ap (λ n. bucket_number (settings_of cur).skipped n (hash e)) c.bucket_count-count.ensures.count in
     let next = subst (λ m. NextStart now m p) (sym number) (subst (λ d. NextStart d (bucket_number (settings_of cur).skipped (bucket_count cur) (hash e)) p) c.self.view_is (old-next hash cur ws olds inv.arrays p j p.slot e at.1 c.entry_at-entry.ensures at.0 (omega arith))) in
     next.start
@@ -131,8 +131,8 @@ returns-clause-index g c =
     let at = old-here c.self.invariant c.args.place c.self.view_is c.requires c.bucket_count-count.result c.bucket_count-count.ensures.count c.if-place-count.false in
     let j = p.bucket - c.bucket_count-count.result in
     let e = c.entry_at-entry.result.now in
-    let hashed = c.hash.ensures ∙ ap (λ k. hk k) c.key.ensures in
-    let number = c.bucket_index.ensures.value ∙ ap (bucket_number t.skipped c.bucket_count-count.result) hashed ∙ ap (λ s. bucket_number s c.bucket_count-count.result (hash e)) inv.skips
+    let hashed = rw c.router-router.ensures at c.hash.ensures ∙ ap (λ k. hk k) c.key.ensures in
+    let number = rw c.router-router.ensures at c.bucket.ensures.value ∙ ap (bucket_number (settings_of cur).skipped c.bucket_count-count.result) hashed
     ∙ ap (λ n. bucket_number (settings_of cur).skipped n (hash e)) c.bucket_count-count.ensures.count in
     let next = subst (λ m. NextStart now m p) (sym number) (subst (λ d. NextStart d (bucket_number (settings_of cur).skipped (bucket_count cur) (hash e)) p) c.self.view_is (old-next hash cur ws olds inv.arrays p j p.slot e at.1 c.entry_at-entry.ensures at.0 (omega arith))) in
     next.index
@@ -151,8 +151,8 @@ returns-clause-within g c =
     let at = old-here c.self.invariant c.args.place c.self.view_is c.requires c.bucket_count-count.result c.bucket_count-count.ensures.count c.if-place-count.false in
     let j = p.bucket - c.bucket_count-count.result in
     let e = c.entry_at-entry.result.now in
-    let hashed = c.hash.ensures ∙ ap (λ k. hk k) c.key.ensures in
-    let number = c.bucket_index.ensures.value ∙ ap (bucket_number t.skipped c.bucket_count-count.result) hashed ∙ ap (λ s. bucket_number s c.bucket_count-count.result (hash e)) inv.skips
+    let hashed = rw c.router-router.ensures at c.hash.ensures ∙ ap (λ k. hk k) c.key.ensures in
+    let number = rw c.router-router.ensures at c.bucket.ensures.value ∙ ap (bucket_number (settings_of cur).skipped c.bucket_count-count.result) hashed
     ∙ ap (λ n. bucket_number (settings_of cur).skipped n (hash e)) c.bucket_count-count.ensures.count in
     let l = old-within hash cur ws olds inv.arrays j p.slot e at.1 c.entry_at-entry.ensures in omega (arith, count, number)
 

@@ -96,8 +96,8 @@ invariant_of-self g c =
     let low : overflow_of d ≡ 0 = changed.bounded in
     let few : overflow_of d + t.draining.left_overflow < 2 ^ 62 = let f = inv.few in omega arith in
     let inside : i < bucket_count u = let n = ap bucket_count view in let q = c.requires.within in omega arith in
-    subst (λ (h : g.row.E-Key.Denot → ℕ). IsTable g.E.Key.PartialEq.eq key h d (draining_of t.draining) t.skipped) (sym same)
-    (own-fields g.E.Key.PartialEq.eq key hk cur d i (remove (list_of cur i) c.args.slot ++ x.0 ∷ []) changed.lists stay (draining_of t.draining) down t.skipped inv few
+    subst (λ (h : g.row.E-Key.Denot → ℕ). IsTable g.E.Key.PartialEq.eq key h d (draining_of t.draining)) (sym same)
+    (own-fields g.E.Key.PartialEq.eq key hk cur d i (remove (list_of cur i) c.args.slot ++ x.0 ∷ []) changed.lists stay (draining_of t.draining) down inv few
     (unique-moved laws key u v i inside inv.unique c.args.slot x.0 (ap (λ z. slice_get z c.args.slot) own ∙ x.1) (first.lists ∙ ap (λ z. slice_set (lists_of u) i (remove z c.args.slot ++ x.0 ∷ [])) (sym own))))
 
 pub returns : goal.returns

@@ -37,7 +37,7 @@ invariant_of-self g c =
     let passes = λ (x : g.row.E.Denot). g.E.Key.PartialEq.eq c.args.key.now (g.E.Keyed.key_of x) in
     let laws = g.met.E.Key.Eq.laws in
     let hash_for = λ (s : Settings g.row.H.Denot) (k : g.row.E-Key.Denot). hash_of g.H.BuildHasher g.H.Hasher.Hasher s.hasher (g.E.Key.Hash.hash_input k) in
-    not_waiting-kept g.U.FnOnce c.args.u g.E.Keyed.key_of g.E.Valued.value_of g.E.Valued.with_value passes laws hash_for t.current c.update.new.self (draining_of t.draining) t.skipped c.self.invariant (c.self.invariant.none c.if-self-eq0.true)
+    not_waiting-kept g.U.FnOnce c.args.u g.E.Keyed.key_of g.E.Valued.value_of g.E.Valued.with_value passes laws hash_for t.current c.update.new.self (draining_of t.draining) c.self.invariant (c.self.invariant.none c.if-self-eq0.true)
     (λ e w. ap (λ k. g.E.Key.PartialEq.eq k (g.E.Keyed.key_of e)) (g.met.E.Valued.value_keeps_key e w) ∙ laws.refl (g.E.Keyed.key_of e)) c.update.result c.update.ensures
 
 pub returns-then-self-eq0-clause-step : goal.returns-then-self-eq0-clause-step
@@ -48,7 +48,7 @@ returns-then-self-eq0-clause-step g c =
     let hash_for = λ (s : Settings g.row.H.Denot) (k : g.row.E-Key.Denot). hash_of g.H.BuildHasher g.H.Hasher.Hasher s.hasher (g.E.Key.Hash.hash_input k) in
     let new = together (λ (e : g.row.E.Denot). key_hash g.H.BuildHasher g.H.Hasher.Hasher g.E.Key.Hash.hash_input c.update.new.self (g.E.Keyed.key_of e)) c.update.new.self t.draining.waiting.items t.draining.array in
     subst (λ (z : Contents g.row.E.Denot g.row.H.Denot). UpdatesFirst g.U.FnOnce c.args.u g.E.Keyed.key_of g.E.Valued.value_of g.E.Valued.with_value passes z new c.update.result) c.self.view_is
-    (not_waiting-first g.U.FnOnce c.args.u g.E.Keyed.key_of g.E.Valued.value_of g.E.Valued.with_value passes laws hash_for t.current c.update.new.self (draining_of t.draining) t.skipped c.self.invariant (c.self.invariant.none c.if-self-eq0.true) c.update.result c.update.ensures)
+    (not_waiting-first g.U.FnOnce c.args.u g.E.Keyed.key_of g.E.Valued.value_of g.E.Valued.with_value passes laws hash_for t.current c.update.new.self (draining_of t.draining) c.self.invariant (c.self.invariant.none c.if-self-eq0.true) c.update.result c.update.ensures)
 
 pub search_both-place-requires-clause-pending : goal.search_both-place-requires-clause-pending
 search_both-place-requires-clause-pending g c =

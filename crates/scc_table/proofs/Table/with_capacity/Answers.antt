@@ -4,9 +4,6 @@ use Rattle.scc_common.specs.Contents.{key_hash}
 use Rattle.scc_table.proofs.arrays.SameParts.{entries-same, count-same, listed-same, hash-same}
 use Rattle.scc_table.proofs.Table.with_capacity.Goals as goal
 
-pub over-requires-clause-skips : goal.over-requires-clause-skips
-over-requires-clause-skips g c = sym (ap (λ s. s.skipped) c.in-Ok.ensures.settings)
-
 pub returns-in-Ok : goal.returns-in-Ok
 returns-in-Ok g c =
     let count = count-same c.in-Ok.current c.over.result c.over.ensures.lists in

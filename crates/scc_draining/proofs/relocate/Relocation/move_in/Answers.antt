@@ -1,0 +1,250 @@
+use Rattle.std.proofs.Common.{◌≡◌, ◌∙◌, ◌+◌, ◌^◌, ◌<◌, [], length, map, set, refl, sym, ap, subst, arith}
+use Rattle.scc_array.specs.Shelves.{shelf_of}
+use Rattle.scc_array.specs.Shelf.{empty_shelf, shelf_entries}
+use Rattle.scc_buckets.specs.Routes.{hash_by}
+use Rattle.scc_buckets.proofs.Arrays.{shelf-at}
+use Rattle.scc_buckets.proofs.Bounds.{routed-view}
+use Rattle.scc_buckets.proofs.Inserts.{table-bound}
+use Rattle.scc_buckets.proofs.Views.{count-view, entries-view, lists-view, owed-view, refused-view, settings-view, spilled-view, view_of, waiting-view}
+use Rattle.scc_common.specs.Contents.{Settings, bucket_count, key_hash, lists_of, overflow_of, settings_of, IsRouted, IsUniqueBy}
+use Rattle.scc_common.specs.Hashing.{hash_of}
+use Rattle.scc_draining.specs.Moves.{Drains}
+use Rattle.scc_draining.proofs.Arriving.{is-bare, list-were, lists-set, same-contents, same-lists}
+use Rattle.scc_draining.proofs.Filled.{IsFilled, bucket-filled, distinct-filled, spilled-filled, spilled-none, table-filled, within-filled}
+use Rattle.scc_draining.proofs.relocate.Relocation.move_in.Goals as goal
+use Rattle.scc_draining.proofs.relocate.Relocation.move_in.Goals.{in-Ok, in-Err}
+
+pub overflow_room-left-requires : goal.overflow_room-left-requires
+overflow_room-left-requires g c =
+    let over : c.current.inside.overflowing ≡ overflow_of c.args.current.now = c.current.invariant.table.spilled ∙ sym (spilled-view c.current.inside.buckets _ c.args.current.now c.current.view_is) in
+    omega (arith, over, c.requires.aside)
+
+pub fill-filled-requires-clause-drainable : goal.fill-filled-requires-clause-drainable
+fill-filled-requires-clause-drainable g c =
+    let made = settings-view c.current.inside.buckets _ c.args.current.now c.current.view_is in
+    rw c.requires.count (rw made at c.requires.drainable)
+
+pub fill-filled-requires-clause-coming : goal.fill-filled-requires-clause-coming
+fill-filled-requires-clause-coming g c =
+    let made = settings-view c.current.inside.buckets _ c.args.current.now c.current.view_is in
+    rw c.requires.count (rw made at c.requires.coming)
+
+pub fill-filled-requires-clause-target : goal.fill-filled-requires-clause-target
+fill-filled-requires-clause-target g c =
+    let cur = c.args.current.now in
+    let bs = c.current.inside.buckets in
+    let i = c.args.self.now.target in
+    let counted = count-view bs _ cur c.current.view_is in
+    let l : i < length bs = omega (arith, counted, c.requires.target) in
+    l
+
+pub fill-filled-requires-clause-empty : goal.fill-filled-requires-clause-empty
+fill-filled-requires-clause-empty g c =
+    let cur = c.args.current.now in
+    let bs = c.current.inside.buckets in
+    let i = c.args.self.now.target in
+    let counted = count-view bs _ cur c.current.view_is in
+    let l : i < length bs = omega (arith, counted, c.requires.target) in
+    let b = shelf_of bs i in
+    let at = shelf-at bs i l in
+    let bare : shelf_entries b ≡ [] = sym (list-were cur bs (lists-view bs _ cur c.current.view_is) i b l at) ∙ c.requires.bare in
+    let hash = λ (e : g.row.E.Denot). hash_by g.H.BuildHasher g.H.Hasher.Hasher g.E.Key.Hash.hash_input c.current.inside.router (g.E.Keyed.key_of e) in
+    is-bare hash c.current.inside.router.skipped i bs b (c.current.invariant.table.own i b l at) bare
+
+pub bucket_len-moved-requires-clause-bucket : goal.bucket_len-moved-requires-clause-bucket
+bucket_len-moved-requires-clause-bucket g c =
+    let cur = c.args.current.now in
+    let bs = c.current.inside.buckets in
+    let i = c.args.self.now.target in
+    let counted = count-view bs _ cur c.current.view_is in
+    let l : i < length bs = omega (arith, counted, c.requires.target) in
+    let b = shelf_of bs i in
+    let at = shelf-at bs i l in
+    let bare : shelf_entries b ≡ [] = sym (list-were cur bs (lists-view bs _ cur c.current.view_is) i b l at) ∙ c.requires.bare in
+    let made = settings-view bs _ cur c.current.view_is in
+    let t = c.current.inside.router.skipped in
+    let hash = λ (e : g.row.E.Denot). hash_by g.H.BuildHasher g.H.Hasher.Hasher g.E.Key.Hash.hash_input c.current.inside.router (g.E.Keyed.key_of e) in
+    let n : c.args.self.now.count ≡ length bs = c.requires.count ∙ counted in
+    let ns = c.fill-filled.new.into in
+    let x : IsFilled hash t i bs c.args.old.now c.fill-filled.new.old ns c.current.inside.length c.current.inside.overflowing c.overflow_room-left.result c.args.coming c.fill-filled.result =
+    record { table = c.current.invariant.table; within = l; bare = bare; most = rw (made, counted) at c.requires.coming; fills = rw n at c.fill-filled.ensures } in
+    within-filled x
+
+pub bucket_len-moved-requires-clause-few : goal.bucket_len-moved-requires-clause-few
+bucket_len-moved-requires-clause-few g c =
+    let cur = c.args.current.now in
+    let bs = c.current.inside.buckets in
+    let i = c.args.self.now.target in
+    let counted = count-view bs _ cur c.current.view_is in
+    let l : i < length bs = omega (arith, counted, c.requires.target) in
+    let b = shelf_of bs i in
+    let at = shelf-at bs i l in
+    let bare : shelf_entries b ≡ [] = sym (list-were cur bs (lists-view bs _ cur c.current.view_is) i b l at) ∙ c.requires.bare in
+    let made = settings-view bs _ cur c.current.view_is in
+    let t = c.current.inside.router.skipped in
+    let hash = λ (e : g.row.E.Denot). hash_by g.H.BuildHasher g.H.Hasher.Hasher g.E.Key.Hash.hash_input c.current.inside.router (g.E.Keyed.key_of e) in
+    let n : c.args.self.now.count ≡ length bs = c.requires.count ∙ counted in
+    let ns = c.fill-filled.new.into in
+    let x : IsFilled hash t i bs c.args.old.now c.fill-filled.new.old ns c.current.inside.length c.current.inside.overflowing c.overflow_room-left.result c.args.coming c.fill-filled.result =
+    record { table = c.current.invariant.table; within = l; bare = bare; most = rw (made, counted) at c.requires.coming; fills = rw n at c.fill-filled.ensures } in
+    let few : c.current.inside.overflowing + c.overflow_room-left.result < 2 ^ 62 = omega (arith, c.overflow_room-left.ensures) in
+    bucket-filled x few
+
+pub overflow_add-current : goal.overflow_add-current
+overflow_add-current g c =
+    let cur = c.args.current.now in
+    let bs = c.current.inside.buckets in
+    let i = c.args.self.now.target in
+    let counted = count-view bs _ cur c.current.view_is in
+    let l : i < length bs = omega (arith, counted, c.requires.target) in
+    let b = shelf_of bs i in
+    let at = shelf-at bs i l in
+    let bare : shelf_entries b ≡ [] = sym (list-were cur bs (lists-view bs _ cur c.current.view_is) i b l at) ∙ c.requires.bare in
+    let made = settings-view bs _ cur c.current.view_is in
+    let t = c.current.inside.router.skipped in
+    let hash = λ (e : g.row.E.Denot). hash_by g.H.BuildHasher g.H.Hasher.Hasher g.E.Key.Hash.hash_input c.current.inside.router (g.E.Keyed.key_of e) in
+    let n : c.args.self.now.count ≡ length bs = c.requires.count ∙ counted in
+    let ns = c.fill-filled.new.into in
+    let x : IsFilled hash t i bs c.args.old.now c.fill-filled.new.old ns c.current.inside.length c.current.inside.overflowing c.overflow_room-left.result c.args.coming c.fill-filled.result =
+    record { table = c.current.invariant.table; within = l; bare = bare; most = rw (made, counted) at c.requires.coming; fills = rw n at c.fill-filled.ensures } in
+    let few : c.current.inside.overflowing + c.overflow_room-left.result < 2 ^ 62 = omega (arith, c.overflow_room-left.ensures) in
+    let moved : c.bucket_len-moved.result ≡ length (shelf_entries (shelf_of ns i)) = c.bucket_len-moved.ensures in
+    let most = table-bound hash t _ _ ns (table-filled x few) in
+    record { fits = omega (arith, moved, most) }
+
+pub overflow_len-requires : goal.overflow_len-requires
+overflow_len-requires g c =
+    let cur = c.args.current.now in
+    let bs = c.current.inside.buckets in
+    let i = c.args.self.now.target in
+    let counted = count-view bs _ cur c.current.view_is in
+    let l : i < length bs = omega (arith, counted, c.requires.target) in
+    let b = shelf_of bs i in
+    let at = shelf-at bs i l in
+    let bare : shelf_entries b ≡ [] = sym (list-were cur bs (lists-view bs _ cur c.current.view_is) i b l at) ∙ c.requires.bare in
+    let made = settings-view bs _ cur c.current.view_is in
+    let t = c.current.inside.router.skipped in
+    let hash = λ (e : g.row.E.Denot). hash_by g.H.BuildHasher g.H.Hasher.Hasher g.E.Key.Hash.hash_input c.current.inside.router (g.E.Keyed.key_of e) in
+    let n : c.args.self.now.count ≡ length bs = c.requires.count ∙ counted in
+    let ns = c.fill-filled.new.into in
+    let x : IsFilled hash t i bs c.args.old.now c.fill-filled.new.old ns c.current.inside.length c.current.inside.overflowing c.overflow_room-left.result c.args.coming c.fill-filled.result =
+    record { table = c.current.invariant.table; within = l; bare = bare; most = rw (made, counted) at c.requires.coming; fills = rw n at c.fill-filled.ensures } in
+    within-filled x
+
+pub overflow_add-current-2 : goal.overflow_add-current-2
+overflow_add-current-2 g c =
+    let cur = c.args.current.now in
+    let bs = c.current.inside.buckets in
+    let i = c.args.self.now.target in
+    let counted = count-view bs _ cur c.current.view_is in
+    let l : i < length bs = omega (arith, counted, c.requires.target) in
+    let b = shelf_of bs i in
+    let at = shelf-at bs i l in
+    let bare : shelf_entries b ≡ [] = sym (list-were cur bs (lists-view bs _ cur c.current.view_is) i b l at) ∙ c.requires.bare in
+    let made = settings-view bs _ cur c.current.view_is in
+    let t = c.current.inside.router.skipped in
+    let hash = λ (e : g.row.E.Denot). hash_by g.H.BuildHasher g.H.Hasher.Hasher g.E.Key.Hash.hash_input c.current.inside.router (g.E.Keyed.key_of e) in
+    let n : c.args.self.now.count ≡ length bs = c.requires.count ∙ counted in
+    let ns = c.fill-filled.new.into in
+    let x : IsFilled hash t i bs c.args.old.now c.fill-filled.new.old ns c.current.inside.length c.current.inside.overflowing c.overflow_room-left.result c.args.coming c.fill-filled.result =
+    record { table = c.current.invariant.table; within = l; bare = bare; most = rw (made, counted) at c.requires.coming; fills = rw n at c.fill-filled.ensures } in
+    let few : c.current.inside.overflowing + c.overflow_room-left.result < 2 ^ 62 = omega (arith, c.overflow_room-left.ensures) in
+    let spilled : c.overflow_len.result ≡ length (shelf_of ns i).overflow = c.overflow_len.ensures in
+    record { fits = let z = (table-filled x few).few in omega (arith, spilled, z) }
+
+pub invariant_of-current : goal.invariant_of-current
+invariant_of-current g c =
+    let cur = c.args.current.now in
+    let bs = c.current.inside.buckets in
+    let i = c.args.self.now.target in
+    let counted = count-view bs _ cur c.current.view_is in
+    let l : i < length bs = omega (arith, counted, c.requires.target) in
+    let b = shelf_of bs i in
+    let at = shelf-at bs i l in
+    let bare : shelf_entries b ≡ [] = sym (list-were cur bs (lists-view bs _ cur c.current.view_is) i b l at) ∙ c.requires.bare in
+    let made = settings-view bs _ cur c.current.view_is in
+    let t = c.current.inside.router.skipped in
+    let hash = λ (e : g.row.E.Denot). hash_by g.H.BuildHasher g.H.Hasher.Hasher g.E.Key.Hash.hash_input c.current.inside.router (g.E.Keyed.key_of e) in
+    let n : c.args.self.now.count ≡ length bs = c.requires.count ∙ counted in
+    let ns = c.fill-filled.new.into in
+    let x : IsFilled hash t i bs c.args.old.now c.fill-filled.new.old ns c.current.inside.length c.current.inside.overflowing c.overflow_room-left.result c.args.coming c.fill-filled.result =
+    record { table = c.current.invariant.table; within = l; bare = bare; most = rw (made, counted) at c.requires.coming; fills = rw n at c.fill-filled.ensures } in
+    let few : c.current.inside.overflowing + c.overflow_room-left.result < 2 ^ 62 = omega (arith, c.overflow_room-left.ensures) in
+    let moved : c.bucket_len-moved.result ≡ length (shelf_entries (shelf_of ns i)) = c.bucket_len-moved.ensures in
+    let spilled : c.overflow_len.result ≡ length (shelf_of ns i).overflow = c.overflow_len.ensures in
+    let there = rw (made, counted) at c.requires.unique in
+    let unique : IsUniqueBy g.E.Key.PartialEq.eq g.E.Keyed.key_of cur = rw (entries-view bs _ cur c.current.view_is) c.current.invariant.unique in
+    record {
+      table = rw (moved, spilled) (table-filled x few);
+      small_minimum = c.current.invariant.small_minimum;
+      unique = distinct-filled x g.E.Key.PartialEq.eq g.E.Keyed.key_of cur (lists-view bs _ cur c.current.view_is) unique there;
+    }
+
+pub returns : goal.returns
+returns g c =
+    let cur = c.args.current.now in
+    let bs = c.current.inside.buckets in
+    let i = c.args.self.now.target in
+    let counted = count-view bs _ cur c.current.view_is in
+    let l : i < length bs = omega (arith, counted, c.requires.target) in
+    let b = shelf_of bs i in
+    let at = shelf-at bs i l in
+    let bare : shelf_entries b ≡ [] = sym (list-were cur bs (lists-view bs _ cur c.current.view_is) i b l at) ∙ c.requires.bare in
+    let made = settings-view bs _ cur c.current.view_is in
+    let t = c.current.inside.router.skipped in
+    let hash = λ (e : g.row.E.Denot). hash_by g.H.BuildHasher g.H.Hasher.Hasher g.E.Key.Hash.hash_input c.current.inside.router (g.E.Keyed.key_of e) in
+    let n : c.args.self.now.count ≡ length bs = c.requires.count ∙ counted in
+    let ns = c.fill-filled.new.into in
+    let x : IsFilled hash t i bs c.args.old.now c.fill-filled.new.old ns c.current.inside.length c.current.inside.overflowing c.overflow_room-left.result c.args.coming c.fill-filled.result =
+    record { table = c.current.invariant.table; within = l; bare = bare; most = rw (made, counted) at c.requires.coming; fills = rw n at c.fill-filled.ensures } in
+    let few : c.current.inside.overflowing + c.overflow_room-left.result < 2 ^ 62 = omega (arith, c.overflow_room-left.ensures) in
+    let moved : c.bucket_len-moved.result ≡ length (shelf_entries (shelf_of ns i)) = c.bucket_len-moved.ensures in
+    let spilled : c.overflow_len.result ≡ length (shelf_of ns i).overflow = c.overflow_len.ensures in
+    let were = lists-view bs _ cur c.current.view_is in
+    let over : c.current.inside.overflowing ≡ overflow_of cur = c.current.invariant.table.spilled ∙ sym (spilled-view bs _ cur c.current.view_is) in
+    let inside = c.current.inside in
+    let d = view_of (inside.refused, inside.marked) ns (record { hasher = inside.router.hasher; skipped = inside.router.skipped; asked = inside.asked; reserved = inside.reserved }) in
+    let same = settings-view ns _ d refl ∙ sym made in
+    let noted = refused-view ns _ d refl ∙ sym (refused-view bs _ cur c.current.view_is) in
+    let lists = lists-view ns _ d refl ∙ ap (map shelf_entries) x.fills.others ∙ lists-set g.E.Key.PartialEq.eq g.E.Keyed.key_of cur bs were i (shelf_of ns i) in
+    let now = spilled-view ns _ d refl ∙ sym (table-filled x few).spilled in
+    let khash = λ (e : g.row.E.Denot). key_hash g.H.BuildHasher g.H.Hasher.Hasher g.E.Key.Hash.hash_input cur (g.E.Keyed.key_of e) in
+    let routed : IsRouted khash cur = rw made (routed-view hash _ _ bs _ cur c.current.view_is c.current.invariant.table) in
+    elim c.match-filled.branch [
+      | in-Ok w ↦
+          let drains : Drains khash (settings_of cur).skipped (bucket_count cur) i c.args.old.now empty_shelf c.fill-filled.new.old (shelf_of ns i) =
+          subst (λ (s : Settings g.row.H.Denot). Drains (λ (e : g.row.E.Denot). hash_of g.H.BuildHasher g.H.Hasher.Hasher s.hasher (g.E.Key.Hash.hash_input (g.E.Keyed.key_of e))) s.skipped (bucket_count cur) i c.args.old.now empty_shelf c.fill-filled.new.old (shelf_of ns i)) (sym made)
+          (rw c.requires.count at w.in-Ok.ensures.ok) in
+          let es_are = drains.moved.entries_are in
+          rw w.result-is (record {
+            ok = record {
+              lists = lists ∙ ap (set (lists_of cur) i) es_are;
+              moved = moved ∙ ap length es_are;
+              settings = same;
+              refused = noted;
+              count = drains.count;
+              kept = drains.kept;
+              own = drains.own;
+              overflow = drains.overflow;
+            };
+            few = let less = spilled-filled x in omega (arith, now, over, less, c.overflow_room-left.ensures);
+            short = λ f. let none = spilled-none x f in omega (arith, now, over, none);
+            err = tt;
+            stays = tt;
+            refused = tt;
+            routed = routed;
+          })
+      | in-Err w ↦
+          let none : shelf_entries (shelf_of ns i) ≡ [] = ap shelf_entries w.in-Err.ensures.stays in
+          let no_overflow : length (shelf_of ns i).overflow ≡ 0 = ap (λ z. length z.overflow) w.in-Err.ensures.stays in
+          rw w.result-is (record {
+            ok = tt;
+            few = tt;
+            short = tt;
+            err = same-contents cur d (lists ∙ same-lists g.E.Key.PartialEq.eq g.E.Keyed.key_of cur bs were i (shelf_of ns i) b l at bare none) same noted (omega (arith, now, over, no_overflow))
+                (waiting-view ns _ d refl ∙ sym (waiting-view bs _ cur c.current.view_is)) (owed-view ns _ d refl ∙ sym (owed-view bs _ cur c.current.view_is));
+            stays = w.in-Err.ensures.err;
+            refused = w.in-Err.ensures.refused;
+            routed = routed;
+          })
+    ]
