@@ -1,5 +1,5 @@
 -- Two arrays, if no bucket waits.
-use Rattle.std.proofs.Common.{◌≡◌, ◌==◌, ℕ, ◌+◌, ◌^◌, ◌<◌, ◌≤◌, inl, Bool, true, false, List, [], ◌∷◌, length, map, refl, sym, ap, subst, arith, rules}
+use Rattle.std.proofs.Common.{◌≡◌, ◌==◌, ℕ, ◌+◌, ◌^◌, ◌<◌, inl, Bool, true, false, List, [], ◌∷◌, length, map, refl, sym, ap, subst, arith, rules}
 use Rattle.std.specs.List.{flat_map, IsDistinct}
 use Rattle.std.proofs.lemmas.List.Sums.{sum_by-cons}
 use Rattle.scc_array.specs.Shelf.{Shelf, shelf_entries}

@@ -2,6 +2,7 @@
 ghost use Rattle.scc_common.specs.Contents.{entries, bucket_count, bucket_of, key_hash, list_of, minimum_of, settings_of, HasRoomBy, IsRouted, IsUniqueBy};
 ghost use Rattle.scc_common.specs.Routing.{bucket_number};
 ghost use Rattle.scc_table.specs.Places.{IsPlace, index_of};
+ghost use Rattle.scc_table.specs.TwoArrays.{IsWaiting};
 ghost use Rattle.std.specs.Prelude.{◌≡◌, ◌≤◌, ◌<◌, ◌^◌, ◌↔◌, length, Some, IsTrue, slice_get};
 
 use crate::Table;
@@ -77,18 +78,29 @@ where
             self.now }
     {
         if self.is_waiting(bucket) {
-            let count = self.current.bucket_count();
-            let (first, last) = sources(self.draining.array.len(), count, bucket);
-            let task = Relocation {
-                target: bucket,
-                count,
-                first,
-                last,
-                whole: false,
-            };
-            return task.count_all(self.current.router(), &self.draining.array);
+            return self.waiting_len(bucket);
         }
         self.current.list_len(bucket)
+    }
+
+    /// As `list_len`, if `bucket` waits.
+    #[cold]
+    fn waiting_len(&self, bucket: usize) -> usize
+        requires { IsWaiting self.now bucket }
+        ensures len { result ≡ length (list_of self.now bucket) }
+        ensures routed { IsRouted (λ e. key_hash H.BuildHasher H.Hasher.Hasher E.Key.hash_input self.now (E.key_of e))
+            self.now }
+    {
+        let count = self.current.bucket_count();
+        let (first, last) = sources(self.draining.array.len(), count, bucket);
+        let task = Relocation {
+            target: bucket,
+            count,
+            first,
+            last,
+            whole: false,
+        };
+        task.count_all(self.current.router(), &self.draining.array)
     }
 
     /// Returns whether there is an array and the bucket of `key` holds fewer than 32 entries. Then its bucket needs no

@@ -1,4 +1,4 @@
-use Rattle.std.proofs.Common.{◌∙◌, ℕ, sym, subst, ap, rules}
+use Rattle.std.proofs.Common.{◌∙◌, ℕ, sym, subst, rules}
 use Rattle.scc_buckets.specs.Bounded.{IsListed}
 use Rattle.scc_common.specs.Contents.{key_hash}
 use Rattle.scc_table.proofs.arrays.SameParts.{entries-same, count-same, listed-same, hash-same}
