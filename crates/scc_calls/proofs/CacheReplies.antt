@@ -15,13 +15,14 @@ use Rattle.scc_cache.proofs.Caching.{list-is, shrunk-within}
 use Rattle.scc_cache.proofs.Found.{missing-found, there-found}
 use Rattle.scc_calls.specs.CacheCalls.{cache_answer, cache_setting, first_of_full, CacheIsMade, CacheMoves, CacheResizes}
 use Rattle.scc_calls.specs.Resized.{MovesResized}
-use Rattle.scc_calls.specs.Copies.{Answers}
+use Rattle.scc_calls.specs.Copies.{Answers, ClonesEqual}
 use Rattle.scc_calls.specs.Means.{answered}
 use Rattle.scc_calls.specs.Stems.{CacheStems}
 use Rattle.scc_calls.specs.declared.calls_as_values.CacheCall.{CacheCall}
 use Rattle.scc_calls.specs.declared.calls_as_values.CacheCall.TheVariants.{Put, Get, Write, Replace, Remove, Read, Contains, Clear, Len}
 use Rattle.scc_calls.specs.declared.replies.Reply.{Reply}
 use Rattle.scc_calls.specs.declared.replies.Reply.TheVariants.{Evicted, Exists, Old, Key, Pair, Value, Has, Cleared, Count}
+use Rattle.scc_calls.proofs.Copying.{equal-copies}
 use Rattle.scc_calls.proofs.CacheCalls.{grown, puts-length, takes-length}
 
 module _ {X : Type 0} (l : List X) where
@@ -172,7 +173,7 @@ answers-own {K = K} clone hash eq c d call own is given reply from raw =
     rw is (answered (CacheStems clone) (CacheMoves eq number) length (CacheResizes (cache_setting c) number) (lists_of c.contents) (lists_of d.contents) own given reply from raw)
 
 -- a call that was made, and the copies of its reply
-module _ {K V H : Type 0} {calls : CacheCall K V → CacheCall K V → Bool} {replies : Reply K V → Reply K V → Bool} (pc : IsPartialEquivalence calls) (pr : IsPartialEquivalence replies) (hash : K → ℕ) (eq : K → K → Bool) (c d : Cached (K × V) H) (call own : CacheCall K V) (is : call ≡ own) (made : Reply K V)
+module _ {K V H : Type 0} {clone : Reply K V → Reply K V → Type 0} {replies : Reply K V → Reply K V → Bool} (clones : ClonesEqual clone replies) (hash : K → ℕ) (eq : K → K → Bool) (c d : Cached (K × V) H) (call own : CacheCall K V) (is : call ≡ own) (made : Reply K V)
     (raw : MovesResized length (CacheMoves eq (list_number hash c.contents)) (CacheResizes (cache_setting c) (list_number hash c.contents)) (lists_of c.contents) own made (lists_of d.contents)) where
   -- a copy that is equal to the reply of `cache_answer` is equal to the call's own reply
   pub answers-made : (copy : Reply K V) → length (lists_of d.contents) ≤ length (lists_of c.contents) → replies (cache_answer eq (list_number hash c.contents) (lists_of c.contents) call) copy ≡ true → replies made copy ≡ true
@@ -181,5 +182,6 @@ module _ {K V H : Type 0} {calls : CacheCall K V → CacheCall K V → Bool} {re
       let given : cache_answer eq number (lists_of c.contents) call ≡ made = ap (cache_answer eq number (lists_of c.contents)) is ∙ changes-answer eq number (CacheResizes (cache_setting c) number) (lists_of c.contents) (lists_of d.contents) own made less raw in
       subst (λ r. replies r copy ≡ true) given asked
 
-  pub answers-given : (given copy : Reply K V) → replies made given ≡ true → length (lists_of d.contents) ≤ length (lists_of c.contents) → replies (cache_answer eq (list_number hash c.contents) (lists_of c.contents) call) copy ≡ true → replies given copy ≡ true
-  answers-given given copy same less asked = pr.trans given made copy (pr.symm given made ∙ same) (answers-made copy less asked)
+  -- such a copy is equal to each other copy of the call's own reply
+  pub answers-given : IsPartialEquivalence replies → (given copy : Reply K V) → replies made given ≡ true → length (lists_of d.contents) ≤ length (lists_of c.contents) → replies (cache_answer eq (list_number hash c.contents) (lists_of c.contents) call) copy ≡ true → replies given copy ≡ true
+  answers-given laws given copy same less asked = equal-copies clones laws made given copy same (answers-made copy less asked)

@@ -1,5 +1,6 @@
--- A copy of a found value is equal to the found value.
-use Rattle.std.proofs.Common.{◌≡◌, Bool, true, Option, None, Some}
+-- A copy of a found value is equal to the found value, and two copies are equal.
+use Rattle.std.proofs.Common.{◌≡◌, ◌∙◌, Bool, true, Option, None, Some}
+use Rattle.std.specs.Cmp.{IsPartialEquivalence}
 use Rattle.std.specs.Option.{option_map}
 use Rattle.scc_common.specs.Copies.{IsCopied}
 use Rattle.scc_calls.specs.Copies.{ClonesEqual}
@@ -26,3 +27,7 @@ copied-part copy get None None h = h
 copied-part copy get (Some x) (Some z) h = h
 copied-part copy get None (Some z) h = absurd h
 copied-part copy get (Some x) None h = absurd h
+
+-- two copies of a value are equal
+pub equal-copies : {X : Type 0} {clone : X → X → Type 0} {same : X → X → Bool} → ClonesEqual clone same → IsPartialEquivalence same → (x own copy : X) → same x own ≡ true → same x copy ≡ true → same own copy ≡ true
+equal-copies clones laws x own copy one other = laws.trans own x copy (laws.symm own x ∙ one) other

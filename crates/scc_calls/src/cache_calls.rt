@@ -115,7 +115,6 @@ impl<K: Eq + Hash + Clone, V: Clone + PartialEq, H: BuildHasher> Calls for Owned
     }
 
     fn call(&mut self, call: CacheCall<K, V>) -> Result<Reply<K, V>, Refused> {
-        equals::<CacheCall<K, V>>();
         equals::<Reply<K, V>>();
         match call {
             CacheCall::Put(k, v) => match self.put_sync(k, v) {

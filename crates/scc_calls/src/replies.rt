@@ -59,7 +59,6 @@ pub(crate) fn copies<C: CopiesReply>(c: &C, call: &C::Call) -> Result<(C::Reply,
     ensures refused { OnErr result (C.has_key call.now
         × MayNotClone C.Reply.is_infallible (C.next_reply c.now call.now)) }
 {
-    equals::<C::Reply>();
     let first = c.copy(call)?;
     if let Ok(second) = first.clone() {
         return Ok((first, second));

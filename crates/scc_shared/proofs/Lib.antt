@@ -1,3 +1,4 @@
+mod Copying
 mod IndexJoined
 mod IndexReplies
 mod Missing

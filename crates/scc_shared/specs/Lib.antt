@@ -1,3 +1,4 @@
+pub mod Copying
 pub mod IndexReplies
 pub mod Reserves
 pub mod Stripes

@@ -1,5 +1,9 @@
 //! `Paired`: an entry that is read as a key and a value.
-ghost use Rattle.scc_table.specs.Places.{IsPlace};
+ghost use Rattle.scc_common.specs.Contents.{entries};
+ghost use Rattle.scc_common.specs.Walks.{CalledOn, Walks};
+ghost use Rattle.scc_table.specs.Places.{IsPlace, index_of};
+ghost use Rattle.std.specs.List.Sorted.{IsPermutation};
+ghost use Rattle.std.specs.Prelude.{◌≡◌, List, Some, map, slice_get};
 
 use scc_buckets::Place;
 use scc_common::SharedVersion;
@@ -12,16 +16,22 @@ pub trait Paired: Stored {
     fn pair_at<H: BuildHasher>(owned: &Owned<Self, H>, place: Place) -> (&Self::Key, &Self::Value)
     where
         Self::Key: Eq + Hash,
-        requires { IsPlace owned.now place };
+        requires { IsPlace owned.now place }
+        ensures { slice_get (entries owned.now) (index_of owned.now place)
+            ≡ Some (Self.lookups.made result.0.now result.1.now) };
 
-    /// Returns whether `f` returns true on each pair. Stops at the first pair on which it returns false.
+    /// Calls `f` on the pairs in some order, each at most once, until `f` returns false. Returns false if it did, else
+    /// true.
     fn all<H: BuildHasher, F: FnMut(&Self::Key, &Self::Value) -> bool>(
         owned: &Owned<Self, H>,
         f: F,
     ) -> bool
     where
         Self::Key: Eq + Hash,
-        requires { F.IsAlwaysCallable f };
+        requires { F.IsAlwaysCallable f }
+        ensures { (es : List (Self.Key × Self.Value)) × (last : F)
+            × IsPermutation (entries owned.now) (map (λ p. Self.lookups.made p.0 p.1) es)
+            × Walks (CalledOn F.FnMut) f es result last };
 }
 
 impl<K, V> Paired for (K, V) {

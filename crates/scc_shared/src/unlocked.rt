@@ -1,10 +1,14 @@
 //! A container whose stripes have no locks yet.
-ghost use Rattle.std.specs.Prelude.{◌≡◌, IfOk};
-ghost use Rattle.scc_stripes.specs.Parts.{parts_hasher, parts_owner};
+ghost use Rattle.std.specs.List.{FoldsTo};
+ghost use Rattle.std.specs.Prelude.{◌≡◌, false, IfOk, IsTrue};
+ghost use Rattle.scc_common.specs.Contents.{entries};
+ghost use Rattle.scc_common.specs.Routing.{stripe_of};
+ghost use Rattle.scc_stripes.specs.Parts.{part_count, parts_hasher, parts_of, parts_owner};
+ghost use Rattle.scc_shared.specs.Copying.{InsertsClones, InsertsMissing, InsertsNothing, InsertsRouted};
 ghost use Rattle.scc_shared.specs.Stripes.{hasher_of};
 
 use super::{HashContainer, Paired};
-use scc_common::{Keyed, MakeError, Shared};
+use scc_common::{Hashes, Keyed, MakeError, Shared};
 use scc_owned::{Owned, Stored};
 use scc_stripes::OpenStripes;
 use std::alloc::Global;
@@ -58,6 +62,9 @@ where
     /// were inserted.
     pub(crate) fn insert_all(&mut self, from: &Owned<E, Shared<H>>) -> bool
         ensures hasher { parts_owner self.new.parts ≡ parts_owner self.old.parts }
+        ensures all { IsTrue result → FoldsTo (InsertsClones E.lookups E.Key.eq E.Key.is_clone E.Value.is_clone
+            (stripe_of H.BuildHasher H.Hasher.Hasher E.Key.hash_input (parts_hasher self.old.parts)
+            (part_count self.old.parts))) (parts_of self.old.parts) (entries from.now) (parts_of self.new.parts) }
     {
         let mut at = from.first_place();
         while let Some(place) = at {
@@ -74,6 +81,11 @@ where
     /// of `k`, or memory is refused.
     fn insert_clones(&mut self, k: &E::Key, v: &E::Value) -> bool
         ensures hasher { parts_owner self.new.parts ≡ parts_owner self.old.parts }
+        ensures count { part_count self.new.parts ≡ part_count self.old.parts }
+        ensures made { IsTrue result → (key : E.Key) × (value : E.Value) × E.Key.is_clone k.now key
+            × E.Value.is_clone v.now value × InsertsRouted E.lookups E.Key.eq
+            (stripe_of H.BuildHasher H.Hasher.Hasher E.Key.hash_input (parts_hasher self.old.parts)
+            (part_count self.old.parts)) (parts_of self.old.parts) key value (parts_of self.new.parts) }
     {
         let Ok(key) = k.clone() else {
             return false;
@@ -96,6 +108,9 @@ fn insert<E: Stored, H: BuildHasher>(
 where
     E::Key: Eq + Hash + Drop,
     E::Value: Drop,
+    ensures made { IsTrue result → InsertsMissing E.lookups E.Key.eq owned.old key value owned.new }
+    ensures left { result ≡ false → InsertsNothing E.lookups E.Key.eq E.taking
+        ⟦<Shared<H> as Hashes<E::Key>>⟧.hash_of E.key_of owned.old key owned.new }
 {
     let hash = owned.hash_of(&key);
     match owned.place_of(hash, &key) {

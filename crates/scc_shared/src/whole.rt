@@ -1,6 +1,8 @@
 //! Calls on a whole container: clearing, comparing, cloning. They look at the stripes one after another.
 ghost use Rattle.std.specs.Prelude.{◌≡◌, ◌<◌, IfOk};
+ghost use Rattle.scc_common.specs.Contents.{entries};
 ghost use Rattle.scc_stripes.specs.Stripes.{stripe_count};
+ghost use Rattle.scc_shared.specs.Copying.{HasEqual};
 ghost use Rattle.scc_shared.specs.Stripes.{hasher_of};
 
 use super::unlocked::Unlocked;
@@ -98,6 +100,7 @@ fn has_equal<E: Paired, H: BuildHasher>(
 where
     E::Key: Eq + Hash,
     E::Value: PartialEq,
+    ensures { HasEqual E.lookups E.Key.eq E.Value.eq (entries owned.now) k.now v.now result }
 {
     let hash = owned.hash_of(k);
     match owned.place_of(hash, k) {

@@ -29,7 +29,7 @@ returns-in-Ok g c =
       refused = (search rules);
       answer = (
           λ copy ready. let less : length (lists_of c.put_sync.new.self.contents) ≤ length (lists_of s.contents) = put-once hash eq s c.put_sync.new.self c.in-Put.k c.in-Put.v c.in-Ok.evicted c.in-Ok.ensures.step c.in-Ok.ensures.once (rw c.in-Put.is at ready.0) in
-          answers-made c.equals.ensures c.equals-2.ensures hash eq s c.put_sync.new.self c.args.call (Put c.in-Put.k c.in-Put.v) c.in-Put.is (Evicted c.in-Ok.evicted) raw copy less ready.1);
+          answers-made c.requires.clones hash eq s c.put_sync.new.self c.args.call (Put c.in-Put.k c.in-Put.v) c.in-Put.is (Evicted c.in-Ok.evicted) raw copy less ready.1);
       made = (
           λ copy ready. let less : length (lists_of c.put_sync.new.self.contents) ≤ length (lists_of s.contents) = put-once hash eq s c.put_sync.new.self c.in-Put.k c.in-Put.v c.in-Ok.evicted c.in-Ok.ensures.step c.in-Ok.ensures.once (rw c.in-Put.is at ready.0) in
           less);
@@ -50,7 +50,7 @@ returns-in-Err-Exists g c =
       refused = (search rules);
       answer = (
           λ copy ready. let less : length (lists_of c.put_sync.new.self.contents) ≤ length (lists_of s.contents) = (let same = ap (λ x. length (lists_of x.contents)) step.2 in omega arith) in
-          answers-made c.equals.ensures c.equals-2.ensures hash eq s c.put_sync.new.self c.args.call (Put c.in-Put.k c.in-Put.v) c.in-Put.is (Exists c.in-Err-Exists.k c.in-Err-Exists.v) raw copy less ready.1);
+          answers-made c.requires.clones hash eq s c.put_sync.new.self c.args.call (Put c.in-Put.k c.in-Put.v) c.in-Put.is (Exists c.in-Err-Exists.k c.in-Err-Exists.v) raw copy less ready.1);
       made = (search rules);
       kept = (search rules);
     }
@@ -79,7 +79,7 @@ returns-in-Some g c =
     let eq = g.K.PartialEq.eq in
     let raw : MovesResized length (CacheMoves eq (list_number hash s.contents)) (CacheResizes (cache_setting s) (list_number hash s.contents)) (lists_of s.contents) (Get c.in-Get.k) (Value (Some (occupied_pair c.in-Some._entry).1)) (lists_of c.in-Some._entry.guard.now.contents) = get-changes hash eq s c.in-Some._entry.guard.now c.in-Get.k (occupied_pair c.in-Some._entry) (occupied_pair c.in-Some._entry).1 refl c.in-Some.ensures.entry.changes in
     let less : length (lists_of c.in-Some._entry.guard.now.contents) ≤ length (lists_of s.contents) = (let n = refresh-same hash eq s c.in-Some._entry.guard.now c.in-Get.k (occupied_pair c.in-Some._entry) (occupied_pair c.in-Some._entry) c.in-Some.ensures.entry.changes in omega arith) in
-    let same = answers-made c.equals.ensures c.equals-2.ensures hash eq s c.in-Some._entry.guard.now (Get c.in-Get.k) (Get c.in-Get.k) refl (Value (Some (occupied_pair c.in-Some._entry).1)) raw (Value c.in-Ok-cloned_value.value) less (copied c.requires.clones Value _ (λ p. p.1) refl (λ x y h. h) (pair_of hash eq s.contents c.in-Get.k) c.in-Ok-cloned_value.value c.in-Ok-cloned_value.ensures.ok) in
+    let same = answers-made c.requires.clones hash eq s c.in-Some._entry.guard.now (Get c.in-Get.k) (Get c.in-Get.k) refl (Value (Some (occupied_pair c.in-Some._entry).1)) raw (Value c.in-Ok-cloned_value.value) less (copied c.requires.clones Value _ (λ p. p.1) refl (λ x y h. h) (pair_of hash eq s.contents c.in-Get.k) c.in-Ok-cloned_value.value c.in-Ok-cloned_value.ensures.ok) in
     record {
       setting = (search rules);
       ok = (
@@ -91,7 +91,7 @@ returns-in-Some g c =
           inl (search (rules, n), (Value (Some (occupied_pair c.in-Some._entry).1), rw c.in-Get.is here, rw c.in-Get.is (moves-same eq (list_number hash s.contents) (lists_of s.contents) (lists_of c.in-Some._entry.guard.now.contents) _ (Get c.in-Get.k) (Value (Some (occupied_pair c.in-Some._entry).1)) m (search rules)))));
       err = (search rules);
       refused = (search rules);
-      answer = (λ copy ready. answers-given c.equals.ensures c.equals-2.ensures hash eq s c.in-Some._entry.guard.now c.args.call (Get c.in-Get.k) c.in-Get.is (Value (Some (occupied_pair c.in-Some._entry).1)) raw (Value c.in-Ok-cloned_value.value) copy same less ready.1);
+      answer = (λ copy ready. answers-given c.requires.clones hash eq s c.in-Some._entry.guard.now c.args.call (Get c.in-Get.k) c.in-Get.is (Value (Some (occupied_pair c.in-Some._entry).1)) raw c.equals.ensures (Value c.in-Ok-cloned_value.value) copy same less ready.1);
       made = (λ copy ready. search (rules, less));
       kept = (search rules);
     }
@@ -111,7 +111,7 @@ returns-in-Ok-cloned_value g c =
       answer = (
           λ copy ready. let raw : MovesResized length (CacheMoves eq (list_number hash s.contents)) (CacheResizes (cache_setting s) (list_number hash s.contents)) (lists_of s.contents) (Get c.in-Get.k) (Value None) (lists_of s.contents) = inl (refl, (c.in-None.ensures.missing, refl)) in
           let less : length (lists_of s.contents) ≤ length (lists_of s.contents) = omega arith in
-          answers-made c.equals.ensures c.equals-2.ensures hash eq s s c.args.call (Get c.in-Get.k) c.in-Get.is (Value None) raw copy less ready.1);
+          answers-made c.requires.clones hash eq s s c.args.call (Get c.in-Get.k) c.in-Get.is (Value None) raw copy less ready.1);
       made = (search rules);
       kept = (search rules);
     }
@@ -144,7 +144,7 @@ returns-in-Occupied g c =
       refused = (search rules);
       answer = (
           λ copy ready. let raw : MovesResized length (CacheMoves eq (list_number hash s.contents)) (CacheResizes (cache_setting s) (list_number hash s.contents)) (lists_of s.contents) (Write c.in-Write.k c.in-Write.v) (Old (Some c.put.result)) (lists_of c.put.new.self.guard.now.contents) = write-changes hash eq s c.put.new.self.guard.now c.in-Write.k (occupied_pair c.in-Occupied.entry) c.put.result c.in-Write.v c.put.ensures.old (moved-written eq s c.in-Write.k (occupied_pair c.in-Occupied.entry) c.in-Occupied.entry c.put.new.self c.in-Write.v c.in-Occupied.ensures.entry c.put.ensures.written) in
-          answers-made c.equals.ensures c.equals-2.ensures hash eq s c.put.new.self.guard.now c.args.call (Write c.in-Write.k c.in-Write.v) c.in-Write.is (Old (Some c.put.result)) raw copy less ready.1);
+          answers-made c.requires.clones hash eq s c.put.new.self.guard.now c.args.call (Write c.in-Write.k c.in-Write.v) c.in-Write.is (Old (Some c.put.result)) raw copy less ready.1);
       made = (λ copy ready. search (rules, less));
       kept = (search rules);
     }
@@ -162,7 +162,7 @@ returns-in-Write g c =
           let eq = g.K.PartialEq.eq in
           let raw : MovesResized length (CacheMoves eq (list_number hash s.contents)) (CacheResizes (cache_setting s) (list_number hash s.contents)) (lists_of s.contents) (Write c.in-Write.k c.in-Write.v) (Old None) (lists_of s.contents) = inl (refl, (c.in-Vacant.ensures.entry.absent, refl)) in
           let less : length (lists_of s.contents) ≤ length (lists_of s.contents) = omega arith in
-          answers-made c.equals.ensures c.equals-2.ensures hash eq s s c.args.call (Write c.in-Write.k c.in-Write.v) c.in-Write.is (Old None) raw copy less ready.1);
+          answers-made c.requires.clones hash eq s s c.args.call (Write c.in-Write.k c.in-Write.v) c.in-Write.is (Old None) raw copy less ready.1);
       made = (search rules);
       kept = (search rules);
     }
@@ -183,7 +183,7 @@ returns-in-Replaced g c =
       refused = (search rules);
       answer = (
           λ copy ready. let raw : MovesResized length (CacheMoves eq (list_number hash s.contents)) (CacheResizes (cache_setting s) (list_number hash s.contents)) (lists_of s.contents) (Replace c.in-Replace.k) (Key (Some c.in-Replaced.old)) (lists_of c.in-Replaced._entry.guard.now.contents) = replace-changes hash eq s c.in-Replaced._entry.guard.now c.in-Replace.k c.in-Replaced.old c.in-Replaced.ensures.step.value (occupied_pair c.in-Replaced._entry) c.in-Replaced.ensures.step.pair c.in-Replaced.ensures.step.moved.changes in
-          answers-made c.equals.ensures c.equals-2.ensures hash eq s c.in-Replaced._entry.guard.now c.args.call (Replace c.in-Replace.k) c.in-Replace.is (Key (Some c.in-Replaced.old)) raw copy less ready.1);
+          answers-made c.requires.clones hash eq s c.in-Replaced._entry.guard.now c.args.call (Replace c.in-Replace.k) c.in-Replace.is (Key (Some c.in-Replaced.old)) raw copy less ready.1);
       made = (λ copy ready. search (rules, less));
       kept = (search rules);
     }
@@ -201,7 +201,7 @@ returns-in-Replace g c =
           let eq = g.K.PartialEq.eq in
           let raw : MovesResized length (CacheMoves eq (list_number hash s.contents)) (CacheResizes (cache_setting s) (list_number hash s.contents)) (lists_of s.contents) (Replace c.in-Replace.k) (Key None) (lists_of s.contents) = inl (refl, (c.in-NotReplaced.ensures.step.absent, refl)) in
           let less : length (lists_of s.contents) ≤ length (lists_of s.contents) = omega arith in
-          answers-made c.equals.ensures c.equals-2.ensures hash eq s s c.args.call (Replace c.in-Replace.k) c.in-Replace.is (Key None) raw copy less ready.1);
+          answers-made c.requires.clones hash eq s s c.args.call (Replace c.in-Replace.k) c.in-Replace.is (Key None) raw copy less ready.1);
       made = (search rules);
       kept = (search rules);
     }
@@ -218,7 +218,7 @@ returns-in-Remove g c =
       ok = (answers-own g.V.Clone.is_clone hash eq s c.remove_sync.new.self c.args.call (Remove c.in-Remove.k) c.in-Remove.is (Pair c.remove_sync.result) (Pair c.remove_sync.result) refl raw);
       err = (search rules);
       refused = (search rules);
-      answer = (λ copy ready. answers-made c.equals.ensures c.equals-2.ensures hash eq s c.remove_sync.new.self c.args.call (Remove c.in-Remove.k) c.in-Remove.is (Pair c.remove_sync.result) raw copy less ready.1);
+      answer = (λ copy ready. answers-made c.requires.clones hash eq s c.remove_sync.new.self c.args.call (Remove c.in-Remove.k) c.in-Remove.is (Pair c.remove_sync.result) raw copy less ready.1);
       made = (λ copy ready. less);
       kept = (search rules);
     }
@@ -230,13 +230,13 @@ returns-in-Ok-cloned_value-2 g c =
     let eq = g.K.PartialEq.eq in
     let raw : MovesResized length (CacheMoves eq (list_number hash s.contents)) (CacheResizes (cache_setting s) (list_number hash s.contents)) (lists_of s.contents) (Read c.in-Read.k) (Value (option_map (λ p. p.1) (pair_of hash eq s.contents c.in-Read.k))) (lists_of s.contents) = inl (refl, read-moves eq (list_number hash s.contents) (lists_of s.contents) c.in-Read.k) in
     let less : length (lists_of s.contents) ≤ length (lists_of s.contents) = omega arith in
-    let same = answers-made c.equals.ensures c.equals-2.ensures hash eq s s (Read c.in-Read.k) (Read c.in-Read.k) refl (Value (option_map (λ p. p.1) (pair_of hash eq s.contents c.in-Read.k))) raw (Value c.in-Ok-cloned_value-2.value) less (copied c.requires.clones Value _ (λ p. p.1) refl (λ x y h. h) (pair_of hash eq s.contents c.in-Read.k) c.in-Ok-cloned_value-2.value c.in-Ok-cloned_value-2.ensures.ok) in
+    let same = answers-made c.requires.clones hash eq s s (Read c.in-Read.k) (Read c.in-Read.k) refl (Value (option_map (λ p. p.1) (pair_of hash eq s.contents c.in-Read.k))) raw (Value c.in-Ok-cloned_value-2.value) less (copied c.requires.clones Value _ (λ p. p.1) refl (λ x y h. h) (pair_of hash eq s.contents c.in-Read.k) c.in-Ok-cloned_value-2.value c.in-Ok-cloned_value-2.ensures.ok) in
     record {
       setting = (search rules);
       ok = (answers-own g.V.Clone.is_clone hash eq s s c.args.call (Read c.in-Read.k) c.in-Read.is (Value (option_map (λ p. p.1) (pair_of hash eq s.contents c.in-Read.k))) (Value c.in-Ok-cloned_value-2.value) (copied-part g.V.Clone.is_clone (λ p. p.1) (pair_of hash eq s.contents c.in-Read.k) c.in-Ok-cloned_value-2.value c.in-Ok-cloned_value-2.ensures.ok) raw);
       err = (search rules);
       refused = (search rules);
-      answer = (λ copy ready. answers-given c.equals.ensures c.equals-2.ensures hash eq s s c.args.call (Read c.in-Read.k) c.in-Read.is (Value (option_map (λ p. p.1) (pair_of hash eq s.contents c.in-Read.k))) raw (Value c.in-Ok-cloned_value-2.value) copy same less ready.1);
+      answer = (λ copy ready. answers-given c.requires.clones hash eq s s c.args.call (Read c.in-Read.k) c.in-Read.is (Value (option_map (λ p. p.1) (pair_of hash eq s.contents c.in-Read.k))) raw c.equals.ensures (Value c.in-Ok-cloned_value-2.value) copy same less ready.1);
       made = (search rules);
       kept = (search rules);
     }
@@ -266,7 +266,7 @@ returns-in-Contains g c =
       refused = (search rules);
       answer = (
           λ copy ready. let less : length (lists_of s.contents) ≤ length (lists_of s.contents) = omega arith in
-          answers-made c.equals.ensures c.equals-2.ensures hash eq s s c.args.call (Contains c.in-Contains.k) c.in-Contains.is (Has c.contains_sync.result) raw copy less ready.1);
+          answers-made c.requires.clones hash eq s s c.args.call (Contains c.in-Contains.k) c.in-Contains.is (Has c.contains_sync.result) raw copy less ready.1);
       made = (search rules);
       kept = (search rules);
     }
@@ -303,7 +303,7 @@ returns g c =
       refused = (search rules);
       answer = (
           λ copy ready. let less : length (lists_of s.contents) ≤ length (lists_of s.contents) = omega arith in
-          answers-made c.equals.ensures c.equals-2.ensures hash eq s s c.args.call (Len) c.in-Len.is (Count c.len.result) raw copy less ready.1);
+          answers-made c.requires.clones hash eq s s c.args.call (Len) c.in-Len.is (Count c.len.result) raw copy less ready.1);
       made = (search rules);
       kept = (search rules);
     }
