@@ -2,7 +2,9 @@
 // each of the two changes alone.
 use crate::expect::{expect, expect_eq};
 use crate::looks::{expect_keys, fill, put};
-use scc::{HashIndex, HashMap, HashSet, hash_index, hash_map, hash_set};
+use scc_shared::index::HashIndex;
+use scc_shared::map::HashMap;
+use scc_shared_set::HashSet;
 use std::io::Print;
 use std::process::Abort;
 use std::sync::Wait;
@@ -33,7 +35,7 @@ fn expect_copy<F: Form, R: Abort + Print>(
 fn expect_map<R: AllocGlobal + Abort + Print>(
     rt: &R,
     refusal: &mut Refusal,
-    map: &hash_map::Owned<Token, Token, Masked>,
+    map: &scc_owned::map::Owned<Token, Token, Masked>,
 ) {
     for _ in 0..TRIES {
         match map.try_clone() {
@@ -47,7 +49,7 @@ fn expect_map<R: AllocGlobal + Abort + Print>(
 
 #[test]
 fn a_clone_of_a_map_is_whole(rt: HostRuntime) {
-    let mut map: hash_map::Owned<Token, Token, Masked> = hash_map::Owned::with_hasher(
+    let mut map: scc_owned::map::Owned<Token, Token, Masked> = scc_owned::map::Owned::with_hasher(
         rt.alloc(),
         ZERO,
     );
@@ -59,7 +61,7 @@ fn a_clone_of_a_map_is_whole(rt: HostRuntime) {
 fn expect_set<R: AllocGlobal + Abort + Print>(
     rt: &R,
     refusal: &mut Refusal,
-    set: &hash_set::Owned<Token, Masked>,
+    set: &scc_set::Owned<Token, Masked>,
 ) {
     for _ in 0..TRIES {
         match set.try_clone() {
@@ -73,7 +75,7 @@ fn expect_set<R: AllocGlobal + Abort + Print>(
 
 #[test]
 fn a_clone_of_a_set_is_whole(rt: HostRuntime) {
-    let mut set: hash_set::Owned<Token, Masked> = hash_set::Owned::with_hasher(rt.alloc(), ZERO);
+    let mut set: scc_set::Owned<Token, Masked> = scc_set::Owned::with_hasher(rt.alloc(), ZERO);
     let mut refusal = Refusal::new();
     fill(&rt, &mut refusal, &mut set, Way::Insert, 3);
     expect_set(&rt, &mut refusal, &set);
@@ -82,7 +84,7 @@ fn a_clone_of_a_set_is_whole(rt: HostRuntime) {
 fn expect_index<R: AllocGlobal + Abort + Print>(
     rt: &R,
     refusal: &mut Refusal,
-    index: &hash_index::Owned<Token, Token, Masked>,
+    index: &scc_owned::index::Owned<Token, Token, Masked>,
 ) {
     for _ in 0..TRIES {
         match index.try_clone() {
@@ -96,10 +98,8 @@ fn expect_index<R: AllocGlobal + Abort + Print>(
 
 #[test]
 fn a_clone_of_an_index_is_whole(rt: HostRuntime) {
-    let mut index: hash_index::Owned<Token, Token, Masked> = hash_index::Owned::with_hasher(
-        rt.alloc(),
-        ZERO,
-    );
+    let mut index: scc_owned::index::Owned<Token, Token, Masked> =
+        scc_owned::index::Owned::with_hasher(rt.alloc(), ZERO);
     let mut refusal = Refusal::new();
     fill(&rt, &mut refusal, &mut index, Way::Insert, 3);
     expect_index(&rt, &mut refusal, &index);

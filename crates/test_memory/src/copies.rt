@@ -1,7 +1,7 @@
 // Clones and snapshots: a call makes the whole or nothing, and the original stays.
 use crate::expect::expect_eq;
 use crate::looks::{Look, expect_keys, fill, put};
-use crate::makers::{Job, Of, with};
+use crate::makers::{Job, NO_CACHES, Of, with};
 use std::io::Print;
 use std::process::Abort;
 use std::sync::Wait;
@@ -71,46 +71,19 @@ impl Job for Snapshot {
     }
 }
 
-fn expect_job<J: Job, R: AllocGlobal + Abort + Print + Wait>(rt: &R, of: Of, job: &J) {
-    with(rt, &mut Refusal::new(), of, 64, job);
+/// Does the job on each form.
+fn expect_job<J: Job, R: AllocGlobal + Abort + Print + Wait>(rt: &R, forms: &[Of], job: &J) {
+    for of in forms {
+        with(rt, &mut Refusal::new(), *of, 64, job);
+    }
 }
 
 #[test]
-fn a_refused_clone_leaves_the_map(rt: HostRuntime) {
-    expect_job(&rt, Of::Map, &Copying);
-}
-
-#[test]
-fn a_refused_clone_leaves_the_set(rt: HostRuntime) {
-    expect_job(&rt, Of::Set, &Copying);
-}
-
-#[test]
-fn a_refused_clone_leaves_the_index(rt: HostRuntime) {
-    expect_job(&rt, Of::Index, &Copying);
-}
-
-#[test]
-fn a_refused_clone_leaves_the_shared_map(rt: HostRuntime) {
-    expect_job(&rt, Of::SharedMap, &Copying);
-}
-
-#[test]
-fn a_refused_clone_leaves_the_shared_set(rt: HostRuntime) {
-    expect_job(&rt, Of::SharedSet, &Copying);
-}
-
-#[test]
-fn a_refused_clone_leaves_the_shared_index(rt: HostRuntime) {
-    expect_job(&rt, Of::SharedIndex, &Copying);
+fn a_refused_clone_leaves_the_original(rt: HostRuntime) {
+    expect_job(&rt, &NO_CACHES, &Copying);
 }
 
 #[test]
 fn a_refused_snapshot_leaves_the_index(rt: HostRuntime) {
-    expect_job(&rt, Of::Index, &Snapshot);
-}
-
-#[test]
-fn a_refused_snapshot_leaves_the_shared_index(rt: HostRuntime) {
-    expect_job(&rt, Of::SharedIndex, &Snapshot);
+    expect_job(&rt, &[Of::Index, Of::SharedIndex], &Snapshot);
 }

@@ -46,10 +46,7 @@ impl Job for Crowd {
 
 #[test]
 fn a_refused_crowded_bucket_of_an_index_goes_on_waiting(rt: HostRuntime) {
-    with(&rt, &mut Refusal::new(), Of::Index, 64, &Crowd);
-}
-
-#[test]
-fn a_refused_crowded_bucket_of_a_shared_index_goes_on_waiting(rt: HostRuntime) {
-    with(&rt, &mut Refusal::new(), Of::SharedIndex, 64, &Crowd);
+    for of in [Of::Index, Of::SharedIndex] {
+        with(&rt, &mut Refusal::new(), of, 64, &Crowd);
+    }
 }

@@ -2,7 +2,7 @@
 // changes nothing. It is made again until it adds the pair.
 use crate::expect::{expect, expect_eq};
 use crate::looks::{Look, expect_keys, fill, pair_of, value_of};
-use crate::makers::{Job, Of, with};
+use crate::makers::{EVERY, Job, NO_INDEXES, Of, with};
 use crate::meetings;
 use std::io::Print;
 use std::process::Abort;
@@ -233,38 +233,17 @@ fn failed_closures_insert_nothing(rt: HostRuntime) {
 }
 
 #[test]
-fn map_insertions_refused_their_first_array(rt: HostRuntime) {
-    expect_insertions(&rt, Of::Map, State::Bare, 0, &WAYS);
+fn insertions_refused_their_first_array(rt: HostRuntime) {
+    for of in EVERY {
+        expect_insertions(&rt, of, State::Bare, 0, &WAYS);
+    }
 }
 
 #[test]
-fn map_insertions_refused_their_full_bucket(rt: HostRuntime) {
-    expect_insertions(&rt, Of::Map, State::Full, 64, &WAYS);
-}
-
-#[test]
-fn map_insertions_refused_their_overflow_list(rt: HostRuntime) {
-    expect_insertions(&rt, Of::Map, State::Wide, Of::Map.wide(), &WAYS);
-}
-
-#[test]
-fn set_insertions_refused_their_first_array(rt: HostRuntime) {
-    expect_insertions(&rt, Of::Set, State::Bare, 0, &WAYS);
-}
-
-#[test]
-fn set_insertions_refused_their_full_bucket(rt: HostRuntime) {
-    expect_insertions(&rt, Of::Set, State::Full, 64, &WAYS);
-}
-
-#[test]
-fn set_insertions_refused_their_overflow_list(rt: HostRuntime) {
-    expect_insertions(&rt, Of::Set, State::Wide, Of::Set.wide(), &WAYS);
-}
-
-#[test]
-fn index_insertions_refused_their_first_array(rt: HostRuntime) {
-    expect_insertions(&rt, Of::Index, State::Bare, 0, &WAYS);
+fn insertions_refused_their_full_bucket(rt: HostRuntime) {
+    for of in NO_INDEXES {
+        expect_insertions(&rt, of, State::Full, 64, &WAYS);
+    }
 }
 
 #[test]
@@ -273,58 +252,27 @@ fn index_insertions_refused_their_full_bucket(rt: HostRuntime) {
 }
 
 #[test]
-fn index_insertions_refused_their_overflow_list(rt: HostRuntime) {
-    expect_insertions(&rt, Of::Index, State::Wide, Of::Index.wide(), &SOME);
-}
-
-#[test]
-fn cache_puts_refused_their_first_array(rt: HostRuntime) {
-    expect_insertions(&rt, Of::Cache, State::Bare, 0, &WAYS);
-}
-
-#[test]
-fn cache_puts_refused_their_full_bucket(rt: HostRuntime) {
-    expect_insertions(&rt, Of::Cache, State::Full, 64, &WAYS);
-}
-
-#[test]
-fn shared_map_insertions_refused_their_first_array(rt: HostRuntime) {
-    expect_insertions(&rt, Of::SharedMap, State::Bare, 0, &WAYS);
-}
-
-#[test]
-fn shared_map_insertions_refused_their_full_bucket(rt: HostRuntime) {
-    expect_insertions(&rt, Of::SharedMap, State::Full, 64, &WAYS);
-}
-
-#[test]
-fn shared_map_insertions_refused_their_overflow_list(rt: HostRuntime) {
-    expect_insertions(&rt, Of::SharedMap, State::Wide, Of::SharedMap.wide(), &SOME);
-}
-
-#[test]
-fn shared_set_insertions_refused_their_first_array(rt: HostRuntime) {
-    expect_insertions(&rt, Of::SharedSet, State::Bare, 0, &WAYS);
-}
-
-#[test]
-fn shared_set_insertions_refused_their_full_bucket(rt: HostRuntime) {
-    expect_insertions(&rt, Of::SharedSet, State::Full, 64, &WAYS);
-}
-
-#[test]
-fn shared_set_insertions_refused_their_overflow_list(rt: HostRuntime) {
-    expect_insertions(&rt, Of::SharedSet, State::Wide, Of::SharedSet.wide(), &SOME);
-}
-
-#[test]
-fn shared_index_insertions_refused_their_first_array(rt: HostRuntime) {
-    expect_insertions(&rt, Of::SharedIndex, State::Bare, 0, &WAYS);
-}
-
-#[test]
 fn shared_index_insertions_refused_their_full_bucket(rt: HostRuntime) {
     expect_insertions(&rt, Of::SharedIndex, State::Full, 64, &SOME);
+}
+
+#[test]
+fn owned_insertions_refused_their_overflow_list(rt: HostRuntime) {
+    for of in [Of::Map, Of::Set] {
+        expect_insertions(&rt, of, State::Wide, of.wide(), &WAYS);
+    }
+}
+
+#[test]
+fn shared_insertions_refused_their_overflow_list(rt: HostRuntime) {
+    for of in [Of::SharedMap, Of::SharedSet] {
+        expect_insertions(&rt, of, State::Wide, of.wide(), &SOME);
+    }
+}
+
+#[test]
+fn index_insertions_refused_their_overflow_list(rt: HostRuntime) {
+    expect_insertions(&rt, Of::Index, State::Wide, Of::Index.wide(), &SOME);
 }
 
 #[test]
@@ -336,14 +284,4 @@ fn shared_index_insertions_refused_their_overflow_list(rt: HostRuntime) {
         Of::SharedIndex.wide(),
         &SOME,
     );
-}
-
-#[test]
-fn shared_cache_puts_refused_their_first_array(rt: HostRuntime) {
-    expect_insertions(&rt, Of::SharedCache, State::Bare, 0, &WAYS);
-}
-
-#[test]
-fn shared_cache_puts_refused_their_full_bucket(rt: HostRuntime) {
-    expect_insertions(&rt, Of::SharedCache, State::Full, 64, &WAYS);
 }

@@ -2,9 +2,13 @@
 // refused in each run.
 use crate::expect::{expect, expect_eq};
 use crate::looks::expect_keys;
-use crate::makers::{Job, Of, of_items, with};
+use crate::makers::{EVERY, Job, Of, of_items, with};
 use crate::meetings;
-use scc::{HashCache, HashIndex, HashMap, HashSet, hash_cache, hash_index, hash_map, hash_set};
+use scc_shared::index::HashIndex;
+use scc_shared::map::HashMap;
+use scc_shared_cache::HashCache;
+use scc_shared_set::HashSet;
+use std::alloc::Global;
 use std::io::Print;
 use std::process::Abort;
 use std::sync::Wait;
@@ -71,241 +75,164 @@ fn expect_made<R: AllocGlobal + Abort + Print + Wait>(rt: &R, of: Of) {
 }
 
 #[test]
-fn map_is_made_whole_or_not(rt: HostRuntime) {
-    expect_made(&rt, Of::Map);
+fn each_form_is_made_whole_or_not(rt: HostRuntime) {
+    for of in EVERY {
+        expect_made(&rt, of);
+    }
 }
 
-#[test]
-fn set_is_made_whole_or_not(rt: HostRuntime) {
-    expect_made(&rt, Of::Set);
+// A container with the common hasher, made for a number of slots.
+trait Sizing: Sized {
+    /// Makes an empty container for `asked` slots, or returns `None` if memory is refused.
+    fn make(alloc: Global, asked: usize) -> Option<Self>;
+
+    /// Returns the number of keys and the number of slots.
+    fn sizes<R: Wait>(&self, rt: &R) -> (usize, usize);
 }
 
-#[test]
-fn index_is_made_whole_or_not(rt: HostRuntime) {
-    expect_made(&rt, Of::Index);
-}
-
-#[test]
-fn cache_is_made_whole_or_not(rt: HostRuntime) {
-    expect_made(&rt, Of::Cache);
-}
-
-#[test]
-fn shared_map_is_made_whole_or_not(rt: HostRuntime) {
-    expect_made(&rt, Of::SharedMap);
-}
-
-#[test]
-fn shared_set_is_made_whole_or_not(rt: HostRuntime) {
-    expect_made(&rt, Of::SharedSet);
-}
-
-#[test]
-fn shared_index_is_made_whole_or_not(rt: HostRuntime) {
-    expect_made(&rt, Of::SharedIndex);
-}
-
-#[test]
-fn shared_cache_is_made_whole_or_not(rt: HostRuntime) {
-    expect_made(&rt, Of::SharedCache);
-}
-
-fn expect_map<R: AllocGlobal + Abort + Print>(
+/// Returns the sizes of a container for `asked` slots, or `None` if it is refused each time.
+fn sizes_of<C: Sizing + Drop, R: AllocGlobal + Print + Wait>(
     rt: &R,
     refusal: &mut Refusal,
+    what: &str,
     asked: usize,
-    capacity: usize,
-) {
+) -> Option<(usize, usize)> {
     for _ in 0..TRIES {
-        match hash_map::Owned::<u64, u64>::with_capacity(rt.alloc(), asked) {
-            Ok(map) => return expect_eq(rt, (map.len(), map.capacity()), (0, capacity)),
-            Err(_) => refusal.meet(rt, "a map of the common hasher"),
+        match C::make(rt.alloc(), asked) {
+            Some(made) => return Some(made.sizes(rt)),
+            None => refusal.meet(rt, what),
         }
     }
-    expect(rt, false);
+    None
+}
+
+/// Makes containers of each size until none is refused, and one for whose slots no memory is enough. A refusal is told
+/// as that of `what`.
+fn outlast<C: Sizing + Drop, R: AllocGlobal + Abort + Print + Wait>(rt: &R, what: &str) {
+    let mut refusal = Refusal::new();
+    expect(rt, C::make(rt.alloc(), usize::MAX).is_none());
+    for (asked, capacity) in SIZES {
+        let sizes = sizes_of::<C, R>(rt, &mut refusal, what, asked);
+        expect_eq(rt, sizes, Some((0, capacity)));
+    }
+}
+
+impl Sizing for scc_owned::map::Owned<u64, u64> {
+    fn make(alloc: Global, asked: usize) -> Option<Self> {
+        scc_owned::map::Owned::with_capacity(alloc, asked).ok()
+    }
+
+    fn sizes<R: Wait>(&self, _rt: &R) -> (usize, usize) {
+        (self.len(), self.capacity())
+    }
 }
 
 #[test]
 fn map_with_capacity_is_made_whole_or_not(rt: HostRuntime) {
-    let mut refusal = Refusal::new();
-    let past_all = hash_map::Owned::<u64, u64>::with_capacity(rt.alloc(), usize::MAX);
-    expect(&rt, past_all.is_err());
-    for (asked, capacity) in SIZES {
-        expect_map(&rt, &mut refusal, asked, capacity);
-    }
+    outlast::<scc_owned::map::Owned<u64, u64>, _>(&rt, "a map of the common hasher");
 }
 
-fn expect_set<R: AllocGlobal + Abort + Print>(
-    rt: &R,
-    refusal: &mut Refusal,
-    asked: usize,
-    capacity: usize,
-) {
-    for _ in 0..TRIES {
-        match hash_set::Owned::<u64>::with_capacity(rt.alloc(), asked) {
-            Ok(set) => return expect_eq(rt, (set.len(), set.capacity()), (0, capacity)),
-            Err(_) => refusal.meet(rt, "a set of the common hasher"),
-        }
+impl Sizing for scc_set::Owned<u64> {
+    fn make(alloc: Global, asked: usize) -> Option<Self> {
+        scc_set::Owned::with_capacity(alloc, asked).ok()
     }
-    expect(rt, false);
+
+    fn sizes<R: Wait>(&self, _rt: &R) -> (usize, usize) {
+        (self.len(), self.capacity())
+    }
 }
 
 #[test]
 fn set_with_capacity_is_made_whole_or_not(rt: HostRuntime) {
-    let mut refusal = Refusal::new();
-    let past_all = hash_set::Owned::<u64>::with_capacity(rt.alloc(), usize::MAX);
-    expect(&rt, past_all.is_err());
-    for (asked, capacity) in SIZES {
-        expect_set(&rt, &mut refusal, asked, capacity);
-    }
+    outlast::<scc_set::Owned<u64>, _>(&rt, "a set of the common hasher");
 }
 
-fn expect_index<R: AllocGlobal + Abort + Print>(
-    rt: &R,
-    refusal: &mut Refusal,
-    asked: usize,
-    capacity: usize,
-) {
-    for _ in 0..TRIES {
-        match hash_index::Owned::<u64, u64>::with_capacity(rt.alloc(), asked) {
-            Ok(index) => return expect_eq(rt, (index.len(), index.capacity()), (0, capacity)),
-            Err(_) => refusal.meet(rt, "an index of the common hasher"),
-        }
+impl Sizing for scc_owned::index::Owned<u64, u64> {
+    fn make(alloc: Global, asked: usize) -> Option<Self> {
+        scc_owned::index::Owned::with_capacity(alloc, asked).ok()
     }
-    expect(rt, false);
+
+    fn sizes<R: Wait>(&self, _rt: &R) -> (usize, usize) {
+        (self.len(), self.capacity())
+    }
 }
 
 #[test]
 fn index_with_capacity_is_made_whole_or_not(rt: HostRuntime) {
-    let mut refusal = Refusal::new();
-    let past_all = hash_index::Owned::<u64, u64>::with_capacity(rt.alloc(), usize::MAX);
-    expect(&rt, past_all.is_err());
-    for (asked, capacity) in SIZES {
-        expect_index(&rt, &mut refusal, asked, capacity);
-    }
+    outlast::<scc_owned::index::Owned<u64, u64>, _>(&rt, "an index of the common hasher");
 }
 
-fn expect_cache<R: AllocGlobal + Abort + Print>(
-    rt: &R,
-    refusal: &mut Refusal,
-    asked: usize,
-    capacity: usize,
-) {
-    for _ in 0..TRIES {
-        match hash_cache::Owned::<u64, u64>::with_capacity(rt.alloc(), asked, 128) {
-            Ok(cache) => return expect_eq(rt, (cache.len(), cache.capacity()), (0, capacity)),
-            Err(_) => refusal.meet(rt, "a cache of the common hasher"),
-        }
+impl Sizing for scc_cache::Owned<u64, u64> {
+    fn make(alloc: Global, asked: usize) -> Option<Self> {
+        scc_cache::Owned::with_capacity(alloc, asked, asked.max(128)).ok()
     }
-    expect(rt, false);
+
+    fn sizes<R: Wait>(&self, _rt: &R) -> (usize, usize) {
+        (self.len(), self.capacity())
+    }
 }
 
 #[test]
 fn cache_with_capacity_is_made_whole_or_not(rt: HostRuntime) {
-    let mut refusal = Refusal::new();
-    let past_all = hash_cache::Owned::<u64, u64>::with_capacity(rt.alloc(), usize::MAX, usize::MAX);
-    expect(&rt, past_all.is_err());
-    for (asked, capacity) in SIZES {
-        expect_cache(&rt, &mut refusal, asked, capacity);
-    }
+    outlast::<scc_cache::Owned<u64, u64>, _>(&rt, "a cache of the common hasher");
 }
 
-fn expect_shared_map<R: AllocGlobal + Abort + Print + Wait>(
-    rt: &R,
-    refusal: &mut Refusal,
-    asked: usize,
-    capacity: usize,
-) {
-    for _ in 0..TRIES {
-        match HashMap::<u64, u64>::with_capacity(rt.alloc(), asked) {
-            Ok(map) => return expect_eq(rt, (map.len(rt), map.capacity(rt)), (0, capacity)),
-            Err(_) => refusal.meet(rt, "a shared map of the common hasher"),
-        }
+impl Sizing for HashMap<u64, u64> {
+    fn make(alloc: Global, asked: usize) -> Option<Self> {
+        HashMap::with_capacity(alloc, asked).ok()
     }
-    expect(rt, false);
+
+    fn sizes<R: Wait>(&self, rt: &R) -> (usize, usize) {
+        (self.len(rt), self.capacity(rt))
+    }
 }
 
 #[test]
 fn shared_map_with_capacity_is_made_whole_or_not(rt: HostRuntime) {
-    let mut refusal = Refusal::new();
-    let past_all = HashMap::<u64, u64>::with_capacity(rt.alloc(), usize::MAX);
-    expect(&rt, past_all.is_err());
-    for (asked, capacity) in SIZES {
-        expect_shared_map(&rt, &mut refusal, asked, capacity);
-    }
+    outlast::<HashMap<u64, u64>, _>(&rt, "a shared map of the common hasher");
 }
 
-fn expect_shared_set<R: AllocGlobal + Abort + Print + Wait>(
-    rt: &R,
-    refusal: &mut Refusal,
-    asked: usize,
-    capacity: usize,
-) {
-    for _ in 0..TRIES {
-        match HashSet::<u64>::with_capacity(rt.alloc(), asked) {
-            Ok(set) => return expect_eq(rt, (set.len(rt), set.capacity(rt)), (0, capacity)),
-            Err(_) => refusal.meet(rt, "a shared set of the common hasher"),
-        }
+impl Sizing for HashSet<u64> {
+    fn make(alloc: Global, asked: usize) -> Option<Self> {
+        HashSet::with_capacity(alloc, asked).ok()
     }
-    expect(rt, false);
+
+    fn sizes<R: Wait>(&self, rt: &R) -> (usize, usize) {
+        (self.len(rt), self.capacity(rt))
+    }
 }
 
 #[test]
 fn shared_set_with_capacity_is_made_whole_or_not(rt: HostRuntime) {
-    let mut refusal = Refusal::new();
-    let past_all = HashSet::<u64>::with_capacity(rt.alloc(), usize::MAX);
-    expect(&rt, past_all.is_err());
-    for (asked, capacity) in SIZES {
-        expect_shared_set(&rt, &mut refusal, asked, capacity);
-    }
+    outlast::<HashSet<u64>, _>(&rt, "a shared set of the common hasher");
 }
 
-fn expect_shared_index<R: AllocGlobal + Abort + Print + Wait>(
-    rt: &R,
-    refusal: &mut Refusal,
-    asked: usize,
-    capacity: usize,
-) {
-    for _ in 0..TRIES {
-        match HashIndex::<u64, u64>::with_capacity(rt.alloc(), asked) {
-            Ok(index) => return expect_eq(rt, (index.len(rt), index.capacity(rt)), (0, capacity)),
-            Err(_) => refusal.meet(rt, "a shared index of the common hasher"),
-        }
+impl Sizing for HashIndex<u64, u64> {
+    fn make(alloc: Global, asked: usize) -> Option<Self> {
+        HashIndex::with_capacity(alloc, asked).ok()
     }
-    expect(rt, false);
+
+    fn sizes<R: Wait>(&self, rt: &R) -> (usize, usize) {
+        (self.len(rt), self.capacity(rt))
+    }
 }
 
 #[test]
 fn shared_index_with_capacity_is_made_whole_or_not(rt: HostRuntime) {
-    let mut refusal = Refusal::new();
-    let past_all = HashIndex::<u64, u64>::with_capacity(rt.alloc(), usize::MAX);
-    expect(&rt, past_all.is_err());
-    for (asked, capacity) in SIZES {
-        expect_shared_index(&rt, &mut refusal, asked, capacity);
-    }
+    outlast::<HashIndex<u64, u64>, _>(&rt, "a shared index of the common hasher");
 }
 
-fn expect_shared_cache<R: AllocGlobal + Abort + Print + Wait>(
-    rt: &R,
-    refusal: &mut Refusal,
-    asked: usize,
-    capacity: usize,
-) {
-    for _ in 0..TRIES {
-        match HashCache::<u64, u64>::with_capacity(rt.alloc(), asked, 128) {
-            Ok(cache) => return expect_eq(rt, (cache.len(rt), cache.capacity(rt)), (0, capacity)),
-            Err(_) => refusal.meet(rt, "a shared cache of the common hasher"),
-        }
+impl Sizing for HashCache<u64, u64> {
+    fn make(alloc: Global, asked: usize) -> Option<Self> {
+        HashCache::with_capacity(alloc, asked, asked.max(128)).ok()
     }
-    expect(rt, false);
+
+    fn sizes<R: Wait>(&self, rt: &R) -> (usize, usize) {
+        (self.len(rt), self.capacity(rt))
+    }
 }
 
 #[test]
 fn shared_cache_with_capacity_is_made_whole_or_not(rt: HostRuntime) {
-    let mut refusal = Refusal::new();
-    let past_all = HashCache::<u64, u64>::with_capacity(rt.alloc(), usize::MAX, usize::MAX);
-    expect(&rt, past_all.is_err());
-    for (asked, capacity) in SIZES {
-        expect_shared_cache(&rt, &mut refusal, asked, capacity);
-    }
+    outlast::<HashCache<u64, u64>, _>(&rt, "a shared cache of the common hasher");
 }

@@ -3,6 +3,34 @@ use crate::makers::Of;
 use std::io::Print;
 use test_kit::refusals::Refusal;
 
+/// Reports that a constructor was refused.
+pub(crate) fn constructor<R: Print>(rt: &R, refusal: &mut Refusal, of: Of) {
+    match of {
+        Of::Map => refusal.meet(rt, "a constructor of a map"),
+        Of::Set => refusal.meet(rt, "a constructor of a set"),
+        Of::Index => refusal.meet(rt, "a constructor of an index"),
+        Of::Cache => refusal.meet(rt, "a constructor of a cache"),
+        Of::SharedMap => refusal.meet(rt, "a constructor of a shared map"),
+        Of::SharedSet => refusal.meet(rt, "a constructor of a shared set"),
+        Of::SharedIndex => refusal.meet(rt, "a constructor of a shared index"),
+        Of::SharedCache => refusal.meet(rt, "a constructor of a shared cache"),
+    }
+}
+
+/// Reports that a container of items was refused.
+pub(crate) fn items<R: Print>(rt: &R, refusal: &mut Refusal, of: Of) {
+    match of {
+        Of::Map => refusal.meet(rt, "a map of items"),
+        Of::Set => refusal.meet(rt, "a set of items"),
+        Of::Index => refusal.meet(rt, "an index of items"),
+        Of::Cache => refusal.meet(rt, "a cache of items"),
+        Of::SharedMap => refusal.meet(rt, "a shared map of items"),
+        Of::SharedSet => refusal.meet(rt, "a shared set of items"),
+        Of::SharedIndex => refusal.meet(rt, "a shared index of items"),
+        Of::SharedCache => refusal.meet(rt, "a shared cache of items"),
+    }
+}
+
 /// Reports that an insertion was refused.
 pub(crate) fn insertion<R: Print>(rt: &R, refusal: &mut Refusal, of: Of) {
     match of {

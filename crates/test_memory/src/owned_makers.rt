@@ -1,145 +1,70 @@
-// Makers of the owned kinds.
-use crate::makers::{Job, Of, item};
-use scc::{hash_cache, hash_index, hash_map, hash_set};
+// The owned kinds, made for a job.
+use crate::makers::{Job, Made, Of, item, until_made};
+use std::alloc::Global;
 use std::io::Print;
 use std::process::Abort;
 use std::sync::Wait;
+use test_forms::form::Form;
 use test_forms::token::Token;
 use test_kit::masked::{Masked, ZERO};
-use test_kit::refusals::{Refusal, TRIES};
+use test_kit::refusals::Refusal;
 
-pub(crate) fn with_map<J: Job, R: AllocGlobal + Abort + Print + Wait>(
-    rt: &R,
-    refusal: &mut Refusal,
-    slots: usize,
-    job: &J,
-) {
-    for _ in 0..TRIES {
-        let made: Result<hash_map::Owned<Token, Token, Masked>, _> =
-            hash_map::Owned::with_capacity_and_hasher(rt.alloc(), slots, ZERO);
-        match made {
-            Ok(mut map) => return job.run(rt, refusal, Of::Map, &mut map),
-            Err(_) => refusal.meet(rt, "a constructor of a map"),
+pub(crate) type Map = scc_owned::map::Owned<Token, Token, Masked>;
+
+pub(crate) type Set = scc_set::Owned<Token, Masked>;
+
+pub(crate) type Index = scc_owned::index::Owned<Token, Token, Masked>;
+
+pub(crate) type Cache = scc_cache::Owned<Token, Token, Masked>;
+
+impl Made for Map {
+    fn make<R: Wait>(_rt: &R, alloc: Global, slots: Option<usize>) -> Option<Self> {
+        match slots {
+            Some(slots) => scc_owned::map::Owned::with_capacity_and_hasher(alloc, slots, ZERO).ok(),
+            None => scc_owned::map::Owned::try_from_iter(alloc, (0..34).map(item)).ok(),
         }
     }
-    panic!(rt; "it is refused each time");
 }
 
-pub(crate) fn map_of_items<J: Job, R: AllocGlobal + Abort + Print + Wait>(
-    rt: &R,
-    refusal: &mut Refusal,
-    job: &J,
-) {
-    for _ in 0..TRIES {
-        let made: Result<hash_map::Owned<Token, Token, Masked>, _> = hash_map::Owned::try_from_iter(
-            rt.alloc(),
-            (0..34).map(item),
-        );
-        match made {
-            Ok(mut map) => return job.run(rt, refusal, Of::Map, &mut map),
-            Err(_) => refusal.meet(rt, "a map of items"),
+impl Made for Set {
+    fn make<R: Wait>(_rt: &R, alloc: Global, slots: Option<usize>) -> Option<Self> {
+        match slots {
+            Some(slots) => scc_set::Owned::with_capacity_and_hasher(alloc, slots, ZERO).ok(),
+            None => scc_set::Owned::try_from_iter(alloc, (0..34).map(Token::of)).ok(),
         }
     }
-    panic!(rt; "it is refused each time");
 }
 
-pub(crate) fn with_set<J: Job, R: AllocGlobal + Abort + Print + Wait>(
-    rt: &R,
-    refusal: &mut Refusal,
-    slots: usize,
-    job: &J,
-) {
-    for _ in 0..TRIES {
-        let made: Result<hash_set::Owned<Token, Masked>, _> =
-            hash_set::Owned::with_capacity_and_hasher(rt.alloc(), slots, ZERO);
-        match made {
-            Ok(mut set) => return job.run(rt, refusal, Of::Set, &mut set),
-            Err(_) => refusal.meet(rt, "a constructor of a set"),
+impl Made for Index {
+    fn make<R: Wait>(_rt: &R, alloc: Global, slots: Option<usize>) -> Option<Self> {
+        match slots {
+            Some(slots) => scc_owned::index::Owned::with_capacity_and_hasher(
+                alloc, slots, ZERO,
+            ).ok(),
+            None => scc_owned::index::Owned::try_from_iter(alloc, (0..34).map(item)).ok(),
         }
     }
-    panic!(rt; "it is refused each time");
 }
 
-pub(crate) fn set_of_items<J: Job, R: AllocGlobal + Abort + Print + Wait>(
-    rt: &R,
-    refusal: &mut Refusal,
-    job: &J,
-) {
-    for _ in 0..TRIES {
-        let made: Result<hash_set::Owned<Token, Masked>, _> = hash_set::Owned::try_from_iter(
-            rt.alloc(),
-            (0..34).map(Token::of),
-        );
-        match made {
-            Ok(mut set) => return job.run(rt, refusal, Of::Set, &mut set),
-            Err(_) => refusal.meet(rt, "a set of items"),
+impl Made for Cache {
+    fn make<R: Wait>(_rt: &R, alloc: Global, slots: Option<usize>) -> Option<Self> {
+        match slots {
+            Some(slots) => scc_cache::Owned::with_capacity_and_hasher(alloc, slots, 128, ZERO).ok(),
+            None => scc_cache::Owned::try_from_iter(alloc, (0..34).map(item)).ok(),
         }
     }
-    panic!(rt; "it is refused each time");
 }
 
-pub(crate) fn with_index<J: Job, R: AllocGlobal + Abort + Print + Wait>(
+/// Makes an owned container until it isn't refused, and does the job with it.
+pub(crate) fn work<C: Made + Form + Drop, J: Job, R: AllocGlobal + Abort + Print + Wait>(
     rt: &R,
     refusal: &mut Refusal,
-    slots: usize,
+    of: Of,
+    slots: Option<usize>,
     job: &J,
 ) {
-    for _ in 0..TRIES {
-        let made: Result<hash_index::Owned<Token, Token, Masked>, _> =
-            hash_index::Owned::with_capacity_and_hasher(rt.alloc(), slots, ZERO);
-        match made {
-            Ok(mut index) => return job.run(rt, refusal, Of::Index, &mut index),
-            Err(_) => refusal.meet(rt, "a constructor of an index"),
-        }
+    match until_made::<C, R>(rt, refusal, of, slots) {
+        Some(mut container) => job.run(rt, refusal, of, &mut container),
+        None => panic!(rt; "it is refused each time"),
     }
-    panic!(rt; "it is refused each time");
-}
-
-pub(crate) fn index_of_items<J: Job, R: AllocGlobal + Abort + Print + Wait>(
-    rt: &R,
-    refusal: &mut Refusal,
-    job: &J,
-) {
-    for _ in 0..TRIES {
-        let made: Result<hash_index::Owned<Token, Token, Masked>, _> =
-            hash_index::Owned::try_from_iter(rt.alloc(), (0..34).map(item));
-        match made {
-            Ok(mut index) => return job.run(rt, refusal, Of::Index, &mut index),
-            Err(_) => refusal.meet(rt, "an index of items"),
-        }
-    }
-    panic!(rt; "it is refused each time");
-}
-
-pub(crate) fn with_cache<J: Job, R: AllocGlobal + Abort + Print + Wait>(
-    rt: &R,
-    refusal: &mut Refusal,
-    slots: usize,
-    job: &J,
-) {
-    for _ in 0..TRIES {
-        let made: Result<hash_cache::Owned<Token, Token, Masked>, _> =
-            hash_cache::Owned::with_capacity_and_hasher(rt.alloc(), slots, 128, ZERO);
-        match made {
-            Ok(mut cache) => return job.run(rt, refusal, Of::Cache, &mut cache),
-            Err(_) => refusal.meet(rt, "a constructor of a cache"),
-        }
-    }
-    panic!(rt; "it is refused each time");
-}
-
-pub(crate) fn cache_of_items<J: Job, R: AllocGlobal + Abort + Print + Wait>(
-    rt: &R,
-    refusal: &mut Refusal,
-    job: &J,
-) {
-    for _ in 0..TRIES {
-        let made: Result<hash_cache::Owned<Token, Token, Masked>, _> =
-            hash_cache::Owned::try_from_iter(rt.alloc(), (0..34).map(item));
-        match made {
-            Ok(mut cache) => return job.run(rt, refusal, Of::Cache, &mut cache),
-            Err(_) => refusal.meet(rt, "a cache of items"),
-        }
-    }
-    panic!(rt; "it is refused each time");
 }

@@ -2,9 +2,9 @@
 // stays, and a later removal shrinks it.
 use crate::expect::expect_eq;
 use crate::looks::{Look, fill_to_growth, pair_of, value_of};
-use crate::makers::{Job, Of, with};
+use crate::makers::{Job, NO_INDEXES, Of, with};
 use crate::meetings;
-use scc::Verdict;
+use scc_common::Verdict;
 use std::io::Print;
 use std::process::Abort;
 use std::sync::Wait;
@@ -230,13 +230,10 @@ fn expect_shrinks<R: AllocGlobal + Abort + Print + Wait>(rt: &R, of: Of) {
 }
 
 #[test]
-fn map_refused_its_shrink(rt: HostRuntime) {
-    expect_shrinks(&rt, Of::Map);
-}
-
-#[test]
-fn set_refused_its_shrink(rt: HostRuntime) {
-    expect_shrinks(&rt, Of::Set);
+fn removals_refused_their_shrink(rt: HostRuntime) {
+    for of in NO_INDEXES {
+        expect_shrinks(&rt, of);
+    }
 }
 
 #[test]
@@ -245,26 +242,6 @@ fn index_refused_its_shrink(rt: HostRuntime) {
 }
 
 #[test]
-fn cache_refused_its_shrink(rt: HostRuntime) {
-    expect_shrinks(&rt, Of::Cache);
-}
-
-#[test]
-fn shared_map_refused_its_shrink(rt: HostRuntime) {
-    expect_shrinks(&rt, Of::SharedMap);
-}
-
-#[test]
-fn shared_set_refused_its_shrink(rt: HostRuntime) {
-    expect_shrinks(&rt, Of::SharedSet);
-}
-
-#[test]
 fn shared_index_refused_its_shrink(rt: HostRuntime) {
     expect_shrinks(&rt, Of::SharedIndex);
-}
-
-#[test]
-fn shared_cache_refused_its_shrink(rt: HostRuntime) {
-    expect_shrinks(&rt, Of::SharedCache);
 }

@@ -3,7 +3,7 @@
 use crate::expect::expect_eq;
 use crate::insertions::{Looks, expect_added};
 use crate::looks::{expect_keys, fill};
-use crate::makers::{Job, Of, with};
+use crate::makers::{Job, NO_CACHES, Of, with};
 use crate::meetings;
 use crate::removals::expect_shrunk;
 use std::io::Print;
@@ -70,39 +70,12 @@ impl Job for Greatest {
     }
 }
 
-/// Tries both reservations, the second on a container without an array.
-fn expect_reservations<R: AllocGlobal + Abort + Print + Wait>(rt: &R, of: Of) {
-    let mut refusal = Refusal::new();
-    with(rt, &mut refusal, of, 64, &Reservation);
-    with(rt, &mut refusal, of, 0, &Greatest);
-}
-
+/// The second reservation is made on a container without an array.
 #[test]
-fn map_reserves_without_memory(rt: HostRuntime) {
-    expect_reservations(&rt, Of::Map);
-}
-
-#[test]
-fn set_reserves_without_memory(rt: HostRuntime) {
-    expect_reservations(&rt, Of::Set);
-}
-
-#[test]
-fn index_reserves_without_memory(rt: HostRuntime) {
-    expect_reservations(&rt, Of::Index);
-}
-
-#[test]
-fn shared_map_reserves_without_memory(rt: HostRuntime) {
-    expect_reservations(&rt, Of::SharedMap);
-}
-
-#[test]
-fn shared_set_reserves_without_memory(rt: HostRuntime) {
-    expect_reservations(&rt, Of::SharedSet);
-}
-
-#[test]
-fn shared_index_reserves_without_memory(rt: HostRuntime) {
-    expect_reservations(&rt, Of::SharedIndex);
+fn slots_are_reserved_without_memory(rt: HostRuntime) {
+    for of in NO_CACHES {
+        let mut refusal = Refusal::new();
+        with(&rt, &mut refusal, of, 64, &Reservation);
+        with(&rt, &mut refusal, of, 0, &Greatest);
+    }
 }

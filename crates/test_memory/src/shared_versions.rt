@@ -3,7 +3,9 @@
 // make.
 use crate::expect::{expect, expect_eq};
 use crate::versions::expect_versions;
-use scc::hash_index::{Entry, HashIndex, Iter};
+use scc_owned::index::Iter;
+use scc_owned::index::locked::Entry;
+use scc_shared::index::HashIndex;
 use std::io::Print;
 use std::process::Abort;
 use std::sync::Wait;
@@ -68,7 +70,7 @@ fn expect_modified<R: Abort + Print + Wait>(rt: &R, refusal: &mut Refusal, index
                         expect_eq(rt, *entry.get(), !1);
                     }
                 }
-                Entry::Vacant(_entry) => expect(rt, false),
+                Entry::Vacant(_) => expect(rt, false),
             }
         }
     }

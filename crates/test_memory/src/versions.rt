@@ -3,8 +3,8 @@
 use crate::expect::{expect, expect_eq};
 use crate::looks::{Look, fill, pair_of};
 use crate::makers::{Job, Of, with};
-use scc::hash_index::Owned;
-use scc::hash_index::owned::{Entry, Iter};
+use scc_owned::index::Owned;
+use scc_owned::index::borrowed::{Entry, Iter};
 use std::io::Print;
 use std::process::Abort;
 use std::sync::Wait;
@@ -73,21 +73,14 @@ impl Job for Changing {
     }
 }
 
-fn expect_changes<R: AllocGlobal + Abort + Print + Wait>(rt: &R, of: Of) {
-    let mut refusal = Refusal::new();
-    for change in [Change::Update, Change::Modify] {
-        with(rt, &mut refusal, of, 64, &Changing { change });
-    }
-}
-
 #[test]
 fn a_refused_change_leaves_the_version(rt: HostRuntime) {
-    expect_changes(&rt, Of::Index);
-}
-
-#[test]
-fn a_refused_change_leaves_the_shared_version(rt: HostRuntime) {
-    expect_changes(&rt, Of::SharedIndex);
+    let mut refusal = Refusal::new();
+    for of in [Of::Index, Of::SharedIndex] {
+        for change in [Change::Update, Change::Modify] {
+            with(&rt, &mut refusal, of, 64, &Changing { change });
+        }
+    }
 }
 
 /// Returns an index of the keys 0 and 1, each with its complement as value.
@@ -146,7 +139,7 @@ fn expect_modified<R: Abort + Print>(rt: &R, refusal: &mut Refusal, index: &mut 
                         expect_eq(rt, *entry.get(), !1);
                     }
                 }
-                Entry::Vacant(_entry) => expect(rt, false),
+                Entry::Vacant(_) => expect(rt, false),
             }
         }
     }

@@ -2,9 +2,9 @@
 // next walk takes the rest.
 use crate::expect::expect_eq;
 use crate::looks::{Look, fill, pair_of};
-use crate::makers::{Job, Of, with};
+use crate::makers::{Job, NO_INDEXES, Of, with};
 use crate::meetings;
-use scc::Verdict;
+use scc_common::Verdict;
 use std::io::Print;
 use std::process::Abort;
 use std::sync::Wait;
@@ -63,36 +63,9 @@ impl Job for Taking {
     }
 }
 
-fn expect_walk<R: AllocGlobal + Abort + Print + Wait>(rt: &R, of: Of) {
-    with(rt, &mut Refusal::new(), of, 64, &Taking);
-}
-
 #[test]
-fn map_walk_stops_without_room(rt: HostRuntime) {
-    expect_walk(&rt, Of::Map);
-}
-
-#[test]
-fn set_walk_stops_without_room(rt: HostRuntime) {
-    expect_walk(&rt, Of::Set);
-}
-
-#[test]
-fn cache_walk_stops_without_room(rt: HostRuntime) {
-    expect_walk(&rt, Of::Cache);
-}
-
-#[test]
-fn shared_map_walk_stops_without_room(rt: HostRuntime) {
-    expect_walk(&rt, Of::SharedMap);
-}
-
-#[test]
-fn shared_set_walk_stops_without_room(rt: HostRuntime) {
-    expect_walk(&rt, Of::SharedSet);
-}
-
-#[test]
-fn shared_cache_walk_stops_without_room(rt: HostRuntime) {
-    expect_walk(&rt, Of::SharedCache);
+fn a_taking_walk_stops_without_room(rt: HostRuntime) {
+    for of in NO_INDEXES {
+        with(&rt, &mut Refusal::new(), of, 64, &Taking);
+    }
 }

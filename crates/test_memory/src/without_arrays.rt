@@ -3,7 +3,10 @@
 use crate::expect::{expect, expect_eq};
 use crate::looks::{expect_keys, pair_of, put, value_of};
 use crate::reservations::GREATEST;
-use scc::{HashIndex, HashMap, HashSet, InsertError, KeyError, hash_index, hash_map, hash_set};
+use scc_common::{InsertError, KeyError};
+use scc_shared::index::HashIndex;
+use scc_shared::map::HashMap;
+use scc_shared_set::HashSet;
 use std::io::Print;
 use std::process::Abort;
 use std::sync::Wait;
@@ -41,7 +44,7 @@ fn expect_no_array<C: Form + Reserving, R: Abort + Print>(rt: &R, owned: &mut C)
 
 #[test]
 fn map_without_an_array_that_no_memory_has(rt: HostRuntime) {
-    let mut map: hash_map::Owned<Token, Token, Masked> = hash_map::Owned::with_hasher(
+    let mut map: scc_owned::map::Owned<Token, Token, Masked> = scc_owned::map::Owned::with_hasher(
         rt.alloc(),
         ZERO,
     );
@@ -50,16 +53,14 @@ fn map_without_an_array_that_no_memory_has(rt: HostRuntime) {
 
 #[test]
 fn set_without_an_array_that_no_memory_has(rt: HostRuntime) {
-    let mut set: hash_set::Owned<Token, Masked> = hash_set::Owned::with_hasher(rt.alloc(), ZERO);
+    let mut set: scc_set::Owned<Token, Masked> = scc_set::Owned::with_hasher(rt.alloc(), ZERO);
     expect_no_array(&rt, &mut set);
 }
 
 #[test]
 fn index_without_an_array_that_no_memory_has(rt: HostRuntime) {
-    let mut index: hash_index::Owned<Token, Token, Masked> = hash_index::Owned::with_hasher(
-        rt.alloc(),
-        ZERO,
-    );
+    let mut index: scc_owned::index::Owned<Token, Token, Masked> =
+        scc_owned::index::Owned::with_hasher(rt.alloc(), ZERO);
     expect_no_array(&rt, &mut index);
 }
 

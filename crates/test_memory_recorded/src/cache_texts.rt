@@ -1,18 +1,17 @@
 // A recorded cache of numbers and texts. A put copies the pair that it evicts before it changes anything, so a put
 // whose copy is refused evicts nothing.
-ghost use Rattle.std.specs.Prelude.{◌≡◌, Some};
-ghost use Rattle.scc_recorded.specs.Setups.{request_of};
-
-use crate::calls::shared;
 use crate::expect::{expect, expect_eq};
+use crate::opened::{Trial, outlast};
 use crate::texts::text;
-use scc::hash_cache::Owned;
-use scc::recorded::{CacheCall, CallError, Pass, Recorded, Reply, Setup, Shared, Site};
+use scc_cache::Owned;
+use scc_calls::{CacheCall, Reply};
+use scc_common::Shared;
+use scc_history::CallError;
+use scc_recorded::{Pass, Recorded, Site};
 use std::io::Print;
-use std::marker::Brand;
 use std::process::Abort;
 use std::sync::Wait;
-use std::sync::ledger::{Blank, Ledger};
+use std::sync::ledger::Ledger;
 use test_kit::refusals::{Refusal, TRIES};
 use test_kit::zero::Zero;
 
@@ -131,71 +130,33 @@ fn expect_first<L: Ledger, M: Site<Shared<Zero>>, R: Abort + Print + Wait>(
     expect(rt, false);
 }
 
-/// Puts the keys 0 to 32 with the only pass, in a bucket of 32 slots.
-fn put_all<L: Ledger, M: Site<Shared<Zero>>, R: AllocGlobal + Abort + Print + Wait>(
-    rt: &R,
-    refusal: &mut Refusal,
-    recorded: &Recorded<Names, L, M>,
-    passes: &mut [Pass<Names, L>],
-) {
-    for pass in passes {
-        for key in 0..33 {
-            expect_put(rt, refusal, recorded, pass, key);
-        }
-        expect_eq(rt, length(rt, refusal, recorded, pass), Some(32));
-    }
-}
+// Puts of the keys 0 to 32, in a bucket of 32 slots.
+#[derive(Drop)]
+struct Puts;
 
-/// Runs the test on one stripe of 64 slots. Returns false if the container was refused.
-fn on_one_stripe<L: Ledger, M: Site<Shared<Zero>>, R: AllocGlobal + Abort + Print + Wait>(
-    rt: &R,
-    refusal: &mut Refusal,
-    hasher: Shared<Zero>,
-    receipts: Blank,
-    records: Blank,
-) -> bool
-    requires receipts { (receipts.name ≡ L.name) × (receipts.parts ≡ L.parts) × (receipts.parts ≡ 1) }
-    requires records { (records.name ≡ M.name) × (records.parts ≡ M.parts) × (records.parts ≡ 1) }
-    requires site { (M.chosen ≡ Some (request_of 64 64 hasher 1)) × (M.all ≡ 1) }
-{
-    let setup = Setup {
-        capacity: 64,
-        maximum: 64,
-        hasher,
-    };
-    match Recorded::<Names, L, M>::open(rt.alloc(), setup, 1, 1, receipts, records) {
-        Ok((recorded, passes)) => {
-            let mut passes = passes;
-            put_all(rt, refusal, &recorded, passes.as_mut_slice());
-            true
-        }
-        Err(_) => {
-            refusal.meet(rt, "a recorded cache of texts");
-            false
-        }
+impl Trial<Names> for Puts {
+    fn hasher(hasher: Shared<Zero>) -> Shared<Zero> {
+        hasher
     }
-}
 
-fn attempt<R: AllocGlobal + Abort + Print + Wait>(rt: &R, refusal: &mut Refusal) -> bool {
-    match shared(rt, refusal) {
-        Some(hasher) => on_one_stripe::<Brand, Brand, R>(
-            rt,
-            refusal,
-            hasher,
-            Blank::new(1),
-            Blank::new(1),
-        ),
-        None => false,
+    fn run<L: Ledger, M: Site<Shared<Zero>>, R: AllocGlobal + Abort + Print + Wait>(
+        rt: &R,
+        refusal: &mut Refusal,
+        opened: &mut Option<(Recorded<Names, L, M>, Vec<Pass<Names, L>>)>,
+    ) {
+        let Some((recorded, handed)) = opened.take() else {
+            return expect(rt, false);
+        };
+        for mut pass in handed {
+            for key in 0..33 {
+                expect_put(rt, refusal, &recorded, &mut pass, key);
+            }
+            expect_eq(rt, length(rt, refusal, &recorded, &mut pass), Some(32));
+        }
     }
 }
 
 #[test]
 fn recorded_strings_on_a_cache_refused_copy(rt: HostRuntime) {
-    let mut refusal = Refusal::new();
-    for _ in 0..TRIES {
-        if attempt(&rt, &mut refusal) {
-            return;
-        }
-    }
-    expect(&rt, false);
+    outlast::<Names, Puts, _>(&rt, "a recorded cache of texts", (64, 64), 1);
 }

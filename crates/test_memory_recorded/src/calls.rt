@@ -1,33 +1,18 @@
 // Recorded containers of each kind whose calls are refused: the pass keeps its clock and its receipts, and the call is
 // made again until it succeeds, with the reply of a call that was never refused.
-ghost use Rattle.std.specs.Prelude.{◌≡◌, Some};
-ghost use Rattle.scc_recorded.specs.Setups.{request_of};
-
 use crate::expect::{expect, expect_eq};
-use crate::finishes::expect_finished;
+use crate::finishing::expect_finished;
 use crate::kinds::{CALLS, Cache, Index, Map, Set, Tried, What};
-use scc::recorded::{CallError, CloneOwner, Pass, Recorded, Setup, Shared, Site};
+use crate::opened::{Trial, outlast};
+use scc_common::Shared;
+use scc_history::CallError;
+use scc_recorded::{Pass, Recorded, Site};
 use std::io::Print;
-use std::marker::Brand;
 use std::process::Abort;
-use std::sync::ledger::{Blank, Ledger};
-use std::sync::{Arc, Wait};
+use std::sync::Wait;
+use std::sync::ledger::Ledger;
 use test_kit::refusals::{Refusal, TRIES};
 use test_kit::zero::Zero;
-
-/// Returns one owner of the hasher, or `None` if memory is refused each time.
-pub(crate) fn shared<R: AllocGlobal + Print>(
-    rt: &R,
-    refusal: &mut Refusal,
-) -> Option<Shared<Zero>> {
-    for _ in 0..TRIES {
-        match Arc::new(rt.alloc(), Zero) {
-            Ok(owner) => return Some(Shared::new(owner)),
-            Err(_) => refusal.meet(rt, "a shared hasher"),
-        }
-    }
-    None
-}
 
 /// Checks that the clock of `pass` and the number of its receipts are `clock`. They are equal if it is the only pass.
 pub(crate) fn expect_clock<C: Tried, L: Ledger, R: Abort>(rt: &R, pass: &Pass<C, L>, clock: usize) {
@@ -135,42 +120,6 @@ fn expect_clearing<C: Tried, L: Ledger, M: Site<C::Hasher>, R: Abort + Print + W
     expect(rt, false);
 }
 
-/// Makes all calls on two stripes, and the finish. The second stripe stays empty. Returns false if the container was
-/// refused.
-fn call_and_finish<C: Tried, L: Ledger, M: Site<C::Hasher>, R: AllocGlobal + Abort + Print + Wait>(
-    rt: &R,
-    refusal: &mut Refusal,
-    hasher: C::Hasher,
-    receipts: Blank,
-    records: Blank,
-) -> bool
-where
-    C::Hasher: CloneOwner + Drop,
-    requires receipts { (receipts.name ≡ L.name) × (receipts.parts ≡ L.parts) × (receipts.parts ≡ 1) }
-    requires records { (records.name ≡ M.name) × (records.parts ≡ M.parts) × (records.parts ≡ 2) }
-    requires site { (M.chosen ≡ Some (request_of 0 64 hasher 2)) × (M.all ≡ 2) }
-{
-    let setup = Setup {
-        capacity: 0,
-        maximum: 64,
-        hasher,
-    };
-    match Recorded::<C, L, M>::open(rt.alloc(), setup, 2, 1, receipts, records) {
-        Ok((recorded, handed)) => {
-            let mut passes = handed;
-            for pass in passes.as_mut_slice() {
-                call_all(rt, refusal, &recorded, pass);
-            }
-            expect_finished(rt, refusal, recorded.close(), passes, 1);
-            true
-        }
-        Err(_) => {
-            C::meet(rt, refusal, What::Opening);
-            false
-        }
-    }
-}
-
 /// Makes all calls with one pass: one key is present after them, none after the clearing, and then one again. The
 /// second stripe has room for three steps, so the clearing asks for more after the first stripe is cleared.
 fn call_all<C: Tried, L: Ledger, M: Site<C::Hasher>, R: Abort + Print + Wait>(
@@ -190,49 +139,50 @@ fn call_all<C: Tried, L: Ledger, M: Site<C::Hasher>, R: Abort + Print + Wait>(
     expect_call(rt, refusal, recorded, pass, 0);
 }
 
-/// Opens a container whose hasher has several owners, and makes the calls. Returns whether it could be opened.
-fn attempt<C: Tried, R: AllocGlobal + Abort + Print + Wait>(rt: &R, refusal: &mut Refusal) -> bool
-where
-    C::Hasher: CloneOwner + Drop,
-{
-    match shared(rt, refusal) {
-        Some(owner) => {
-            let hasher = C::hasher(owner);
-            call_and_finish::<C, Brand, Brand, R>(rt, refusal, hasher, Blank::new(1), Blank::new(2))
-        }
-        None => false,
-    }
-}
+// All calls on two stripes, and the finish. The second stripe stays empty.
+#[derive(Drop)]
+struct EachCall;
 
-fn expect_recording<C: Tried, R: AllocGlobal + Abort + Print + Wait>(rt: &R)
+impl<C: Tried> Trial<C> for EachCall
 where
-    C::Hasher: CloneOwner + Drop,
+    C::Hasher: Drop,
 {
-    let mut refusal = Refusal::new();
-    for _ in 0..TRIES {
-        if attempt::<C, R>(rt, &mut refusal) {
-            return;
-        }
+    fn hasher(hasher: Shared<Zero>) -> C::Hasher {
+        C::hasher(hasher)
     }
-    expect(rt, false);
+
+    fn run<L: Ledger, M: Site<C::Hasher>, R: AllocGlobal + Abort + Print + Wait>(
+        rt: &R,
+        refusal: &mut Refusal,
+        opened: &mut Option<(Recorded<C, L, M>, Vec<Pass<C, L>>)>,
+    ) {
+        let Some((recorded, handed)) = opened.take() else {
+            return expect(rt, false);
+        };
+        let mut passes = handed;
+        for pass in passes.as_mut_slice() {
+            call_all(rt, refusal, &recorded, pass);
+        }
+        expect_finished(rt, refusal, recorded.close(), passes, 1);
+    }
 }
 
 #[test]
 fn recorded_map_is_refused_in_turn(rt: HostRuntime) {
-    expect_recording::<Map, HostRuntime>(&rt);
+    outlast::<Map, EachCall, _>(&rt, "a recorded map", (0, 64), 2);
 }
 
 #[test]
 fn recorded_set_is_refused_in_turn(rt: HostRuntime) {
-    expect_recording::<Set, HostRuntime>(&rt);
+    outlast::<Set, EachCall, _>(&rt, "a recorded set", (0, 64), 2);
 }
 
 #[test]
 fn recorded_index_is_refused_in_turn(rt: HostRuntime) {
-    expect_recording::<Index, HostRuntime>(&rt);
+    outlast::<Index, EachCall, _>(&rt, "a recorded index", (0, 64), 2);
 }
 
 #[test]
 fn recorded_cache_is_refused_in_turn(rt: HostRuntime) {
-    expect_recording::<Cache, HostRuntime>(&rt);
+    outlast::<Cache, EachCall, _>(&rt, "a recorded cache", (0, 64), 2);
 }

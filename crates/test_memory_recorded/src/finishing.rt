@@ -1,6 +1,9 @@
-// A refused finish hands everything back, and is made again until it succeeds.
-use crate::expect::expect_eq;
-use scc::recorded::{Calls, Closed, FinishError, Finished, Pass, Site, Unfinished};
+// A refused finish hands everything back as it was, and is made again until it succeeds. The finish that succeeds tells
+// what the run did.
+use crate::expect::{expect, expect_eq};
+use crate::kinds::{Met, Tried, What};
+use scc_calls::{Calls, Step};
+use scc_recorded::{Closed, FinishError, Finished, Pass, Site, Unfinished};
 use std::io::Print;
 use std::process::Abort;
 use std::sync::ledger::Ledger;
@@ -44,53 +47,88 @@ where
     [stripes, steps, passes, clocks as usize, receipts]
 }
 
-/// Reports a refused finish, by whether a call before it was refused room for its record.
-fn meet_finish<R: Print>(rt: &R, refusal: &mut Refusal, lacked_room: bool) {
-    if lacked_room {
-        refusal.meet(rt, "a finish after room for a record");
-    } else {
-        refusal.meet(rt, "a finish");
-    }
-}
-
 /// Returns what a refused finish handed back, and checks that it is seen as it was `before` the finish.
-fn handed_back<C: Calls + Drop, L: Ledger, M: Site<C::Hasher>, R: Abort + Print>(
+fn handed_back<C: Met, L: Ledger, M: Site<C::Hasher>, R: Abort + Print>(
     rt: &R,
     refusal: &mut Refusal,
-    lacked_room: bool,
+    what: What,
     back: Unfinished<C, L, M>,
     before: [usize; 5],
 ) -> (Closed<C, L, M>, Vec<Pass<C, L>>)
 where
     C::Hasher: Drop,
 {
-    meet_finish(rt, refusal, lacked_room);
+    C::meet(rt, refusal, what);
     let after = seen_of(&back.recorded, back.passes.as_slice());
     expect_eq(rt, (back.cause, after), (FinishError::Memory, before));
     (back.recorded, back.passes)
 }
 
-/// Finishes the run, in which a call was refused room for its record if `lacked_room`. Returns `None` if the finish is
-/// refused each time.
-pub(crate) fn finished<C: Calls + Drop, L: Ledger, M: Site<C::Hasher>, R: Abort + Print>(
+/// Finishes the run. A refusal is reported as that of `what`. Returns `None` if the finish is refused each time.
+pub(crate) fn finished<C: Met, L: Ledger, M: Site<C::Hasher>, R: Abort + Print>(
     rt: &R,
     refusal: &mut Refusal,
-    lacked_room: bool,
+    what: What,
     closed: Closed<C, L, M>,
     passes: Vec<Pass<C, L>>,
 ) -> Option<Finished<C>>
 where
     C::Hasher: Drop,
-    C::Call: Drop,
-    C::Reply: Drop,
 {
     let before = seen_of(&closed, passes.as_slice());
     let mut held = (closed, passes);
     for _ in 0..TRIES {
         match held.0.finish(held.1) {
             Ok(run) => return Some(run),
-            Err(back) => held = handed_back(rt, refusal, lacked_room, back, before),
+            Err(back) => held = handed_back(rt, refusal, what, back, before),
         }
     }
     None
+}
+
+/// Checks that the order has all steps, and that the calls in it have the stamps from 1 on.
+fn expect_told<C: Tried, R: Abort>(rt: &R, finished: &Finished<C>, steps: usize, clock: u64) {
+    expect_eq(rt, finished.order.len(), steps);
+    let mut stamps = 0u64;
+    let mut are_in_turn = true;
+    for place in finished.order.as_slice() {
+        let history = finished.histories.get(place.0);
+        let step = history.and_then(|history| history.get(place.1));
+        if let Some(Step::Call { stamp, .. }) = step {
+            stamps = stamps.saturating_add(1);
+            are_in_turn = are_in_turn && *stamp == stamps;
+        }
+    }
+    expect_eq(rt, (are_in_turn, stamps), (true, clock));
+}
+
+/// Finishes a run of one pass, until the finish succeeds, and checks the number of keys then in the first stripe.
+pub(crate) fn expect_finished<C: Tried, L: Ledger, M: Site<C::Hasher>, R: Abort + Print>(
+    rt: &R,
+    refusal: &mut Refusal,
+    closed: Closed<C, L, M>,
+    passes: Vec<Pass<C, L>>,
+    count: usize,
+)
+where
+    C::Hasher: Drop,
+{
+    let steps = steps_of(&closed).1;
+    let (passes_made, clock, _) = clocks_of(passes.as_slice());
+    expect_eq(rt, passes_made, 1);
+    match finished(rt, refusal, What::Finish, closed, passes) {
+        Some(run) => {
+            expect_told(rt, &run, steps, clock);
+            expect_eq(rt, count_of(run.parts.as_slice()), Some(count));
+        }
+        None => expect(rt, false),
+    }
+}
+
+/// Returns the number of keys of the first part.
+fn count_of<C: Tried>(parts: &[C]) -> Option<usize> {
+    match parts.first() {
+        Some(part) => Some(part.count()),
+        None => None,
+    }
 }

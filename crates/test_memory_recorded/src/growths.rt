@@ -1,20 +1,18 @@
 // A recorded map whose bucket is full: the growth and the overflow list of the next insertion may both be refused. A
 // growth that was made stays recorded, also if its call was refused.
-ghost use Rattle.std.specs.Prelude.{◌≡◌, Some};
-ghost use Rattle.scc_recorded.specs.Setups.{request_of};
-
-use crate::calls::{expect_clock, shared};
+use crate::calls::expect_clock;
 use crate::expect::{expect, expect_eq};
-use crate::finishes::expect_finished;
+use crate::finishing::expect_finished;
 use crate::kinds::Map;
-use scc::recorded::{
-    CallError, Closed, MapCall, Pass, Receipt, Recorded, Reply, Setup, Shared, Site, Step,
-};
+use crate::opened::{Trial, outlast};
+use scc_calls::{MapCall, Reply, Step};
+use scc_common::Shared;
+use scc_history::{CallError, Receipt};
+use scc_recorded::{Closed, Pass, Recorded, Site};
 use std::io::Print;
-use std::marker::Brand;
 use std::process::Abort;
 use std::sync::Wait;
-use std::sync::ledger::{Blank, Ledger};
+use std::sync::ledger::Ledger;
 use test_kit::refusals::{Refusal, TRIES};
 use test_kit::zero::Zero;
 
@@ -82,74 +80,36 @@ fn expect_growth<L: Ledger, M: Site<Shared<Zero>>, R: Abort + Print>(
     }
 }
 
-/// Inserts keys up to the key that grows the array while its bucket is full, and finishes. Returns false if the
-/// container was refused.
-fn grow_and_finish<L: Ledger, M: Site<Shared<Zero>>, R: AllocGlobal + Abort + Print + Wait>(
-    rt: &R,
-    refusal: &mut Refusal,
-    hasher: Shared<Zero>,
-    receipts: Blank,
-    records: Blank,
-) -> bool
-    requires receipts { (receipts.name ≡ L.name) × (receipts.parts ≡ L.parts) × (receipts.parts ≡ 1) }
-    requires records { (records.name ≡ M.name) × (records.parts ≡ M.parts) × (records.parts ≡ 1) }
-    requires site { (M.chosen ≡ Some (request_of 0 0 hasher 1)) × (M.all ≡ 1) }
-{
-    let setup = Setup {
-        capacity: 0,
-        maximum: 0,
-        hasher,
-    };
-    match Recorded::<Map, L, M>::open(rt.alloc(), setup, 1, 1, receipts, records) {
-        Ok((recorded, handed)) => {
-            insert_and_finish(rt, refusal, recorded, handed);
-            true
-        }
-        Err(_) => {
-            refusal.meet(rt, "a recorded map of one stripe");
-            false
-        }
-    }
-}
+// Insertions of keys up to the key that grows the array while its bucket is full, and the finish.
+#[derive(Drop)]
+struct Growth;
 
-/// Makes the insertions with the only pass, and the finish.
-fn insert_and_finish<L: Ledger, M: Site<Shared<Zero>>, R: Abort + Print + Wait>(
-    rt: &R,
-    refusal: &mut Refusal,
-    recorded: Recorded<Map, L, M>,
-    passes: Vec<Pass<Map, L>>,
-) {
-    let mut passes = passes;
-    for pass in passes.as_mut_slice() {
-        for key in 0..33 {
-            expect_inserted(rt, refusal, &recorded, pass, key);
-        }
+impl Trial<Map> for Growth {
+    fn hasher(hasher: Shared<Zero>) -> Shared<Zero> {
+        hasher
     }
-    let closed = recorded.close();
-    expect_growth(rt, refusal, &closed);
-    expect_finished(rt, refusal, closed, passes, 33);
-}
 
-fn attempt<R: AllocGlobal + Abort + Print + Wait>(rt: &R, refusal: &mut Refusal) -> bool {
-    match shared(rt, refusal) {
-        Some(hasher) => grow_and_finish::<Brand, Brand, R>(
-            rt,
-            refusal,
-            hasher,
-            Blank::new(1),
-            Blank::new(1),
-        ),
-        None => false,
+    fn run<L: Ledger, M: Site<Shared<Zero>>, R: AllocGlobal + Abort + Print + Wait>(
+        rt: &R,
+        refusal: &mut Refusal,
+        opened: &mut Option<(Recorded<Map, L, M>, Vec<Pass<Map, L>>)>,
+    ) {
+        let Some((recorded, handed)) = opened.take() else {
+            return expect(rt, false);
+        };
+        let mut passes = handed;
+        for pass in passes.as_mut_slice() {
+            for key in 0..33 {
+                expect_inserted(rt, refusal, &recorded, pass, key);
+            }
+        }
+        let closed = recorded.close();
+        expect_growth(rt, refusal, &closed);
+        expect_finished(rt, refusal, closed, passes, 33);
     }
 }
 
 #[test]
 fn recorded_refused_call_keeps_its_growth(rt: HostRuntime) {
-    let mut refusal = Refusal::new();
-    for _ in 0..TRIES {
-        if attempt(&rt, &mut refusal) {
-            return;
-        }
-    }
-    expect(&rt, false);
+    outlast::<Map, Growth, _>(&rt, "a recorded map of one stripe", (0, 0), 1);
 }

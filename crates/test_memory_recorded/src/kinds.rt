@@ -2,29 +2,31 @@
 // inserts meets a missing key and a present one.
 ghost use Rattle.scc_calls.specs.Copies.{ClonesEqual};
 
-use scc::recorded::{CacheCall, CallError, IndexCall, MapCall, Reply, SetCall, Shared, WholeCalls};
-use scc::{hash_cache, hash_index, hash_map, hash_set};
+use scc_calls::{CacheCall, Calls, IndexCall, MapCall, Reply, SetCall, WholeCalls};
+use scc_common::Shared;
+use scc_history::CallError;
 use std::alloc::Global;
 use std::io::Print;
 use test_kit::refusals::Refusal;
 use test_kit::zero::Zero;
 
-pub(crate) type Map = hash_map::Owned<u64, u64, Shared<Zero>>;
+pub(crate) type Map = scc_owned::map::Owned<u64, u64, Shared<Zero>>;
 
-pub(crate) type Set = hash_set::Owned<u64, Shared<Zero>>;
+pub(crate) type Set = scc_set::Owned<u64, Shared<Zero>>;
 
-pub(crate) type Index = hash_index::Owned<u64, u64, Shared<Zero>>;
+pub(crate) type Index = scc_owned::index::Owned<u64, u64, Shared<Zero>>;
 
-pub(crate) type Cache = hash_cache::Owned<u64, u64, Shared<Zero>>;
+pub(crate) type Cache = scc_cache::Owned<u64, u64, Shared<Zero>>;
 
 // What was refused.
 #[derive(Clone, Copy)]
 pub(crate) enum What {
-    Opening,
     Call(CallError),
     Length,
     Clearing,
     Finish,
+    // A finish after a call that was refused room for its record.
+    LateFinish,
     Run,
     Single,
 }
@@ -41,8 +43,14 @@ pub(crate) fn count_after(made: usize) -> usize {
     }
 }
 
+// A kind that reports what it was refused.
+pub(crate) trait Met: Calls + Drop {
+    /// Reports what was refused.
+    fn meet<R: Print>(rt: &R, refusal: &mut Refusal, what: What);
+}
+
 // A kind with its calls.
-pub(crate) trait Tried: WholeCalls + Drop {
+pub(crate) trait Tried: Met + WholeCalls {
     /// Returns the call with this number, and its reply.
     fn call_of(number: u64) -> (Self::Call, Self::Reply);
 
@@ -55,14 +63,26 @@ pub(crate) trait Tried: WholeCalls + Drop {
     /// Returns the hasher that the container is made with.
     fn hasher(hasher: Shared<Zero>) -> Self::Hasher;
 
-    /// Reports what was refused.
-    fn meet<R: Print>(rt: &R, refusal: &mut Refusal, what: What);
-
     // A clone of a call equals the call.
     ghost equal_calls: { ClonesEqual Self.Call.is_clone Self.Call.eq };
 
     // A clone of a reply equals the reply.
     ghost equal_replies: { ClonesEqual Self.Reply.is_clone Self.Reply.eq };
+}
+
+impl Met for Map {
+    fn meet<R: Print>(rt: &R, refusal: &mut Refusal, what: What) {
+        match what {
+            What::Call(CallError::Room) => refusal.meet(rt, "room for a call of a recorded map"),
+            What::Call(CallError::Container) => refusal.meet(rt, "a call of a recorded map"),
+            What::Length => refusal.meet(rt, "a length of a recorded map"),
+            What::Clearing => refusal.meet(rt, "a clearing of a recorded map"),
+            What::Finish => refusal.meet(rt, "a finish of a recorded map"),
+            What::LateFinish => refusal.meet(rt, "a finish after room for a record"),
+            What::Run => refusal.meet(rt, "a run on a map"),
+            What::Single => refusal.meet(rt, "a call as a value of a map"),
+        }
+    }
 }
 
 impl Tried for Map {
@@ -84,24 +104,11 @@ impl Tried for Map {
     }
 
     fn made(alloc: Global, hasher: Shared<Zero>) -> Map {
-        hash_map::Owned::with_hasher(alloc, hasher)
+        scc_owned::map::Owned::with_hasher(alloc, hasher)
     }
 
     fn hasher(hasher: Shared<Zero>) -> Shared<Zero> {
         hasher
-    }
-
-    fn meet<R: Print>(rt: &R, refusal: &mut Refusal, what: What) {
-        match what {
-            What::Opening => refusal.meet(rt, "a recorded map"),
-            What::Call(CallError::Room) => refusal.meet(rt, "room for a call of a recorded map"),
-            What::Call(CallError::Container) => refusal.meet(rt, "a call of a recorded map"),
-            What::Length => refusal.meet(rt, "a length of a recorded map"),
-            What::Clearing => refusal.meet(rt, "a clearing of a recorded map"),
-            What::Finish => refusal.meet(rt, "a finish of a recorded map"),
-            What::Run => refusal.meet(rt, "a run on a map"),
-            What::Single => refusal.meet(rt, "a call as a value of a map"),
-        }
     }
 
     ghost use Rattle.std.proofs.Common.{rules};
@@ -109,6 +116,21 @@ impl Tried for Map {
     ghost equal_calls = { λ a b h. Prim.search rules };
 
     ghost equal_replies = { λ a b h. Prim.search rules };
+}
+
+impl Met for Set {
+    fn meet<R: Print>(rt: &R, refusal: &mut Refusal, what: What) {
+        match what {
+            What::Call(CallError::Room) => refusal.meet(rt, "room for a call of a recorded set"),
+            What::Call(CallError::Container) => refusal.meet(rt, "a call of a recorded set"),
+            What::Length => refusal.meet(rt, "a length of a recorded set"),
+            What::Clearing => refusal.meet(rt, "a clearing of a recorded set"),
+            What::Finish => refusal.meet(rt, "a finish of a recorded set"),
+            What::LateFinish => {}
+            What::Run => refusal.meet(rt, "a run on a set"),
+            What::Single => refusal.meet(rt, "a call as a value of a set"),
+        }
+    }
 }
 
 impl Tried for Set {
@@ -130,24 +152,11 @@ impl Tried for Set {
     }
 
     fn made(alloc: Global, hasher: Shared<Zero>) -> Set {
-        hash_set::Owned::with_hasher(alloc, hasher)
+        scc_set::Owned::with_hasher(alloc, hasher)
     }
 
     fn hasher(hasher: Shared<Zero>) -> Shared<Zero> {
         hasher
-    }
-
-    fn meet<R: Print>(rt: &R, refusal: &mut Refusal, what: What) {
-        match what {
-            What::Opening => refusal.meet(rt, "a recorded set"),
-            What::Call(CallError::Room) => refusal.meet(rt, "room for a call of a recorded set"),
-            What::Call(CallError::Container) => refusal.meet(rt, "a call of a recorded set"),
-            What::Length => refusal.meet(rt, "a length of a recorded set"),
-            What::Clearing => refusal.meet(rt, "a clearing of a recorded set"),
-            What::Finish => refusal.meet(rt, "a finish of a recorded set"),
-            What::Run => refusal.meet(rt, "a run on a set"),
-            What::Single => refusal.meet(rt, "a call as a value of a set"),
-        }
     }
 
     ghost use Rattle.std.proofs.Common.{rules};
@@ -155,6 +164,21 @@ impl Tried for Set {
     ghost equal_calls = { λ a b h. Prim.search rules };
 
     ghost equal_replies = { λ a b h. Prim.search rules };
+}
+
+impl Met for Index {
+    fn meet<R: Print>(rt: &R, refusal: &mut Refusal, what: What) {
+        match what {
+            What::Call(CallError::Room) => refusal.meet(rt, "room for a call of a recorded index"),
+            What::Call(CallError::Container) => refusal.meet(rt, "a call of a recorded index"),
+            What::Length => refusal.meet(rt, "a length of a recorded index"),
+            What::Clearing => refusal.meet(rt, "a clearing of a recorded index"),
+            What::Finish => refusal.meet(rt, "a finish of a recorded index"),
+            What::LateFinish => {}
+            What::Run => refusal.meet(rt, "a run on an index"),
+            What::Single => refusal.meet(rt, "a call as a value of an index"),
+        }
+    }
 }
 
 impl Tried for Index {
@@ -176,24 +200,11 @@ impl Tried for Index {
     }
 
     fn made(alloc: Global, hasher: Shared<Zero>) -> Index {
-        hash_index::Owned::with_hasher(alloc, hasher)
+        scc_owned::index::Owned::with_hasher(alloc, hasher)
     }
 
     fn hasher(hasher: Shared<Zero>) -> Shared<Zero> {
         hasher
-    }
-
-    fn meet<R: Print>(rt: &R, refusal: &mut Refusal, what: What) {
-        match what {
-            What::Opening => refusal.meet(rt, "a recorded index"),
-            What::Call(CallError::Room) => refusal.meet(rt, "room for a call of a recorded index"),
-            What::Call(CallError::Container) => refusal.meet(rt, "a call of a recorded index"),
-            What::Length => refusal.meet(rt, "a length of a recorded index"),
-            What::Clearing => refusal.meet(rt, "a clearing of a recorded index"),
-            What::Finish => refusal.meet(rt, "a finish of a recorded index"),
-            What::Run => refusal.meet(rt, "a run on an index"),
-            What::Single => refusal.meet(rt, "a call as a value of an index"),
-        }
     }
 
     ghost use Rattle.std.proofs.Common.{rules};
@@ -201,6 +212,21 @@ impl Tried for Index {
     ghost equal_calls = { λ a b h. Prim.search rules };
 
     ghost equal_replies = { λ a b h. Prim.search rules };
+}
+
+impl Met for Cache {
+    fn meet<R: Print>(rt: &R, refusal: &mut Refusal, what: What) {
+        match what {
+            What::Call(CallError::Room) => refusal.meet(rt, "room for a call of a recorded cache"),
+            What::Call(CallError::Container) => refusal.meet(rt, "a call of a recorded cache"),
+            What::Length => refusal.meet(rt, "a length of a recorded cache"),
+            What::Clearing => refusal.meet(rt, "a clearing of a recorded cache"),
+            What::Finish => refusal.meet(rt, "a finish of a recorded cache"),
+            What::LateFinish => {}
+            What::Run => refusal.meet(rt, "a run on a cache"),
+            What::Single => refusal.meet(rt, "a call as a value of a cache"),
+        }
+    }
 }
 
 impl Tried for Cache {
@@ -222,24 +248,11 @@ impl Tried for Cache {
     }
 
     fn made(alloc: Global, hasher: Shared<Zero>) -> Cache {
-        hash_cache::Owned::with_hasher(alloc, hasher)
+        scc_cache::Owned::with_hasher(alloc, hasher)
     }
 
     fn hasher(hasher: Shared<Zero>) -> Shared<Zero> {
         hasher
-    }
-
-    fn meet<R: Print>(rt: &R, refusal: &mut Refusal, what: What) {
-        match what {
-            What::Opening => refusal.meet(rt, "a recorded cache"),
-            What::Call(CallError::Room) => refusal.meet(rt, "room for a call of a recorded cache"),
-            What::Call(CallError::Container) => refusal.meet(rt, "a call of a recorded cache"),
-            What::Length => refusal.meet(rt, "a length of a recorded cache"),
-            What::Clearing => refusal.meet(rt, "a clearing of a recorded cache"),
-            What::Finish => refusal.meet(rt, "a finish of a recorded cache"),
-            What::Run => refusal.meet(rt, "a run on a cache"),
-            What::Single => refusal.meet(rt, "a call as a value of a cache"),
-        }
     }
 
     ghost use Rattle.std.proofs.Common.{rules};

@@ -9,13 +9,13 @@ mod calls;
 #[cfg(test)]
 mod expect;
 #[cfg(test)]
-mod finishes;
-#[cfg(test)]
 mod finishing;
 #[cfg(test)]
 mod growths;
 #[cfg(test)]
 mod kinds;
+#[cfg(test)]
+mod opened;
 #[cfg(test)]
 mod runs;
 #[cfg(test)]

@@ -1,10 +1,9 @@
 // Runs that are refused memory: nothing is changed, or the calls before the refused one are made, each with its reply.
 // A run of the remaining calls is right.
-use crate::calls::shared;
 use crate::expect::{expect, expect_eq};
 use crate::kinds::{CALLS, Cache, Index, Map, Set, Tried, What, count_after};
-use scc::hash_map;
-use scc::recorded::{Calls, MapCall, Reply, run};
+use crate::opened::shared;
+use scc_calls::{Calls, MapCall, Reply, run};
 use std::io::Print;
 use std::process::Abort;
 use test_kit::refusals::{Refusal, TRIES};
@@ -206,12 +205,12 @@ fn a_refused_call_of_a_cache_changes_nothing(rt: HostRuntime) {
     expect_each::<Cache, HostRuntime>(&rt);
 }
 
-type Numbers = hash_map::Owned<u64, u64, Zero>;
+type Numbers = scc_owned::map::Owned<u64, u64, Zero>;
 
 /// Returns a map of 128 slots, or `None` if memory is refused each time.
 fn sized<R: AllocGlobal + Print>(rt: &R, refusal: &mut Refusal) -> Option<Numbers> {
     for _ in 0..TRIES {
-        match hash_map::Owned::with_capacity_and_hasher(rt.alloc(), 128, Zero) {
+        match scc_owned::map::Owned::with_capacity_and_hasher(rt.alloc(), 128, Zero) {
             Ok(map) => return Some(map),
             Err(_) => refusal.meet(rt, "a map of 128 slots"),
         }

@@ -1,19 +1,20 @@
 // Recorded maps of texts: every clone is made before anything is changed, so a refused call leaves everything as it
 // was, and the call that succeeds is right.
-ghost use Rattle.std.specs.Prelude.{◌≡◌, IfSome, IsSome, Some};
+ghost use Rattle.std.specs.Prelude.{IfSome, IsSome};
 ghost use Rattle.scc_calls.specs.MapCalls.{map_key};
-ghost use Rattle.scc_recorded.specs.Setups.{request_of};
 
-use crate::calls::shared;
 use crate::expect::{expect, expect_eq};
 use crate::finishing::finished;
-use scc::hash_map::Owned;
-use scc::recorded::{Finished, MapCall, Pass, Recorded, Reply, Setup, Shared, Site, Step};
+use crate::kinds::{Met, What};
+use crate::opened::{Trial, outlast};
+use scc_calls::{MapCall, Reply, Step};
+use scc_common::Shared;
+use scc_owned::map::Owned;
+use scc_recorded::{Finished, Pass, Recorded, Site};
 use std::io::Print;
-use std::marker::Brand;
 use std::process::Abort;
 use std::sync::Wait;
-use std::sync::ledger::{Blank, Ledger};
+use std::sync::ledger::Ledger;
 use test_kit::refusals::{Refusal, TRIES};
 use test_kit::zero::Zero;
 
@@ -155,74 +156,46 @@ fn expect_told<R: Abort>(rt: &R, finished: &Finished<Names>) {
     expect_eq(rt, (finished.histories.len(), finished.parts.len()), (1, 1));
 }
 
-/// Makes the three calls with the only pass, and the finish.
-fn call_and_finish<L: Ledger, M: Site<Shared<Zero>>, R: AllocGlobal + Abort + Print + Wait>(
-    rt: &R,
-    refusal: &mut Refusal,
-    recorded: Recorded<Names, L, M>,
-    passes: Vec<Pass<Names, L>>,
-) {
-    let mut passes = passes;
-    for pass in passes.as_mut_slice() {
-        for number in 0..3 {
-            expect_answer(rt, refusal, &recorded, pass, number);
-        }
-    }
-    match finished(rt, refusal, false, recorded.close(), passes) {
-        Some(run) => expect_told(rt, &run),
-        None => expect(rt, false),
-    }
-}
-
-/// Makes the three calls on one stripe. Returns false if the container was refused.
-fn three_calls<L: Ledger, M: Site<Shared<Zero>>, R: AllocGlobal + Abort + Print + Wait>(
-    rt: &R,
-    refusal: &mut Refusal,
-    hasher: Shared<Zero>,
-    receipts: Blank,
-    records: Blank,
-) -> bool
-    requires receipts { (receipts.name ≡ L.name) × (receipts.parts ≡ L.parts) × (receipts.parts ≡ 1) }
-    requires records { (records.name ≡ M.name) × (records.parts ≡ M.parts) × (records.parts ≡ 1) }
-    requires site { (M.chosen ≡ Some (request_of 0 0 hasher 1)) × (M.all ≡ 1) }
-{
-    let setup = Setup {
-        capacity: 0,
-        maximum: 0,
-        hasher,
-    };
-    match Recorded::<Names, L, M>::open(rt.alloc(), setup, 1, 1, receipts, records) {
-        Ok((recorded, handed)) => {
-            call_and_finish(rt, refusal, recorded, handed);
-            true
-        }
-        Err(_) => {
-            refusal.meet(rt, "a recorded container of texts");
-            false
+impl Met for Names {
+    fn meet<R: Print>(rt: &R, refusal: &mut Refusal, what: What) {
+        match what {
+            What::Finish => refusal.meet(rt, "a finish"),
+            _ => {}
         }
     }
 }
 
-fn attempt<R: AllocGlobal + Abort + Print + Wait>(rt: &R, refusal: &mut Refusal) -> bool {
-    match shared(rt, refusal) {
-        Some(hasher) => three_calls::<Brand, Brand, R>(
-            rt,
-            refusal,
-            hasher,
-            Blank::new(1),
-            Blank::new(1),
-        ),
-        None => false,
+// The three calls and the finish.
+#[derive(Drop)]
+struct ThreeCalls;
+
+impl Trial<Names> for ThreeCalls {
+    fn hasher(hasher: Shared<Zero>) -> Shared<Zero> {
+        hasher
+    }
+
+    fn run<L: Ledger, M: Site<Shared<Zero>>, R: AllocGlobal + Abort + Print + Wait>(
+        rt: &R,
+        refusal: &mut Refusal,
+        opened: &mut Option<(Recorded<Names, L, M>, Vec<Pass<Names, L>>)>,
+    ) {
+        let Some((recorded, handed)) = opened.take() else {
+            return expect(rt, false);
+        };
+        let mut passes = handed;
+        for pass in passes.as_mut_slice() {
+            for number in 0..3 {
+                expect_answer(rt, refusal, &recorded, pass, number);
+            }
+        }
+        match finished(rt, refusal, What::Finish, recorded.close(), passes) {
+            Some(run) => expect_told(rt, &run),
+            None => expect(rt, false),
+        }
     }
 }
 
 #[test]
 fn recorded_strings_on_a_map(rt: HostRuntime) {
-    let mut refusal = Refusal::new();
-    for _ in 0..TRIES {
-        if attempt(&rt, &mut refusal) {
-            return;
-        }
-    }
-    expect(&rt, false);
+    outlast::<Names, ThreeCalls, _>(&rt, "a recorded container of texts", (0, 0), 1);
 }

@@ -1,19 +1,16 @@
 // A worked case: a recorded map whose records and whose finish are refused memory.
-ghost use Rattle.std.specs.Prelude.{◌≡◌, Some};
-ghost use Rattle.scc_recorded.specs.Setups.{request_of};
-
-use crate::calls::shared;
 use crate::expect::{expect, expect_eq};
 use crate::finishing::finished;
-use crate::kinds::Map;
-use scc::recorded::{
-    CallError, Finished, MapCall, Pass, Recorded, Reply, Setup, Shared, Site, Step,
-};
+use crate::kinds::{Map, What};
+use crate::opened::{Trial, outlast};
+use scc_calls::{MapCall, Reply, Step};
+use scc_common::Shared;
+use scc_history::CallError;
+use scc_recorded::{Finished, Pass, Recorded, Site};
 use std::io::Print;
-use std::marker::Brand;
 use std::process::Abort;
 use std::sync::Wait;
-use std::sync::ledger::{Blank, Ledger};
+use std::sync::ledger::Ledger;
 use test_kit::refusals::{Refusal, TRIES};
 use test_kit::zero::Zero;
 
@@ -76,73 +73,38 @@ fn expect_run<R: Abort>(rt: &R, run: &Finished<Map>) {
     );
 }
 
-/// Makes the insertion and the finish with the only pass.
-fn insert_and_finish<L: Ledger, M: Site<Shared<Zero>>, R: Abort + Print + Wait>(
-    rt: &R,
-    refusal: &mut Refusal,
-    recorded: Recorded<Map, L, M>,
-    passes: Vec<Pass<Map, L>>,
-) {
-    let mut passes = passes;
-    let mut lacked_room = false;
-    for pass in passes.as_mut_slice() {
-        lacked_room = insert(rt, refusal, &recorded, pass);
-    }
-    match finished(rt, refusal, lacked_room, recorded.close(), passes) {
-        Some(run) => expect_run(rt, &run),
-        None => expect(rt, false),
-    }
-}
+// The insertion and the finish.
+#[derive(Drop)]
+struct Insertion;
 
-/// Runs the test on one stripe. Returns false if the container was refused.
-fn on_one_stripe<L: Ledger, M: Site<Shared<Zero>>, R: AllocGlobal + Abort + Print + Wait>(
-    rt: &R,
-    refusal: &mut Refusal,
-    hasher: Shared<Zero>,
-    receipts: Blank,
-    records: Blank,
-) -> bool
-    requires receipts { (receipts.name ≡ L.name) × (receipts.parts ≡ L.parts) × (receipts.parts ≡ 1) }
-    requires records { (records.name ≡ M.name) × (records.parts ≡ M.parts) × (records.parts ≡ 1) }
-    requires site { (M.chosen ≡ Some (request_of 0 0 hasher 1)) × (M.all ≡ 1) }
-{
-    let setup = Setup {
-        capacity: 0,
-        maximum: 0,
-        hasher,
-    };
-    match Recorded::<Map, L, M>::open(rt.alloc(), setup, 1, 1, receipts, records) {
-        Ok((recorded, passes)) => {
-            insert_and_finish(rt, refusal, recorded, passes);
-            true
-        }
-        Err(_) => {
-            refusal.meet(rt, "a recorded map of one insertion");
-            false
-        }
+impl Trial<Map> for Insertion {
+    fn hasher(hasher: Shared<Zero>) -> Shared<Zero> {
+        hasher
     }
-}
 
-fn open<R: AllocGlobal + Abort + Print + Wait>(rt: &R, refusal: &mut Refusal) -> bool {
-    match shared(rt, refusal) {
-        Some(hasher) => on_one_stripe::<Brand, Brand, R>(
-            rt,
-            refusal,
-            hasher,
-            Blank::new(1),
-            Blank::new(1),
-        ),
-        None => false,
+    fn run<L: Ledger, M: Site<Shared<Zero>>, R: AllocGlobal + Abort + Print + Wait>(
+        rt: &R,
+        refusal: &mut Refusal,
+        opened: &mut Option<(Recorded<Map, L, M>, Vec<Pass<Map, L>>)>,
+    ) {
+        let Some((recorded, handed)) = opened.take() else {
+            return expect(rt, false);
+        };
+        let mut passes = handed;
+        let mut what = What::Finish;
+        for pass in passes.as_mut_slice() {
+            if insert(rt, refusal, &recorded, pass) {
+                what = What::LateFinish;
+            }
+        }
+        match finished(rt, refusal, what, recorded.close(), passes) {
+            Some(run) => expect_run(rt, &run),
+            None => expect(rt, false),
+        }
     }
 }
 
 #[test]
 fn recorded_refused_room_and_finish(rt: HostRuntime) {
-    let mut refusal = Refusal::new();
-    for _ in 0..TRIES {
-        if open(&rt, &mut refusal) {
-            return;
-        }
-    }
-    expect(&rt, false);
+    outlast::<Map, Insertion, _>(&rt, "a recorded map of one insertion", (0, 0), 1);
 }

@@ -1,8 +1,10 @@
 // The errors of a program that refusals become by `?`.
 use crate::expect::expect;
-use scc::recorded::{CallError, FinishError, Refused};
-use scc::stripes::RunError;
-use scc::{InsertError, KeyError, MakeError, WalkError};
+use scc_calls::Refused;
+use scc_common::{InsertError, KeyError, MakeError, WalkError};
+use scc_history::CallError;
+use scc_recorded::FinishError;
+use scc_workers::RunError;
 use std::alloc::AllocError;
 use std::io::{self, ErrorKind};
 use std::process::Abort;

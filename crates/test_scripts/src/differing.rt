@@ -3,10 +3,12 @@ ghost use Rattle.std.specs.Prelude.{◌≡◌, Some};
 ghost use Rattle.scc_recorded.specs.Setups.{request_of};
 
 use crate::expect::expect_eq;
-use scc::hash_map::Owned;
-use scc::recorded::{MapCall, Recorded, Setup, Shared, Site};
+use scc_calls::MapCall;
+use scc_common::Shared;
+use scc_owned::map::Owned;
 use scc_play::ends::End;
 use scc_play::finishing::finish_run;
+use scc_recorded::{Recorded, Setup, Site};
 use scc_script::line::WorkerCall;
 use scc_script::same::Same;
 use std::alloc::Global;

@@ -128,11 +128,16 @@ fn run_line_ends(rt: HostRuntime) {
     }
 }
 
+/// Returns one of 1000 keys. They differ in their first bits, so they fill different buckets.
+fn key_of(number: u64) -> u64 {
+    (number % 1000) << 54
+}
+
 /// Writes 100,000 insertions. The keys repeat after each 1000.
 fn write_calls(text: &mut String) -> Result<(), AllocError> {
     text.push_str("map 1 1\n")?;
     for i in 0..100_000u64 {
-        write_line(text, "0 insert ", i % 1000, i)?;
+        write_line(text, "0 insert ", key_of(i), i)?;
     }
     Ok(())
 }
@@ -144,7 +149,7 @@ fn write_replies(text: &mut String) -> Result<(), AllocError> {
         if i < 1000 {
             text.push_str("ok\n")?;
         } else {
-            write_line(text, "exists ", i % 1000, i)?;
+            write_line(text, "exists ", key_of(i), i)?;
         }
     }
     Ok(())
@@ -153,8 +158,8 @@ fn write_replies(text: &mut String) -> Result<(), AllocError> {
 /// Writes the contents after these insertions.
 fn write_contents(text: &mut String) -> Result<(), AllocError> {
     text.push_str("contents 1000\n")?;
-    for key in 0..1000u64 {
-        write_line(text, "", key, key)?;
+    for number in 0..1000u64 {
+        write_line(text, "", key_of(number), number)?;
     }
     text.push_str("records 100000\n")
 }

@@ -4,9 +4,9 @@ ghost use Rattle.scc_calls.specs.Copies.{AreSame, ClonesEqual};
 ghost use Rattle.scc_common.specs.Contents.{entries};
 
 use crate::expect::{expect, expect_eq};
-use scc::MakeError;
-use scc::hash_map::Owned;
-use scc::recorded::{Calls, MapCall, Refused, Reply, run, runs_mean};
+use scc_calls::{Calls, MapCall, Refused, Reply, run, runs_mean};
+use scc_common::MakeError;
+use scc_owned::map::Owned;
 use std::alloc::Global;
 use std::hash::{BuildHasher, RandomState};
 use std::test::Fail;

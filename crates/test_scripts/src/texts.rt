@@ -1,8 +1,10 @@
 // The text of each refusal.
 use crate::expect::{expect, expect_eq};
-use scc::recorded::{CallError, FinishError, Refused};
-use scc::stripes::RunError;
-use scc::{InsertError, KeyError, MakeError, WalkError};
+use scc_calls::Refused;
+use scc_common::{InsertError, KeyError, MakeError, WalkError};
+use scc_history::CallError;
+use scc_recorded::FinishError;
+use scc_workers::RunError;
 use std::fmt::Display;
 use std::process::Abort;
 

@@ -1,5 +1,7 @@
 //! Values that count how often they are made and dropped.
 
+use std::alloc::AllocError;
+use std::sync::Arc;
 use std::sync::atomic::{AtomicU64, Ordering};
 
 /// How many values were made, and how many were dropped.
@@ -22,20 +24,23 @@ impl Counts {
     pub(crate) fn are_equal(&self) -> bool {
         self.made.load(Ordering::SeqCst) == self.dropped.load(Ordering::SeqCst)
     }
-
-    /// Returns a new value, and counts it.
-    pub(crate) fn make(&self) -> Counted<'_> {
-        self.made.fetch_add(1, Ordering::SeqCst);
-        Counted { counts: self }
-    }
 }
 
 /// A value whose drop is counted.
-pub struct Counted<'a> {
-    counts: &'a Counts,
+pub struct Counted {
+    counts: Arc<Counts>,
 }
 
-impl Drop for Counted<'_> {
+impl Counted {
+    /// Returns a new value, and counts it. Fails if there are 2^63 - 1 owners of the counts.
+    pub(crate) fn new(counts: &Arc<Counts>) -> Result<Counted, AllocError> {
+        let counts = Arc::try_clone(counts)?;
+        counts.made.fetch_add(1, Ordering::SeqCst);
+        Ok(Counted { counts })
+    }
+}
+
+impl Drop for Counted {
     fn drop(self) {
         let Counted { counts } = self;
         counts.dropped.fetch_add(1, Ordering::SeqCst);

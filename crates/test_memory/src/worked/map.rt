@@ -1,8 +1,8 @@
 // Tests of maps whose keys share a bucket of 32 slots, and whose new array, overflow list or list of taken pairs is
 // refused.
 use crate::expect::{expect, expect_eq};
-use scc::hash_map::Owned;
-use scc::{InsertError, Verdict};
+use scc_common::{InsertError, Verdict};
+use scc_owned::map::Owned;
 use std::io::Print;
 use std::process::Abort;
 use test_kit::refusals::{Refusal, TRIES};

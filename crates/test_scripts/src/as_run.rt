@@ -3,9 +3,9 @@
 ghost use Rattle.std.specs.Prelude.{◌≡◌, Some};
 ghost use Rattle.scc_recorded.specs.Setups.{request_of};
 
+use crate::call_streams::{LOOKS, MAXIMUM, Streamed, count, look, stream};
 use crate::expect::expect_eq;
 use crate::kinds::{Cache, Index, Map, Set};
-use crate::streams::{LOOKS, MAXIMUM, Streamed, count, look, stream};
 use scc_calls::{Step, run};
 use scc_common::{CloneOwner, Shared};
 use scc_history::Receipt;

@@ -1,5 +1,5 @@
 // The calls of each kind, by their numbers.
-use crate::streams::Streamed;
+use crate::call_streams::Streamed;
 use scc_calls::{CacheCall, IndexCall, MapCall, Reply, SetCall};
 use scc_common::Shared;
 use scc_script::same::Same;

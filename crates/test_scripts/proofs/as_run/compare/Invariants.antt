@@ -1,6 +1,6 @@
 use Rattle.std.proofs.Common.{Some}
 use Rattle.scc_recorded.specs.Setups.{request_of}
-use Rattle.test_threads_recorded.proofs.as_run.compare.Given as goal
+use Rattle.test_scripts.proofs.as_run.compare.Given as goal
 
 abbrev pub ghosts-record-L-Ledger : goal.ghosts-record-L-Ledger
 ghosts-record-L-Ledger g a = record { name = a.receipts.name; parts = a.receipts.parts }

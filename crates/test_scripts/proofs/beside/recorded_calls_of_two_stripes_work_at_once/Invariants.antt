@@ -1,6 +1,6 @@
 use Rattle.std.proofs.Common.{Some}
 use Rattle.scc_recorded.specs.Setups.{request_of}
-use Rattle.test_threads_recorded.proofs.beside.recorded_calls_of_two_stripes_work_at_once.Given as goal
+use Rattle.test_scripts.proofs.beside.recorded_calls_of_two_stripes_work_at_once.Given as goal
 
 abbrev pub ghosts-works_at_once-L-Ledger : goal.ghosts-works_at_once-L-Ledger
 ghosts-works_at_once-L-Ledger g a = record { name = a.receipts.name; parts = a.receipts.parts }
