@@ -3,6 +3,7 @@ ghost use Rattle.scc_common.specs.Contents.{entries};
 ghost use Rattle.scc_common.specs.Walks.{CalledOn, Walks};
 ghost use Rattle.scc_table.specs.Places.{IsPlace, index_of};
 ghost use Rattle.std.specs.List.Sorted.{IsPermutation};
+ghost use Rattle.scc_shared.specs.Copying.{HasEqual};
 ghost use Rattle.std.specs.Prelude.{◌≡◌, List, Some, map, slice_get};
 
 use scc_buckets::Place;
@@ -32,6 +33,13 @@ pub trait Paired: Stored {
         ensures { (es : List (Self.Key × Self.Value)) × (last : F)
             × IsPermutation (entries owned.now) (map (λ p. Self.lookups.made p.0 p.1) es)
             × Walks (CalledOn F.FnMut) f es result last };
+
+    /// Returns whether `k` is in `owned` with a value that equals `v`.
+    fn has_equal<H: BuildHasher>(owned: &Owned<Self, H>, k: &Self::Key, v: &Self::Value) -> bool
+    where
+        Self::Key: Eq + Hash,
+        Self::Value: PartialEq,
+        ensures { HasEqual Self.lookups Self.Key.eq Self.Value.eq (entries owned.now) k.now v.now result };
 }
 
 impl<K, V> Paired for (K, V) {
@@ -49,6 +57,18 @@ impl<K, V> Paired for (K, V) {
         K: Eq + Hash,
     {
         owned.iter_sync(f)
+    }
+
+    #[inline(always)]
+    fn has_equal<H: BuildHasher>(owned: &Owned<(K, V), H>, k: &K, v: &V) -> bool
+    where
+        K: Eq + Hash,
+        V: PartialEq,
+    {
+        match owned.read_sync(k, |_, w| *w == *v) {
+            Some(same) => same,
+            None => false,
+        }
     }
 }
 
@@ -70,5 +90,17 @@ impl<K, V> Paired for SharedVersion<K, V> {
         K: Eq + Hash,
     {
         owned.iter_sync(f)
+    }
+
+    #[inline(always)]
+    fn has_equal<H: BuildHasher>(owned: &Owned<SharedVersion<K, V>, H>, k: &K, v: &V) -> bool
+    where
+        K: Eq + Hash,
+        V: PartialEq,
+    {
+        match owned.peek_with(k, |_, w| *w == *v) {
+            Some(same) => same,
+            None => false,
+        }
     }
 }

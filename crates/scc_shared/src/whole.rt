@@ -1,14 +1,11 @@
 //! Calls on a whole container: clearing, comparing, cloning. They look at the stripes one after another.
 ghost use Rattle.std.specs.Prelude.{◌≡◌, ◌<◌, IfOk};
-ghost use Rattle.scc_common.specs.Contents.{entries};
 ghost use Rattle.scc_stripes.specs.Stripes.{stripe_count};
-ghost use Rattle.scc_shared.specs.Copying.{HasEqual};
 ghost use Rattle.scc_shared.specs.Stripes.{hasher_of};
 
 use super::unlocked::Unlocked;
 use super::{HashContainer, Paired};
-use scc_common::{Keyed, MakeError, Shared};
-use scc_owned::Owned;
+use scc_common::{Keyed, MakeError};
 use std::cell::Cell;
 use std::hash::{BuildHasher, Hash};
 use std::sync::Wait;
@@ -82,30 +79,12 @@ where
     fn has_pair(&self, k: &E::Key, v: &E::Value, busy: &Cell<Option<usize>>) -> bool {
         let stripe = self.stripes.route(k);
         match self.stripes.try_read(stripe) {
-            Some(guard) => has_equal::<E, H>(&guard, k, v),
+            Some(guard) => E::has_equal(&guard, k, v),
             None => {
                 busy.set(Some(stripe));
                 false
             }
         }
-    }
-}
-
-/// Returns whether `k` is in `owned` with a value that equals `v`.
-fn has_equal<E: Paired, H: BuildHasher>(
-    owned: &Owned<E, Shared<H>>,
-    k: &E::Key,
-    v: &E::Value,
-) -> bool
-where
-    E::Key: Eq + Hash,
-    E::Value: PartialEq,
-    ensures { HasEqual E.lookups E.Key.eq E.Value.eq (entries owned.now) k.now v.now result }
-{
-    let hash = owned.hash_of(k);
-    match owned.place_of(hash, k) {
-        Some(place) => *E::pair_at(owned, place).1 == *v,
-        None => false,
     }
 }
 
