@@ -5,7 +5,7 @@ ghost use Rattle.scc_recorded.specs.Setups.{request_of};
 
 use crate::finished::finish_as_plain;
 use crate::kinds::{Cache, Index, Map, Set};
-use crate::turns::{all_turns, callers_of, passes_of};
+use crate::turns::{Turns, all_turns, callers_of, passes_of};
 use scc_calls::Calls;
 use scc_common::{CloneOwner, Shared};
 use scc_recorded::{Pass, Recorded, Setup, Site};
