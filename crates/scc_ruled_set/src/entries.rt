@@ -77,7 +77,6 @@ impl<'a, K: Eq + Hash, R: Rule<K, ()>, H: BuildHasher> HeldKey<
         ensures key { result.now ≡ occupied_key self.now }
         ensures kept { R.holds result.now tt }
     {
-        let _ = self.entry.get();
         self.entry.key()
     }
 

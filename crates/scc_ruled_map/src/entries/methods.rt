@@ -15,9 +15,10 @@ use std::alloc::Global;
 use std::hash::{BuildHasher, Hash};
 
 impl<'a, K: Eq + Hash, V, R: Rule<K, V>, H: BuildHasher> OccupiedEntry<'a, K, V, R, H> {
-    /// Returns the stored key.
+    /// Returns the stored key. It keeps the rule with the value.
     pub fn key(&self) -> &K
-        ensures { result.now ≡ (occupied_pair self.now).0 }
+        ensures key { result.now ≡ (occupied_pair self.now).0 }
+        ensures kept { R.holds result.now (occupied_pair self.now).1 }
     {
         self.guard.look().pair_at(self.place).0
     }
