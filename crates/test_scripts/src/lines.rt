@@ -133,10 +133,10 @@ fn key_of(number: u64) -> u64 {
     (number % 1000) << 54
 }
 
-/// Writes 100,000 insertions. The keys repeat after each 1000.
+/// Writes 20,000 insertions. The keys repeat after each 1000.
 fn write_calls(text: &mut String) -> Result<(), AllocError> {
     text.push_str("map 1 1\n")?;
-    for i in 0..100_000u64 {
+    for i in 0..20_000u64 {
         write_line(text, "0 insert ", key_of(i), i)?;
     }
     Ok(())
@@ -145,7 +145,7 @@ fn write_calls(text: &mut String) -> Result<(), AllocError> {
 /// Writes the replies of these insertions: the first insertion of a key succeeds, and a later one returns its pair.
 fn write_replies(text: &mut String) -> Result<(), AllocError> {
     text.push_str("worker 0\n")?;
-    for i in 0..100_000u64 {
+    for i in 0..20_000u64 {
         if i < 1000 {
             text.push_str("ok\n")?;
         } else {
@@ -161,7 +161,7 @@ fn write_contents(text: &mut String) -> Result<(), AllocError> {
     for number in 0..1000u64 {
         write_line(text, "", key_of(number), number)?;
     }
-    text.push_str("records 100000\n")
+    text.push_str("records 20000\n")
 }
 
 /// Writes a line that ends with two numbers.
