@@ -1,6 +1,6 @@
 //! The calls that threads make on each kind of container, and what a tally notes of them.
 
-use crate::counted::Counted;
+use crate::counted::{Counted, Counts};
 use crate::tally::Tally;
 use scc_cache::EvictedEntry;
 use scc_common::{InsertError, KeyError};
@@ -11,29 +11,28 @@ use scc_shared_set::HashSet;
 use std::alloc::Global;
 use std::sync::Wait;
 
-pub type Map = HashMap<u64, Counted>;
+pub type Map<'a> = HashMap<u64, Counted<'a>>;
 
 pub type Set = HashSet<u64>;
 
-pub type Index = HashIndex<u64, Counted>;
+pub type Index<'a> = HashIndex<u64, Counted<'a>>;
 
-pub type Cache = HashCache<u64, Counted>;
+pub type Cache<'a> = HashCache<u64, Counted<'a>>;
 
 /// A container that threads call.
-pub trait Called: Sized {
+pub trait Called<'a>: Sized {
     /// Returns an empty container, or `None` if memory is refused.
     fn make(alloc: Global) -> Option<Self>;
 
-    /// Makes the call of `kind`, one of eight, on `key`, and notes in `tally` what went in and out. A call that stores
-    /// no value drops `value`.
-    fn call<R: Wait>(&self, rt: &R, kind: u64, key: u64, value: Counted, tally: &mut Tally);
+    /// Makes the call of `kind`, one of eight, on `key`, and notes in `tally` what went in and out.
+    fn call<R: Wait>(&self, rt: &R, counts: &'a Counts, kind: u64, key: u64, tally: &mut Tally);
 
     /// Subtracts every key of the container from `tally`.
     fn settle<R: Wait>(&self, rt: &R, tally: &mut Tally);
 }
 
 /// Notes the result of an insertion of `key`.
-fn note_pair(inserted: Result<(), InsertError<u64, Counted>>, key: u64, tally: &mut Tally) {
+fn note_pair(inserted: Result<(), InsertError<u64, Counted<'_>>>, key: u64, tally: &mut Tally) {
     match inserted {
         Ok(()) => tally.add(key),
         Err(InsertError::Exists(_)) => {}
@@ -51,7 +50,7 @@ fn note_key(inserted: Result<(), KeyError<u64>>, key: u64, tally: &mut Tally) {
 }
 
 /// Notes that `key` went in, and that another key may have been evicted.
-fn note_put(evicted: EvictedEntry<u64, Counted>, key: u64, tally: &mut Tally) {
+fn note_put(evicted: EvictedEntry<u64, Counted<'_>>, key: u64, tally: &mut Tally) {
     tally.add(key);
     if let Some((old, _value)) = evicted {
         tally.subtract(old);
@@ -59,9 +58,15 @@ fn note_put(evicted: EvictedEntry<u64, Counted>, key: u64, tally: &mut Tally) {
 }
 
 /// Inserts the key through its entry, if the entry is vacant.
-fn insert_vacant<R: Wait>(rt: &R, map: &Map, key: u64, value: Counted, tally: &mut Tally) {
+fn insert_vacant<'a, R: Wait>(
+    rt: &R,
+    map: &Map<'a>,
+    counts: &'a Counts,
+    key: u64,
+    tally: &mut Tally,
+) {
     if let scc_owned::map::locked::Entry::Vacant(entry) = map.entry_sync(rt, key) {
-        match entry.insert_entry(value) {
+        match entry.insert_entry(counts.make()) {
             Ok(_entry) => tally.add(key),
             Err(_) => tally.refuse(),
         }
@@ -69,8 +74,8 @@ fn insert_vacant<R: Wait>(rt: &R, map: &Map, key: u64, value: Counted, tally: &m
 }
 
 /// Upserts the key.
-fn upsert<R: Wait>(rt: &R, map: &Map, key: u64, value: Counted, tally: &mut Tally) {
-    match map.upsert_sync(rt, key, value) {
+fn upsert<'a, R: Wait>(rt: &R, map: &Map<'a>, counts: &'a Counts, key: u64, tally: &mut Tally) {
+    match map.upsert_sync(rt, key, counts.make()) {
         Ok(None) => tally.add(key),
         Ok(Some(_)) => {}
         Err(_) => tally.refuse(),
@@ -78,23 +83,23 @@ fn upsert<R: Wait>(rt: &R, map: &Map, key: u64, value: Counted, tally: &mut Tall
 }
 
 /// Removes the key through its entry.
-fn remove_occupied<R: Wait>(rt: &R, map: &Map, key: u64, tally: &mut Tally) {
+fn remove_occupied<R: Wait>(rt: &R, map: &Map<'_>, key: u64, tally: &mut Tally) {
     if let Some(entry) = map.get_sync(rt, &key) {
         let _value = entry.remove();
         tally.subtract(key);
     }
 }
 
-impl Called for Map {
-    fn make(alloc: Global) -> Option<Map> {
+impl<'a> Called<'a> for Map<'a> {
+    fn make(alloc: Global) -> Option<Map<'a>> {
         HashMap::new(alloc).ok()
     }
 
-    fn call<R: Wait>(&self, rt: &R, kind: u64, key: u64, value: Counted, tally: &mut Tally) {
+    fn call<R: Wait>(&self, rt: &R, counts: &'a Counts, kind: u64, key: u64, tally: &mut Tally) {
         match kind {
-            0 | 1 => note_pair(self.insert_sync(rt, key, value), key, tally),
-            2 => upsert(rt, self, key, value, tally),
-            3 => insert_vacant(rt, self, key, value, tally),
+            0 | 1 => note_pair(self.insert_sync(rt, key, counts.make()), key, tally),
+            2 => upsert(rt, self, counts, key, tally),
+            3 => insert_vacant(rt, self, counts, key, tally),
             4 | 5 => {
                 if self.remove_sync(rt, &key).is_some() {
                     tally.subtract(key);
@@ -124,12 +129,12 @@ fn replace<R: Wait>(rt: &R, set: &Set, key: u64, tally: &mut Tally) {
     }
 }
 
-impl Called for Set {
+impl<'a> Called<'a> for Set {
     fn make(alloc: Global) -> Option<Set> {
         HashSet::new(alloc).ok()
     }
 
-    fn call<R: Wait>(&self, rt: &R, kind: u64, key: u64, _value: Counted, tally: &mut Tally) {
+    fn call<R: Wait>(&self, rt: &R, _counts: &'a Counts, kind: u64, key: u64, tally: &mut Tally) {
         match kind {
             0 | 1 | 2 => note_key(self.insert_sync(rt, key), key, tally),
             3 => replace(rt, self, key, tally),
@@ -153,14 +158,20 @@ impl Called for Set {
 }
 
 /// Inserts the key through its entry, or makes a new version.
-fn publish<R: Wait>(rt: &R, index: &Index, key: u64, value: Counted, tally: &mut Tally) {
+fn publish<'a, R: Wait>(
+    rt: &R,
+    index: &Index<'a>,
+    counts: &'a Counts,
+    key: u64,
+    tally: &mut Tally,
+) {
     match index.entry_sync(rt, key) {
         scc_owned::index::locked::Entry::Occupied(mut entry) => {
-            if entry.update(value).is_err() {
+            if entry.update(counts.make()).is_err() {
                 tally.refuse();
             }
         }
-        scc_owned::index::locked::Entry::Vacant(entry) => match entry.insert_entry(value) {
+        scc_owned::index::locked::Entry::Vacant(entry) => match entry.insert_entry(counts.make()) {
             Ok(_entry) => tally.add(key),
             Err(_) => tally.refuse(),
         },
@@ -168,22 +179,22 @@ fn publish<R: Wait>(rt: &R, index: &Index, key: u64, value: Counted, tally: &mut
 }
 
 /// Gets the version of the key, and drops it.
-fn peek<R: Wait>(rt: &R, index: &Index, key: u64, tally: &mut Tally) {
+fn peek<R: Wait>(rt: &R, index: &Index<'_>, key: u64, tally: &mut Tally) {
     match index.peek(rt, &key) {
         Ok(_version) => {}
         Err(_) => tally.refuse(),
     }
 }
 
-impl Called for Index {
-    fn make(alloc: Global) -> Option<Index> {
+impl<'a> Called<'a> for Index<'a> {
+    fn make(alloc: Global) -> Option<Index<'a>> {
         HashIndex::new(alloc).ok()
     }
 
-    fn call<R: Wait>(&self, rt: &R, kind: u64, key: u64, value: Counted, tally: &mut Tally) {
+    fn call<R: Wait>(&self, rt: &R, counts: &'a Counts, kind: u64, key: u64, tally: &mut Tally) {
         match kind {
-            0 | 1 => note_pair(self.insert_sync(rt, key, value), key, tally),
-            2 | 3 => publish(rt, self, key, value, tally),
+            0 | 1 => note_pair(self.insert_sync(rt, key, counts.make()), key, tally),
+            2 | 3 => publish(rt, self, counts, key, tally),
             4 | 5 | 6 => {
                 if self.remove_sync(rt, &key) {
                     tally.subtract(key);
@@ -202,8 +213,8 @@ impl Called for Index {
 }
 
 /// Puts the key.
-fn put<R: Wait>(rt: &R, cache: &Cache, key: u64, value: Counted, tally: &mut Tally) {
-    match cache.put_sync(rt, key, value) {
+fn put<'a, R: Wait>(rt: &R, cache: &Cache<'a>, counts: &'a Counts, key: u64, tally: &mut Tally) {
+    match cache.put_sync(rt, key, counts.make()) {
         Ok(evicted) => note_put(evicted, key, tally),
         Err(InsertError::Exists(_)) => {}
         Err(InsertError::Memory(_)) => tally.refuse(),
@@ -211,24 +222,30 @@ fn put<R: Wait>(rt: &R, cache: &Cache, key: u64, value: Counted, tally: &mut Tal
 }
 
 /// Puts the key through its entry, if the entry is vacant.
-fn put_vacant<R: Wait>(rt: &R, cache: &Cache, key: u64, value: Counted, tally: &mut Tally) {
+fn put_vacant<'a, R: Wait>(
+    rt: &R,
+    cache: &Cache<'a>,
+    counts: &'a Counts,
+    key: u64,
+    tally: &mut Tally,
+) {
     if let scc_cache::locked::Entry::Vacant(entry) = cache.entry_sync(rt, key) {
-        match entry.put_entry(value) {
+        match entry.put_entry(counts.make()) {
             Ok((evicted, _entry)) => note_put(evicted, key, tally),
             Err(_) => tally.refuse(),
         }
     }
 }
 
-impl Called for Cache {
-    fn make(alloc: Global) -> Option<Cache> {
+impl<'a> Called<'a> for Cache<'a> {
+    fn make(alloc: Global) -> Option<Cache<'a>> {
         HashCache::new(alloc).ok()
     }
 
-    fn call<R: Wait>(&self, rt: &R, kind: u64, key: u64, value: Counted, tally: &mut Tally) {
+    fn call<R: Wait>(&self, rt: &R, counts: &'a Counts, kind: u64, key: u64, tally: &mut Tally) {
         match kind {
-            0 | 1 | 2 => put(rt, self, key, value, tally),
-            3 | 4 => put_vacant(rt, self, key, value, tally),
+            0 | 1 | 2 => put(rt, self, counts, key, tally),
+            3 | 4 => put_vacant(rt, self, counts, key, tally),
             5 | 6 => {
                 if self.remove_sync(rt, &key).is_some() {
                     tally.subtract(key);

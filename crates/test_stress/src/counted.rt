@@ -1,7 +1,5 @@
 //! Values that count how often they are made and dropped.
 
-use std::alloc::AllocError;
-use std::sync::Arc;
 use std::sync::atomic::{AtomicU64, Ordering};
 
 /// How many values were made, and how many were dropped.
@@ -24,23 +22,20 @@ impl Counts {
     pub(crate) fn are_equal(&self) -> bool {
         self.made.load(Ordering::SeqCst) == self.dropped.load(Ordering::SeqCst)
     }
-}
 
-/// A value whose drop is counted.
-pub struct Counted {
-    counts: Arc<Counts>,
-}
-
-impl Counted {
-    /// Returns a new value, and counts it. Fails if there are 2^63 - 1 owners of the counts.
-    pub(crate) fn new(counts: &Arc<Counts>) -> Result<Counted, AllocError> {
-        let counts = Arc::try_clone(counts)?;
-        counts.made.fetch_add(1, Ordering::SeqCst);
-        Ok(Counted { counts })
+    /// Returns a new value, and counts it.
+    pub(crate) fn make(&self) -> Counted<'_> {
+        self.made.fetch_add(1, Ordering::SeqCst);
+        Counted { counts: self }
     }
 }
 
-impl Drop for Counted {
+/// A value whose drop is counted.
+pub struct Counted<'a> {
+    counts: &'a Counts,
+}
+
+impl Drop for Counted<'_> {
     fn drop(self) {
         let Counted { counts } = self;
         counts.dropped.fetch_add(1, Ordering::SeqCst);

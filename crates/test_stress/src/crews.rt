@@ -5,7 +5,7 @@ ghost use Rattle.scc_recorded.specs.Setups.{request_of};
 
 use crate::finished::finish_as_plain;
 use crate::kinds::{Cache, Index, Map, Set};
-use crate::turns::{Turns, all_turns, callers_of, passes_of};
+use crate::turns::{all_turns, callers_of, passes_of};
 use scc_calls::Calls;
 use scc_common::{CloneOwner, Shared};
 use scc_recorded::{Pass, Recorded, Setup, Site};
@@ -46,28 +46,24 @@ where
     }
 }
 
-/// Lets eight workers call a container. Returns the number of call records if all went as in one thread.
-fn work_on<C, L, M, R>(
+/// Lets eight workers call a map. Returns the number of call records if all went as in one thread.
+fn work_on_map<
+    L: Ledger + Send + Sync,
+    M: Site<Shared<Same>> + Send + Sync,
+    R: Threads + Wait + Sync,
+>(
     rt: &R,
     alloc: Global,
-    hasher: C::Hasher,
+    hasher: Shared<Same>,
     receipts: Blank,
     records: Blank,
 ) -> Result<Option<usize>, AllocError>
-where
-    C: Turns + Send + Sync,
-    C::Call: Send + Sync,
-    C::Reply: Send + Sync,
-    C::Hasher: CloneOwner + Drop + Send + Sync,
-    L: Ledger + Send + Sync,
-    M: Site<C::Hasher> + Send + Sync,
-    R: Threads + Wait + Sync,
     requires receipts { (receipts.name ≡ L.name) × (receipts.parts ≡ L.parts) × (receipts.parts ≡ 8) }
     requires records { (records.name ≡ M.name) × (records.parts ≡ M.parts) × (records.parts ≡ 1) }
     requires site { (M.chosen ≡ Some (request_of 0 128 hasher 1)) × (M.all ≡ 1) }
 {
-    let lists = all_turns::<C>(alloc)?;
-    let (recorded, handed) = opened::<C, L, M>(alloc, hasher, receipts, records)?;
+    let lists = all_turns::<Map>(alloc)?;
+    let (recorded, handed) = opened::<Map, L, M>(alloc, hasher, receipts, records)?;
     let mut callers = callers_of(rt, alloc, &recorded, handed, lists.as_slice())?;
     let ended = run(rt, alloc, callers.as_mut_slice(), &Open).is_ok();
     match passes_of(alloc, callers)? {
@@ -76,19 +72,122 @@ where
     }
 }
 
-/// Lets eight workers call a container of a kind. Returns whether all went as in one thread.
-fn of_kind<C, R>(rt: &R, alloc: Global) -> Result<bool, AllocError>
-where
-    C: Turns + Send + Sync,
-    C::Call: Send + Sync,
-    C::Reply: Send + Sync,
-    C::Hasher: CloneOwner + Drop + Send + Sync,
-    R: Threads + Wait + Sync,
-{
-    let records = work_on::<C, Brand, Brand, R>(
+fn of_map<R: Threads + Wait + Sync>(rt: &R, alloc: Global) -> Result<bool, AllocError> {
+    let records = work_on_map::<Brand, Brand, _>(
         rt,
         alloc,
-        C::hasher(shared(alloc)?),
+        shared(alloc)?,
+        Blank::new(8),
+        Blank::new(1),
+    )?;
+    Ok(records == Some(1600))
+}
+
+/// Lets eight workers call a set. Returns the number of call records if all went as in one thread.
+fn work_on_set<
+    L: Ledger + Send + Sync,
+    M: Site<Shared<Same>> + Send + Sync,
+    R: Threads + Wait + Sync,
+>(
+    rt: &R,
+    alloc: Global,
+    hasher: Shared<Same>,
+    receipts: Blank,
+    records: Blank,
+) -> Result<Option<usize>, AllocError>
+    requires receipts { (receipts.name ≡ L.name) × (receipts.parts ≡ L.parts) × (receipts.parts ≡ 8) }
+    requires records { (records.name ≡ M.name) × (records.parts ≡ M.parts) × (records.parts ≡ 1) }
+    requires site { (M.chosen ≡ Some (request_of 0 128 hasher 1)) × (M.all ≡ 1) }
+{
+    let lists = all_turns::<Set>(alloc)?;
+    let (recorded, handed) = opened::<Set, L, M>(alloc, hasher, receipts, records)?;
+    let mut callers = callers_of(rt, alloc, &recorded, handed, lists.as_slice())?;
+    let ended = run(rt, alloc, callers.as_mut_slice(), &Open).is_ok();
+    match passes_of(alloc, callers)? {
+        Some(passes) if ended => finish_as_plain(alloc, recorded, passes),
+        _ => Ok(None),
+    }
+}
+
+fn of_set<R: Threads + Wait + Sync>(rt: &R, alloc: Global) -> Result<bool, AllocError> {
+    let records = work_on_set::<Brand, Brand, _>(
+        rt,
+        alloc,
+        shared(alloc)?,
+        Blank::new(8),
+        Blank::new(1),
+    )?;
+    Ok(records == Some(1600))
+}
+
+/// Lets eight workers call an index. Returns the number of call records if all went as in one thread.
+fn work_on_index<
+    L: Ledger + Send + Sync,
+    M: Site<Shared<Same>> + Send + Sync,
+    R: Threads + Wait + Sync,
+>(
+    rt: &R,
+    alloc: Global,
+    hasher: Shared<Same>,
+    receipts: Blank,
+    records: Blank,
+) -> Result<Option<usize>, AllocError>
+    requires receipts { (receipts.name ≡ L.name) × (receipts.parts ≡ L.parts) × (receipts.parts ≡ 8) }
+    requires records { (records.name ≡ M.name) × (records.parts ≡ M.parts) × (records.parts ≡ 1) }
+    requires site { (M.chosen ≡ Some (request_of 0 128 hasher 1)) × (M.all ≡ 1) }
+{
+    let lists = all_turns::<Index>(alloc)?;
+    let (recorded, handed) = opened::<Index, L, M>(alloc, hasher, receipts, records)?;
+    let mut callers = callers_of(rt, alloc, &recorded, handed, lists.as_slice())?;
+    let ended = run(rt, alloc, callers.as_mut_slice(), &Open).is_ok();
+    match passes_of(alloc, callers)? {
+        Some(passes) if ended => finish_as_plain(alloc, recorded, passes),
+        _ => Ok(None),
+    }
+}
+
+fn of_index<R: Threads + Wait + Sync>(rt: &R, alloc: Global) -> Result<bool, AllocError> {
+    let records = work_on_index::<Brand, Brand, _>(
+        rt,
+        alloc,
+        shared(alloc)?,
+        Blank::new(8),
+        Blank::new(1),
+    )?;
+    Ok(records == Some(1600))
+}
+
+/// Lets eight workers call a cache. Returns the number of call records if all went as in one thread.
+fn work_on_cache<
+    L: Ledger + Send + Sync,
+    M: Site<Shared<Same>> + Send + Sync,
+    R: Threads + Wait + Sync,
+>(
+    rt: &R,
+    alloc: Global,
+    hasher: Shared<Same>,
+    receipts: Blank,
+    records: Blank,
+) -> Result<Option<usize>, AllocError>
+    requires receipts { (receipts.name ≡ L.name) × (receipts.parts ≡ L.parts) × (receipts.parts ≡ 8) }
+    requires records { (records.name ≡ M.name) × (records.parts ≡ M.parts) × (records.parts ≡ 1) }
+    requires site { (M.chosen ≡ Some (request_of 0 128 hasher 1)) × (M.all ≡ 1) }
+{
+    let lists = all_turns::<Cache>(alloc)?;
+    let (recorded, handed) = opened::<Cache, L, M>(alloc, hasher, receipts, records)?;
+    let mut callers = callers_of(rt, alloc, &recorded, handed, lists.as_slice())?;
+    let ended = run(rt, alloc, callers.as_mut_slice(), &Open).is_ok();
+    match passes_of(alloc, callers)? {
+        Some(passes) if ended => finish_as_plain(alloc, recorded, passes),
+        _ => Ok(None),
+    }
+}
+
+fn of_cache<R: Threads + Wait + Sync>(rt: &R, alloc: Global) -> Result<bool, AllocError> {
+    let records = work_on_cache::<Brand, Brand, _>(
+        rt,
+        alloc,
+        shared(alloc)?,
         Blank::new(8),
         Blank::new(1),
     )?;
@@ -99,9 +198,9 @@ where
 pub(crate) fn run_crews<R: Threads + Wait + Sync + AllocGlobal + Print>(rt: &R) -> u8 {
     let alloc = rt.alloc();
     let what = "eight workers on one stripe";
-    let map = say(rt, "recorded map", what, of_kind::<Map, R>(rt, alloc));
-    let set = say(rt, "recorded set", what, of_kind::<Set, R>(rt, alloc));
-    let index = say(rt, "recorded index", what, of_kind::<Index, R>(rt, alloc));
-    let cache = say(rt, "recorded cache", what, of_kind::<Cache, R>(rt, alloc));
+    let map = say(rt, "recorded map", what, of_map(rt, alloc));
+    let set = say(rt, "recorded set", what, of_set(rt, alloc));
+    let index = say(rt, "recorded index", what, of_index(rt, alloc));
+    let cache = say(rt, "recorded cache", what, of_cache(rt, alloc));
     map.max(set).max(index).max(cache)
 }

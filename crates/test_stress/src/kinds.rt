@@ -47,10 +47,6 @@ fn put(
 }
 
 impl Turns for Map {
-    fn hasher(hasher: Shared<Same>) -> Shared<Same> {
-        hasher
-    }
-
     fn own_turn(key: u64, j: u64) -> (MapCall<u64, u64>, Option<Reply<u64, u64>>) {
         let before = j.wrapping_sub(2);
         match j % 16 {
@@ -116,10 +112,6 @@ impl Turns for Map {
 }
 
 impl Turns for Set {
-    fn hasher(hasher: Shared<Same>) -> Shared<Same> {
-        hasher
-    }
-
     fn own_turn(key: u64, j: u64) -> (SetCall<u64>, Option<Reply<u64, ()>>) {
         let stored = Some(Reply::Key(Some(key)));
         match j % 16 {
@@ -185,10 +177,6 @@ impl Turns for Set {
 }
 
 impl Turns for Index {
-    fn hasher(hasher: Shared<Same>) -> Shared<Same> {
-        hasher
-    }
-
     fn own_turn(key: u64, j: u64) -> (IndexCall<u64, u64>, Option<Reply<u64, u64>>) {
         let there = Some(Reply::Has(true));
         match j % 16 {
@@ -256,10 +244,6 @@ impl Turns for Index {
 
 // A put of another worker may evict a worker's key, so no reply of a cache is known in advance.
 impl Turns for Cache {
-    fn hasher(hasher: Shared<Same>) -> Shared<Same> {
-        hasher
-    }
-
     fn own_turn(key: u64, j: u64) -> (CacheCall<u64, u64>, Option<Reply<u64, u64>>) {
         match j % 16 {
             0 | 8 => (CacheCall::Put(key, j), None),

@@ -88,43 +88,6 @@ fn goes_in_phases(finished: &Finished<Map>) -> bool {
     right && last == 1
 }
 
-/// Lets two workers make their calls, the second once it is told of the first. Returns their passes if each call got the
-/// right reply, and the calls of the second come later.
-fn worked<L: Ledger + Send + Sync, M: Site<Shared<Same>> + Send + Sync, R: Threads + Wait + Sync>(
-    rt: &R,
-    alloc: Global,
-    recorded: &Recorded<Map, L, M>,
-    handed: Vec<Pass<Map, L>>,
-) -> Result<Option<Vec<Pass<Map, L>>>, AllocError> {
-    let mut passes = handed;
-    let (Some(mut second), Some(first)) = (passes.pop(), passes.pop()) else {
-        return Ok(None);
-    };
-    let Some(first) = work_alone(rt, alloc, recorded, first, 0)? else {
-        return Ok(None);
-    };
-    second.told(&first);
-    let Some(second) = work_alone(rt, alloc, recorded, second, HIGH)? else {
-        return Ok(None);
-    };
-    let later = is_later(&first, &second);
-    passes.push(first)?;
-    passes.push(second)?;
-    Ok(if later { Some(passes) } else { None })
-}
-
-/// Returns whether the run ends with the records of both stripes in phases.
-fn finishes_in_phases<L: Ledger, M: Site<Shared<Same>>>(
-    alloc: Global,
-    recorded: Recorded<Map, L, M>,
-    passes: Vec<Pass<Map, L>>,
-) -> Result<bool, AllocError> {
-    match finish_late(recorded, passes)? {
-        Some(finished) => Ok(goes_in_phases(&finished) && has_each_place(alloc, &finished)?),
-        None => Ok(false),
-    }
-}
-
 /// Returns whether the calls of a worker that was told of another come later.
 fn work_in_phases<
     L: Ledger + Send + Sync,
@@ -146,12 +109,29 @@ fn work_in_phases<
         maximum: 0,
         hasher,
     };
-    match Recorded::<Map, L, M>::open(alloc, setup, 2, 2, receipts, records) {
-        Ok((recorded, handed)) => match worked(rt, alloc, &recorded, handed)? {
-            Some(passes) => finishes_in_phases(alloc, recorded, passes),
-            None => Ok(false),
-        },
-        Err(_) => Err(AllocError),
+    let Ok((recorded, handed)) = Recorded::<Map, L, M>::open(alloc, setup, 2, 2, receipts, records)
+    else {
+        return Err(AllocError);
+    };
+    let mut passes = handed;
+    let (Some(mut second), Some(first)) = (passes.pop(), passes.pop()) else {
+        return Ok(false);
+    };
+    let Some(first) = work_alone(rt, alloc, &recorded, first, 0)? else {
+        return Ok(false);
+    };
+    second.told(&first);
+    let Some(second) = work_alone(rt, alloc, &recorded, second, HIGH)? else {
+        return Ok(false);
+    };
+    let later = is_later(&first, &second);
+    passes.push(first)?;
+    passes.push(second)?;
+    match finish_late(recorded, passes)? {
+        Some(finished) => {
+            Ok(later && goes_in_phases(&finished) && has_each_place(alloc, &finished)?)
+        }
+        None => Ok(false),
     }
 }
 

@@ -1,13 +1,13 @@
 //! Rounds of calls on each kind of container, in which the keys that went in and came out must add up.
 
 use crate::called::{Cache, Called, Index, Map, Set};
-use crate::counted::{Counted, Counts};
+use crate::counted::Counts;
 use crate::request::Request;
 use crate::tally::{Tally, draw_call};
-use std::alloc::{AllocError, Global};
+use std::alloc::Global;
 use std::io;
 use std::rt::Clock;
-use std::sync::{Arc, Wait};
+use std::sync::Wait;
 use std::thread::{Threads, map_indices};
 use std::time::Instant;
 
@@ -18,10 +18,10 @@ const EVEN: u8 = 0;
 const UNEVEN: u8 = 1;
 
 /// Makes `calls` calls in one thread. Returns the tally of the replies.
-fn work<C: Called, R: Wait>(
+fn work<'a, C: Called<'a>, R: Wait>(
     rt: &R,
     container: &C,
-    counts: &Arc<Counts>,
+    counts: &'a Counts,
     thread: usize,
     calls: u64,
 ) -> Tally {
@@ -29,16 +29,13 @@ fn work<C: Called, R: Wait>(
     let mut tally = Tally::new();
     for _ in 0..calls {
         let drawn = draw_call(&mut seed);
-        match Counted::new(counts) {
-            Ok(value) => container.call(rt, drawn.kind, drawn.key, value, &mut tally),
-            Err(_) => tally.refuse(),
-        }
+        container.call(rt, counts, drawn.kind, drawn.key, &mut tally);
     }
     tally
 }
 
 /// Returns whether the tallies of the threads add up with the keys of the container.
-fn is_settled<C: Called, R: Wait>(rt: &R, container: &C, told: &[Tally]) -> bool {
+fn is_settled<'a, C: Called<'a>, R: Wait>(rt: &R, container: &C, told: &[Tally]) -> bool {
     let mut left = Tally::new();
     for tally in told {
         left.join(tally);
@@ -47,67 +44,156 @@ fn is_settled<C: Called, R: Wait>(rt: &R, container: &C, told: &[Tally]) -> bool
     left.is_even()
 }
 
-/// Lets threads call an empty container. Returns whether what they were told adds up with what the container has then.
-fn adds_up<C: Called + Sync, R: Wait + Threads + Sync>(
-    rt: &R,
-    alloc: Global,
-    container: &C,
-    counts: &Arc<Counts>,
-    request: Request,
-) -> Result<bool, AllocError> {
-    let calls = request.calls;
-    let told = map_indices(
-        rt,
-        alloc,
-        request.threads as usize,
-        &|thread| work(rt, container, counts, thread, calls),
-    );
-    match told {
-        Ok(tallies) => Ok(is_settled(rt, container, tallies.as_slice())),
-        Err(_) => Err(AllocError),
+/// Returns the container, or an error if its memory was refused.
+fn made<C: Drop>(container: Option<C>) -> io::Result<C> {
+    match container {
+        Some(container) => Ok(container),
+        None => Err(io::Error::from(io::ErrorKind::OutOfMemory)),
     }
 }
 
-/// Returns whether a round of a kind adds up, and each value was dropped once.
-fn is_even<C: Called + Sync + Drop, R: Wait + Threads + Sync>(
+// The data of a thread can't rest on a bound with a lifetime. Therefore each kind starts its threads in a function of
+// its own.
+
+/// Returns what each thread was told by a map.
+fn told_of_map<'a, R: Wait + Threads + Sync>(
     rt: &R,
     alloc: Global,
-    counts: &Arc<Counts>,
+    map: &Map<'a>,
+    counts: &'a Counts,
     request: Request,
-) -> Result<bool, AllocError> {
-    let holds = match C::make(alloc) {
-        Some(container) => adds_up(rt, alloc, &container, counts, request)?,
-        None => return Err(AllocError),
-    };
-    Ok(holds && counts.are_equal())
+) -> io::Result<Vec<Tally>> {
+    let calls = request.calls;
+    Ok(map_indices(
+        rt,
+        alloc,
+        request.threads as usize,
+        &|thread| work(rt, map, counts, thread, calls),
+    )?)
 }
 
-/// Plays a round of a kind. Prints `name` if the counts don't add up. Returns whether they do.
-fn play<C: Called + Sync + Drop, R: Wait + Threads + Sync + Print>(
+/// Returns whether a round of a map adds up.
+fn map_adds_up<R: Wait + Threads + Sync>(
     rt: &R,
     alloc: Global,
-    counts: &Arc<Counts>,
+    counts: &Counts,
     request: Request,
-    name: &str,
 ) -> io::Result<bool> {
-    let holds = is_even::<C, R>(rt, alloc, counts, request)?;
+    let map: Map<'_> = made(Called::make(alloc))?;
+    let told = told_of_map(rt, alloc, &map, counts, request)?;
+    Ok(is_settled(rt, &map, told.as_slice()))
+}
+
+/// Returns what each thread was told by a set.
+fn told_of_set<'a, R: Wait + Threads + Sync>(
+    rt: &R,
+    alloc: Global,
+    set: &Set,
+    counts: &'a Counts,
+    request: Request,
+) -> io::Result<Vec<Tally>> {
+    let calls = request.calls;
+    Ok(map_indices(
+        rt,
+        alloc,
+        request.threads as usize,
+        &|thread| work(rt, set, counts, thread, calls),
+    )?)
+}
+
+/// Returns whether a round of a set adds up.
+fn set_adds_up<R: Wait + Threads + Sync>(
+    rt: &R,
+    alloc: Global,
+    counts: &Counts,
+    request: Request,
+) -> io::Result<bool> {
+    let set: Set = made(Called::make(alloc))?;
+    let told = told_of_set(rt, alloc, &set, counts, request)?;
+    Ok(is_settled(rt, &set, told.as_slice()))
+}
+
+/// Returns what each thread was told by an index.
+fn told_of_index<'a, R: Wait + Threads + Sync>(
+    rt: &R,
+    alloc: Global,
+    index: &Index<'a>,
+    counts: &'a Counts,
+    request: Request,
+) -> io::Result<Vec<Tally>> {
+    let calls = request.calls;
+    Ok(map_indices(
+        rt,
+        alloc,
+        request.threads as usize,
+        &|thread| work(rt, index, counts, thread, calls),
+    )?)
+}
+
+/// Returns whether a round of an index adds up.
+fn index_adds_up<R: Wait + Threads + Sync>(
+    rt: &R,
+    alloc: Global,
+    counts: &Counts,
+    request: Request,
+) -> io::Result<bool> {
+    let index: Index<'_> = made(Called::make(alloc))?;
+    let told = told_of_index(rt, alloc, &index, counts, request)?;
+    Ok(is_settled(rt, &index, told.as_slice()))
+}
+
+/// Returns what each thread was told by a cache.
+fn told_of_cache<'a, R: Wait + Threads + Sync>(
+    rt: &R,
+    alloc: Global,
+    cache: &Cache<'a>,
+    counts: &'a Counts,
+    request: Request,
+) -> io::Result<Vec<Tally>> {
+    let calls = request.calls;
+    Ok(map_indices(
+        rt,
+        alloc,
+        request.threads as usize,
+        &|thread| work(rt, cache, counts, thread, calls),
+    )?)
+}
+
+/// Returns whether a round of a cache adds up.
+fn cache_adds_up<R: Wait + Threads + Sync>(
+    rt: &R,
+    alloc: Global,
+    counts: &Counts,
+    request: Request,
+) -> io::Result<bool> {
+    let cache: Cache<'_> = made(Called::make(alloc))?;
+    let told = told_of_cache(rt, alloc, &cache, counts, request)?;
+    Ok(is_settled(rt, &cache, told.as_slice()))
+}
+
+/// Prints `name` if the counts of the container don't add up. Returns `holds`.
+fn tell(rt: &impl Print, name: &str, holds: bool) -> io::Result<bool> {
     if !holds {
         println!(rt; "{name}: what went in and out doesn't add up")?;
     }
     Ok(holds)
 }
 
-/// Returns whether a round of each container adds up.
+/// Returns whether a round of each container adds up, and each value was dropped once.
 fn all_add_up<R: Wait + Threads + Sync + Print>(
     rt: &R,
     alloc: Global,
     request: Request,
 ) -> io::Result<bool> {
-    let counts = Arc::new(alloc, Counts::new())?;
-    let map = play::<Map, R>(rt, alloc, &counts, request, "map")?;
-    let set = play::<Set, R>(rt, alloc, &counts, request, "set")?;
-    let index = play::<Index, R>(rt, alloc, &counts, request, "index")?;
-    let cache = play::<Cache, R>(rt, alloc, &counts, request, "cache")?;
+    let counts = Counts::new();
+    let map = map_adds_up(rt, alloc, &counts, request)?;
+    let map = tell(rt, "map", map && counts.are_equal())?;
+    let set = set_adds_up(rt, alloc, &counts, request)?;
+    let set = tell(rt, "set", set)?;
+    let index = index_adds_up(rt, alloc, &counts, request)?;
+    let index = tell(rt, "index", index && counts.are_equal())?;
+    let cache = cache_adds_up(rt, alloc, &counts, request)?;
+    let cache = tell(rt, "cache", cache && counts.are_equal())?;
     Ok(map && set && index && cache)
 }
 

@@ -3,9 +3,7 @@ ghost use Rattle.scc_calls.specs.Copies.{ClonesEqual};
 
 use crate::plain::Plain;
 use scc_calls::Calls;
-use scc_common::Shared;
 use scc_recorded::{Pass, Recorded, Site};
-use scc_script::same::Same;
 use scc_workers::Work;
 use std::alloc::{AllocError, Global};
 use std::sync::Wait;
@@ -20,9 +18,6 @@ const SHARED: u64 = 8;
 
 // The calls of workers on a container of one kind.
 pub(crate) trait Turns: Calls + Drop {
-    /// Returns the hasher that a container is made with.
-    fn hasher(hasher: Shared<Same>) -> Self::Hasher;
-
     /// Returns the call of turn `j` on a key of the worker's own, and its reply if no other worker interferes and the
     /// reply can be known.
     fn own_turn(key: u64, j: u64) -> (Self::Call, Option<Self::Reply>);

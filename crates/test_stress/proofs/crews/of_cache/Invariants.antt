@@ -1,0 +1,12 @@
+use Rattle.std.proofs.Common.{Some}
+use Rattle.scc_recorded.specs.Setups.{request_of}
+use Rattle.test_stress.proofs.crews.of_cache.Given as goal
+
+abbrev pub ghosts-work_on_cache-L-Ledger : goal.ghosts-work_on_cache-L-Ledger
+ghosts-work_on_cache-L-Ledger g a = record { name = a.receipts.name; parts = a.receipts.parts }
+
+abbrev pub ghosts-work_on_cache-M-Ledger : goal.ghosts-work_on_cache-M-Ledger
+ghosts-work_on_cache-M-Ledger g a = record { name = a.records.name; parts = a.records.parts }
+
+abbrev pub ghosts-work_on_cache-M-Site : goal.ghosts-work_on_cache-M-Site
+ghosts-work_on_cache-M-Site g a = record { chosen = Some (request_of 0 128 a.hasher 1); all = 1 }
