@@ -1,244 +1,236 @@
-// Tests of the single-threaded cache: what its calls return, which of them refresh a pair, and when it grows, shrinks and
-// evicts. Under `ZERO` all keys share a bucket; under `SAME` the highest bits of a key name its bucket.
+// Tests of the single-threaded cache. Under `ZERO` all keys share a bucket; under `SAME` the highest bits of a key
+// name its bucket.
 use crate::expect::{expect, expect_eq};
-use crate::rows::{Cache, Call, Row, expect_answers, expect_of_cache, first_other};
+use scc::Verdict;
 use scc::hash_cache::Owned;
+use scc::hash_cache::owned::ReplaceResult;
 use std::alloc::Global;
 use std::process::Abort;
-use test_forms::answers::{Answer, Rule};
-use test_forms::form::{Act, At, Form, Way};
-use test_kit::masked::{SAME, ZERO};
+use test_kit::masked::{Masked, SAME, ZERO};
+use test_kit::maybe_equal::MaybeEqual;
 
 const HALF: u64 = 1 << 63;
 
-const YES: Answer = Answer::Yes(true);
+type Numbers = Owned<u64, u64, Masked>;
 
-/// A put of `key` with itself as value, which evicts the pair `evicted`.
-fn puts(key: u64, evicted: (u64, u64)) -> Row {
-    let pair = (evicted.0, 0, evicted.1);
-    (
-        Call::Add(Way::Insert, key, 0, key),
-        Answer::Added(Some(pair)),
-    )
+// A call on a cache, with the result that it must return. Each key is put with itself as value.
+#[derive(Clone, Copy)]
+enum Call {
+    // Puts the keys from the first number up to, but without, the second. No put evicts a pair.
+    Fill(u64, u64),
+    // Removes the keys from the first number up to, but without, the second. Each removal returns the key's pair.
+    Empty(u64, u64),
+    // Puts the first key, which evicts the second key.
+    Evict(u64, u64),
+    // Reads the key by a call that refreshes it. Its value is the key itself.
+    Get(u64),
+    // Sets the value of a present key through its entry.
+    PutEntry(u64, u64),
+    // Replaces a key that is present.
+    Replace(u64),
+    // Asks for the entry of the key.
+    Enter(u64),
+    // Reads the key, whose value is the second number, by a call that doesn't refresh it.
+    Read(u64, u64),
+    // The key is present.
+    Contains(u64),
+    // The cache has this length and this capacity.
+    Sizes(usize, usize),
+    // This many buckets wait.
+    Waiting(usize),
 }
 
-/// A put of `key`, which evicts a pair whose value is its key.
-fn evicts(key: u64, gone: u64) -> Row {
-    puts(key, (gone, gone))
+/// Puts `key` with itself as value. Returns the key that the put evicts, if any, or `None` if the put fails.
+fn put(cache: &mut Numbers, key: u64) -> Option<Option<u64>> {
+    match cache.put_sync(key, key) {
+        Ok(Some(pair)) => Some(Some(pair.0)),
+        Ok(None) => Some(None),
+        Err(_) => None,
+    }
 }
 
-/// A look at the entry of a key, by a call that refreshes it. The value is the key itself.
-fn gets(key: u64) -> Row {
-    (
-        Call::On(At::Key, Act::Look, key, 0),
-        Answer::Found(Some((key, 0, key))),
-    )
+fn fill(cache: &mut Numbers, first: u64, end: u64) -> bool {
+    for key in first..end {
+        if put(cache, key) != Some(None) {
+            return false;
+        }
+    }
+    true
 }
 
-/// A look at a key by calls that don't refresh it.
-fn reads(key: u64, value: u64) -> Row {
-    (Call::Read(key), Answer::Found(Some((key, 0, value))))
+fn empty(cache: &mut Numbers, first: u64, end: u64) -> bool {
+    for key in first..end {
+        if cache.remove_sync(&key) != Some((key, key)) {
+            return false;
+        }
+    }
+    true
 }
 
-/// Makes the calls on a cache of at most 64 slots whose keys share a bucket of 32 slots.
-fn expect_in_one_bucket<R: AllocGlobal + Abort>(rt: &R, rows: &[Row]) {
-    expect_of_cache(rt, ZERO, 64, rows);
+fn get(cache: &mut Numbers, key: u64) -> Option<u64> {
+    match cache.get_sync(&key) {
+        Some(entry) => Some(*entry.get()),
+        None => None,
+    }
+}
+
+fn puts_entry(cache: &mut Numbers, key: u64, value: u64) -> bool {
+    match cache.entry_sync(key).put_entry(value) {
+        Ok((evicted, entry)) => evicted.is_none() && *entry.get() == value,
+        Err(_) => false,
+    }
+}
+
+fn replaces(cache: &mut Numbers, key: u64) -> bool {
+    match cache.replace_sync(key) {
+        ReplaceResult::Replaced(_, old) => old == key,
+        ReplaceResult::NotReplaced(_) => false,
+    }
+}
+
+fn read(cache: &Numbers, key: u64) -> Option<u64> {
+    cache.read_sync(&key, |_, value| *value)
+}
+
+/// Returns whether `call` returns what it must.
+fn holds(cache: &mut Numbers, call: Call) -> bool {
+    match call {
+        Call::Fill(first, end) => fill(cache, first, end),
+        Call::Empty(first, end) => empty(cache, first, end),
+        Call::Evict(key, gone) => put(cache, key) == Some(Some(gone)),
+        Call::Get(key) => get(cache, key) == Some(key),
+        Call::PutEntry(key, value) => puts_entry(cache, key, value),
+        Call::Replace(key) => replaces(cache, key),
+        Call::Enter(key) => *cache.entry_sync(key).key() == key,
+        Call::Read(key, value) => read(cache, key) == Some(value),
+        Call::Contains(key) => cache.contains_sync(&key),
+        Call::Sizes(len, capacity) => (cache.len(), cache.capacity()) == (len, capacity),
+        Call::Waiting(pending) => cache.pending() == pending,
+    }
+}
+
+/// Returns the number of the first call that doesn't return what it must.
+fn first_other(cache: &mut Numbers, calls: &[Call]) -> Option<usize> {
+    for (number, call) in calls.iter().enumerate() {
+        if !holds(cache, *call) {
+            return Some(number);
+        }
+    }
+    None
+}
+
+/// Makes `calls` in turn on a cache without an array, of at most `maximum` slots, and checks each result.
+fn expect_calls<R: AllocGlobal + Abort>(rt: &R, hasher: Masked, maximum: usize, calls: &[Call]) {
+    match Owned::with_capacity_and_hasher(rt.alloc(), 0, maximum, hasher) {
+        Ok(mut cache) => expect_eq(rt, first_other(&mut cache, calls), None),
+        Err(_) => expect(rt, false),
+    }
 }
 
 #[test]
 fn cache_get_refreshes(rt: HostRuntime) {
-    let rows = [
-        (Call::Fill(0, 32), YES),
-        gets(0),
-        evicts(32, 1),
-        reads(0, 0),
-    ];
-    expect_in_one_bucket(&rt, &rows);
+    expect_calls(
+        &rt,
+        ZERO,
+        64,
+        &[
+            Call::Fill(0, 32),
+            Call::Get(0),
+            Call::Evict(32, 1),
+            Call::Contains(0),
+        ],
+    );
 }
 
 #[test]
 fn cache_put_entry_refreshes(rt: HostRuntime) {
-    let rows = [
-        (Call::Fill(0, 32), YES),
-        (
-            Call::Add(Way::InsertEntry, 0, 0, 7),
-            Answer::Entry(None, (0, 0, 7)),
-        ),
-        evicts(32, 1),
-        reads(0, 7),
-    ];
-    expect_in_one_bucket(&rt, &rows);
+    expect_calls(
+        &rt,
+        ZERO,
+        64,
+        &[
+            Call::Fill(0, 32),
+            Call::PutEntry(0, 7),
+            Call::Evict(32, 1),
+            Call::Read(0, 7),
+        ],
+    );
 }
 
-/// Replacing key 0 and asking for its entry refresh it, so key 32 evicts key 1. Calls that only read don't, so key 32
-/// evicts key 0.
+/// Replacing key 0 and asking for its entry refresh it, so key 32 evicts key 1. `read_sync` and `contains_sync` don't,
+/// so key 32 evicts key 0.
 #[test]
 fn cache_which_calls_refresh(rt: HostRuntime) {
-    let replaces = (
-        Call::Replace(0, 0),
-        Answer::Swapped(Some(0), Some((0, 0, 0))),
-    );
-    let enters = (
-        Call::Add(Way::OrInsert, 0, 0, 9),
-        Answer::Entry(None, (0, 0, 0)),
-    );
-    for (call, gone) in [(replaces, 1), (enters, 1), (reads(0, 0), 0)] {
-        expect_in_one_bucket(&rt, &[(Call::Fill(0, 32), YES), call, evicts(32, gone)]);
+    for (call, evicted) in [
+        (Call::Replace(0), 1),
+        (Call::Enter(0), 1),
+        (Call::Read(0, 0), 0),
+        (Call::Contains(0), 0),
+    ] {
+        expect_calls(
+            &rt,
+            ZERO,
+            64,
+            &[Call::Fill(0, 32), call, Call::Evict(32, evicted)],
+        );
     }
 }
 
 #[test]
 fn cache_doubles_then_evicts(rt: HostRuntime) {
-    let rows = [
-        (Call::Fill(0, 32), YES),
-        (Call::Sizes(32, 64, 0), YES),
-        evicts(32, 0),
-        (Call::Sizes(32, 128, 2), YES),
-        evicts(33, 1),
-        (Call::Sizes(32, 128, 0), YES),
-    ];
-    expect_of_cache(&rt, ZERO, 128, &rows);
+    expect_calls(
+        &rt,
+        ZERO,
+        128,
+        &[
+            Call::Fill(0, 32),
+            Call::Sizes(32, 64),
+            Call::Evict(32, 0),
+            Call::Sizes(32, 128),
+            Call::Evict(33, 1),
+            Call::Sizes(32, 128),
+        ],
+    );
 }
 
 #[test]
 fn cache_shrinks_and_evicts_again(rt: HostRuntime) {
-    let rows = [
-        (Call::Fill(0, 32), YES),
-        evicts(32, 0),
-        (Call::Sizes(32, 128, 2), YES),
-        (Call::Empty(1, 16), YES),
-        (Call::Sizes(17, 128, 2), YES),
-        (Call::Empty(16, 17), YES),
-        (Call::Sizes(16, 64, 2), YES),
-        (Call::Fill(33, 49), YES),
-        evicts(49, 17),
-        (Call::Sizes(32, 128, 2), YES),
-    ];
-    expect_of_cache(&rt, ZERO, 128, &rows);
+    expect_calls(
+        &rt,
+        ZERO,
+        128,
+        &[
+            Call::Fill(0, 32),
+            Call::Evict(32, 0),
+            Call::Sizes(32, 128),
+            Call::Empty(1, 16),
+            Call::Sizes(17, 128),
+            Call::Empty(16, 17),
+            Call::Sizes(16, 64),
+            Call::Fill(33, 49),
+            Call::Evict(49, 17),
+            Call::Sizes(32, 128),
+        ],
+    );
 }
 
 #[test]
 fn cache_get_relocates_its_target(rt: HostRuntime) {
-    let rows = [
-        (Call::Fill(0, 32), YES),
-        (Call::Fill(HALF, HALF + 1), YES),
-        evicts(32, 0),
-        (Call::Sizes(33, 128, 2), YES),
-        gets(HALF),
-        (Call::Sizes(33, 128, 1), YES),
-        evicts(33, 1),
-        (Call::Sizes(33, 128, 0), YES),
-    ];
-    expect_of_cache(&rt, SAME, 128, &rows);
-}
-
-#[test]
-fn cache_which_calls_leave_the_order(rt: HostRuntime) {
-    let rows = [
-        (Call::Fill(0, 32), Answer::Yes(true)),
-        (Call::Read(0), Answer::Found(Some((0, 0, 0)))),
-        (Call::Passes(40), Answer::Yes(true)),
-        (Call::Add(Way::Insert, 0, 1, 9), Answer::Exists((0, 1, 9))),
-        (Call::RemoveIf(0), Answer::Found(None)),
-        puts(32, (0, 1)),
-    ];
-    expect_in_one_bucket(&rt, &rows);
-}
-
-/// A declined removal keeps the value that its condition wrote, and an accepted removal returns it.
-#[test]
-fn cache_false_remove_if_keeps_what_it_wrote(rt: HostRuntime) {
-    let rows = [
-        (Call::Fill(0, 32), Answer::Yes(true)),
-        (Call::RemoveIf(0), Answer::Found(None)),
-        puts(32, (0, 1)),
-        (Call::RemoveIf(1), Answer::Found(Some((1, 0, 2)))),
-        (Call::RemoveIf(1), Answer::Found(None)),
-    ];
-    expect_in_one_bucket(&rt, &rows);
-}
-
-/// Walks add 1 to each value that they come to, and keep the order of the pairs that stay.
-#[test]
-fn cache_walks_keep_the_order(rt: HostRuntime) {
-    let rows = [
-        (Call::Fill(0, 32), Answer::Yes(true)),
-        (Call::Retain(0), Answer::Yes(true)),
-        (Call::Fill(32, 36), Answer::Yes(true)),
-        puts(36, (1, 2)),
-        (Call::Take(Rule::Rest(2)), Answer::Yes(true)),
-        (Call::Fill(37, 41), Answer::Yes(true)),
-        (Call::Read(2), Answer::Found(None)),
-        (Call::Fill(41, 42), Answer::Yes(true)),
-        puts(42, (3, 5)),
-    ];
-    expect_in_one_bucket(&rt, &rows);
-}
-
-/// A put evicts a pair of its own bucket alone.
-#[test]
-fn cache_evicts_from_the_keys_own_bucket(rt: HostRuntime) {
-    let other = 1 << 63;
-    let rows = [
-        (Call::Fill(other, other + 1), Answer::Yes(true)),
-        (Call::Fill(0, 32), Answer::Yes(true)),
-        puts(32, (0, 0)),
-        (Call::Read(other), Answer::Found(Some((other, 0, other)))),
-    ];
-    match Cache::with_capacity_and_hasher(rt.alloc(), 64, 64, SAME) {
-        Ok(mut cache) => {
-            expect_answers(&rt, &mut cache, &rows);
-            let sizes = cache.sizes();
-            expect_eq(&rt, (sizes.len, sizes.capacity), (33, 64));
-        }
-        Err(_) => expect(&rt, false),
-    }
-}
-
-#[test]
-fn cache_entries_do_what_they_say(rt: HostRuntime) {
-    let rows = [
-        (
-            Call::Add(Way::OrInsert, 1, 7, 10),
-            Answer::Entry(None, (1, 7, 10)),
-        ),
-        (
-            Call::Add(Way::OrInsertWith, 1, 8, 11),
-            Answer::Entry(None, (1, 7, 10)),
-        ),
-        (
-            Call::Add(Way::OrInsertWithKey, 2, 0, 9),
-            Answer::Entry(None, (2, 0, 2)),
-        ),
-        (
-            Call::Add(Way::OrDefault, 3, 0, 9),
-            Answer::Entry(None, (3, 0, 0)),
-        ),
-        (Call::Modify(3, 7), Answer::Found(Some((3, 0, 7)))),
-        (
-            Call::Add(Way::InsertEntry, 3, 1, 8),
-            Answer::Entry(None, (3, 0, 8)),
-        ),
-        (Call::On(At::Key, Act::Set, 3, 9), Answer::Old(Some(8))),
-        (
-            Call::On(At::Key, Act::Write, 3, 30),
-            Answer::Found(Some((3, 0, 30))),
-        ),
-        (
-            Call::On(At::Key, Act::RemoveEntry, 3, 0),
-            Answer::Found(Some((3, 0, 30))),
-        ),
-        (Call::On(At::Key, Act::Remove, 2, 0), Answer::Old(Some(2))),
-        (Call::Modify(3, 7), Answer::Vacant(3, 1)),
-        (
-            Call::Replace(1, 9),
-            Answer::Swapped(Some(7), Some((1, 9, 10))),
-        ),
-        (Call::Replace(3, 9), Answer::Swapped(None, None)),
-        (Call::Clear, Answer::Yes(true)),
-        (Call::Read(1), Answer::Found(None)),
-    ];
-    expect_of_cache(&rt, SAME, 256, &rows);
+    expect_calls(
+        &rt,
+        SAME,
+        128,
+        &[
+            Call::Fill(0, 32),
+            Call::Fill(HALF, HALF + 1),
+            Call::Evict(32, 0),
+            Call::Waiting(2),
+            Call::Get(HALF),
+            Call::Waiting(1),
+            Call::Evict(33, 1),
+            Call::Waiting(0),
+        ],
+    );
 }
 
 /// Returns the capacity and both ends of its range.
@@ -285,17 +277,148 @@ fn cache_try_from_iter_first_wins(rt: HostRuntime) {
     }
 }
 
-/// Puts the keys from `first` on and before `end`. Returns whether each went in without an eviction.
-fn fill(alloc: Global, cache: &mut Cache, first: u64, end: u64) -> bool {
-    first_other(alloc, cache, &[(Call::Fill(first, end), YES)]).is_none()
+/// Puts 1, 2 and 3, each with the value 0.
+fn put_three(cache: &mut Owned<u64, u64>) -> bool {
+    for key in 1..4 {
+        if cache.put_sync(key, 0).is_err() {
+            return false;
+        }
+    }
+    true
+}
+
+/// Walks with a closure that writes 9 and returns `verdict` at once. Returns whether the walk stopped.
+fn write_and_stop(
+    cache: &mut Owned<u64, u64>,
+    taken: &mut Vec<(u64, u64)>,
+    verdict: Verdict,
+) -> bool {
+    let ended = cache.iter_mut_sync(
+        |_, value| {
+            *value = 9;
+            verdict
+        },
+        taken,
+    );
+    ended == Ok(false)
+}
+
+/// Returns the number of pairs with the value 9, and the number of pairs with the value 0.
+fn nines_and_zeros(cache: &Owned<u64, u64>) -> (usize, usize) {
+    let (mut nines, mut zeros) = (0usize, 0usize);
+    cache.iter_sync(|_, value| {
+        if *value == 9 {
+            nines = nines.wrapping_add(1);
+        } else if *value == 0 {
+            zeros = zeros.wrapping_add(1);
+        }
+        true
+    });
+    (nines, zeros)
+}
+
+/// Returns the number of pairs with the value 9.
+fn nines_of(pairs: &[(u64, u64)]) -> usize {
+    let mut nines = 0usize;
+    for pair in pairs {
+        if pair.1 == 9 {
+            nines = nines.wrapping_add(1);
+        }
+    }
+    nines
+}
+
+/// Puts 1, 2 and 3, and walks with `verdict`. The walk must stop. `wanted` is the number of taken pairs, the number of
+/// taken pairs with the value 9, and the numbers of pairs left with the value 9 and with 0.
+fn expect_stop<R: AllocGlobal + Abort>(rt: &R, verdict: Verdict, wanted: [usize; 4]) {
+    let mut cache: Owned<u64, u64> = Owned::new(rt.alloc());
+    let mut taken = Vec::new(rt.alloc());
+    let stopped = put_three(&mut cache) && write_and_stop(&mut cache, &mut taken, verdict);
+    let (left_nines, left_zeros) = nines_and_zeros(&cache);
+    let seen = [
+        taken.len(),
+        nines_of(taken.as_slice()),
+        left_nines,
+        left_zeros,
+    ];
+    expect_eq(rt, (stopped, seen), (true, wanted));
+}
+
+#[test]
+fn cache_iter_mut_take_stop_at_first(rt: HostRuntime) {
+    expect_stop(&rt, Verdict::TakeStop, [1, 1, 0, 2]);
+}
+
+#[test]
+fn cache_iter_mut_keep_stop_at_first(rt: HostRuntime) {
+    expect_stop(&rt, Verdict::KeepStop, [0, 0, 1, 2]);
+}
+
+type Marked = Owned<MaybeEqual, u64, Masked>;
+
+/// Puts the keys (i, 100 + i) below `end`, each with the value i. Returns whether each went in without an eviction.
+fn put_marked(cache: &mut Marked, end: u64) -> bool {
+    for i in 0..end {
+        match cache.put_sync(MaybeEqual(i, i.saturating_add(100)), i) {
+            Ok(None) => {}
+            _ => return false,
+        }
+    }
+    true
+}
+
+/// Replaces a key. Returns the mark of the old key, the mark of the new key and the value, or `None` if the key was
+/// missing.
+fn replace(cache: &mut Marked, number: u64, mark: u64) -> Option<(u64, u64, u64)> {
+    match cache.replace_sync(MaybeEqual(number, mark)) {
+        ReplaceResult::Replaced(entry, old) => Some((old.1, entry.key().1, *entry.get())),
+        ReplaceResult::NotReplaced(_) => None,
+    }
+}
+
+/// Replaces each key below `end` by (i, 200 + i), and returns whether each replacement succeeded.
+fn replace_marked(cache: &mut Marked, end: u64) -> bool {
+    for i in 0..end {
+        let (old, new) = (i.saturating_add(100), i.saturating_add(200));
+        if replace(cache, i, new) != Some((old, new, i)) {
+            return false;
+        }
+    }
+    true
+}
+
+/// Returns whether each key below `end` is stored as (i, 200 + i) with its value.
+fn are_replaced(cache: &Marked, end: u64) -> bool {
+    for i in 0..end {
+        let stored = cache.read_sync(&MaybeEqual(i, 0), |key, value| (key.1, *value));
+        if stored != Some((i.saturating_add(200), i)) {
+            return false;
+        }
+    }
+    true
+}
+
+#[test]
+fn cache_replace_under_one_hash_keeps_values(rt: HostRuntime) {
+    match Owned::with_capacity_and_hasher(rt.alloc(), 0, 64, ZERO) {
+        Ok(mut cache) => {
+            let held = [
+                put_marked(&mut cache, 32),
+                replace_marked(&mut cache, 32),
+                are_replaced(&cache, 32),
+            ];
+            expect_eq(&rt, (held, cache.len()), ([true; 3], 32));
+        }
+        Err(_) => expect(&rt, false),
+    }
 }
 
 /// Puts the keys 1 and 2 into both caches in different order, and then 3 into `first`. Returns whether the puts evicted
 /// nothing, and whether each cache equals the other, before and after the last put.
-fn compare(alloc: Global, first: &mut Cache, second: &mut Cache) -> [bool; 6] {
-    let filled = fill(alloc, first, 1, 3) && fill(alloc, second, 2, 3) && fill(alloc, second, 1, 2);
+fn compare(first: &mut Numbers, second: &mut Numbers) -> [bool; 6] {
+    let filled = fill(first, 1, 3) && fill(second, 2, 3) && fill(second, 1, 2);
     let before = [first == second, second == first];
-    let filled_again = fill(alloc, first, 3, 4);
+    let filled_again = fill(first, 3, 4);
     [
         filled,
         before[0],
@@ -312,7 +435,7 @@ fn cache_equality_ignores_recency(rt: HostRuntime) {
         Ok(mut first) => match Owned::with_capacity_and_hasher(rt.alloc(), 0, 64, ZERO) {
             Ok(mut second) => expect_eq(
                 &rt,
-                compare(rt.alloc(), &mut first, &mut second),
+                compare(&mut first, &mut second),
                 [true, true, true, true, false, false],
             ),
             Err(_) => expect(&rt, false),

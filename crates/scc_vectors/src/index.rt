@@ -1,11 +1,11 @@
 // Tests of the single-threaded index.
 use crate::expect::{expect, expect_eq};
-use crate::rows::{Call, expect_of_index};
+use crate::reserving::{foreign_and_own_tokens, grows_and_gives_back, sizes_without_array};
 use scc::hash_index::Owned;
 use scc::hash_index::owned::Iter;
-use test_forms::answers::Answer;
-use test_forms::form::{Act, At, Way};
-use test_kit::masked::ZERO;
+use std::process::Abort;
+
+const GREATEST: usize = 1 << 63;
 
 /// Returns the value of `key`.
 fn value_of(index: &Owned<u64, u64>, key: u64) -> Option<u64> {
@@ -73,15 +73,54 @@ fn index_snapshot_keeps_old_version(rt: HostRuntime) {
     );
 }
 
+/// Removes the first entry and the entry that follows it. Returns both keys, and whether no entry followed the second.
+fn take_both(index: &mut Owned<u64, u64>) -> Option<(u64, u64, bool)> {
+    let Some(first) = index.begin_sync() else {
+        return None;
+    };
+    let one = *first.key();
+    let Some(second) = first.remove_and_sync() else {
+        return None;
+    };
+    let other = *second.key();
+    Some((one, other, second.remove_and_sync().is_none()))
+}
+
 #[test]
 fn index_remove_and_next(rt: HostRuntime) {
-    let act = Call::On(At::First, Act::RemoveNext, 0, 0);
-    let rows = [
-        (Call::Add(Way::Insert, 1, 0, 5), Answer::Added(None)),
-        (Call::Add(Way::Insert, 2, 0, 6), Answer::Added(None)),
-        (act, Answer::Gone((1, 0, 5), Some((2, 0, 6)))),
-        (act, Answer::Gone((2, 0, 6), None)),
-        (Call::Sizes(0, 64, 0), Answer::Yes(true)),
+    let mut index: Owned<u64, u64> = Owned::new(rt.alloc());
+    let is_filled = index.insert_sync(1, 0).is_ok() && index.insert_sync(2, 0).is_ok();
+    let taken = take_both(&mut index);
+    let are_taken = taken == Some((1, 2, true)) || taken == Some((2, 1, true));
+    expect_eq(&rt, (is_filled, are_taken, index.len()), (true, true, 0));
+}
+
+#[test]
+fn index_reserve_grows_and_gives_back(rt: HostRuntime) {
+    match Owned::<u64, u64>::with_capacity(rt.alloc(), 800) {
+        Ok(mut index) => expect_eq(
+            &rt,
+            grows_and_gives_back(&mut index),
+            (1024, 16_384, true, true, 1024),
+        ),
+        Err(_) => expect(&rt, false),
+    }
+}
+
+#[test]
+fn index_reserve_without_array(rt: HostRuntime) {
+    let sizes = sizes_without_array(&mut Owned::<u64, u64>::new(rt.alloc()));
+    let wanted = [
+        (0, 0, GREATEST),
+        (0, 1000, GREATEST),
+        (1024, 1000, GREATEST),
     ];
-    expect_of_index(&rt, ZERO, &rows);
+    expect_eq(&rt, sizes, Some(wanted));
+}
+
+#[test]
+fn index_release_of_foreign_and_own_tokens(rt: HostRuntime) {
+    let mut first: Owned<u64, u64> = Owned::new(rt.alloc());
+    let mut second: Owned<u64, u64> = Owned::new(rt.alloc());
+    expect(&rt, foreign_and_own_tokens(&mut first, &mut second));
 }

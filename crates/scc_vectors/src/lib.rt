@@ -4,13 +4,7 @@
 #[cfg(test)]
 mod cache;
 #[cfg(test)]
-mod closures;
-#[cfg(test)]
-mod entries;
-#[cfg(test)]
 mod expect;
-#[cfg(test)]
-mod growth;
 #[cfg(test)]
 mod index;
 #[cfg(test)]
@@ -24,10 +18,6 @@ mod recorded;
 #[cfg(test)]
 mod reserving;
 #[cfg(test)]
-mod rooms;
-#[cfg(test)]
-mod rows;
-#[cfg(test)]
 mod scripts;
 #[cfg(test)]
 mod set;
@@ -35,9 +25,5 @@ mod set;
 mod shared;
 #[cfg(test)]
 mod tags;
-#[cfg(test)]
-mod walks;
-#[cfg(test)]
-mod whole;
 #[cfg(test)]
 mod workers;

@@ -1,23 +1,8 @@
 // Reservations of the single-threaded containers, behind one trait.
-use crate::expect::{expect, expect_eq};
 use scc::{Reservation, hash_index, hash_map, hash_set};
-use std::alloc::Global;
-use std::process::Abort;
-
-const GREATEST: usize = 1 << 63;
-
-type Map = hash_map::Owned<u64, u64>;
-
-type Set = hash_set::Owned<u64>;
-
-type Index = hash_index::Owned<u64, u64>;
 
 // A single-threaded container that takes reservations.
-trait Reserving: Sized {
-    /// Makes an empty container for `slots` slots, or one without an array if no number is given. Returns `None` if
-    /// memory is refused.
-    fn make(alloc: Global, slots: Option<usize>) -> Option<Self>;
-
+pub(crate) trait Reserving {
     /// Adds a key that is missing, and returns whether it went in.
     fn add(&mut self, key: u64) -> bool;
 
@@ -31,14 +16,7 @@ trait Reserving: Sized {
     fn sizes(&self) -> (usize, usize, usize);
 }
 
-impl Reserving for Map {
-    fn make(alloc: Global, slots: Option<usize>) -> Option<Self> {
-        match slots {
-            Some(slots) => Map::with_capacity(alloc, slots).ok(),
-            None => Some(Map::new(alloc)),
-        }
-    }
-
+impl Reserving for hash_map::Owned<u64, u64> {
     fn add(&mut self, key: u64) -> bool {
         self.insert_sync(key, key).is_ok()
     }
@@ -57,14 +35,7 @@ impl Reserving for Map {
     }
 }
 
-impl Reserving for Set {
-    fn make(alloc: Global, slots: Option<usize>) -> Option<Self> {
-        match slots {
-            Some(slots) => Set::with_capacity(alloc, slots).ok(),
-            None => Some(Set::new(alloc)),
-        }
-    }
-
+impl Reserving for hash_set::Owned<u64> {
     fn add(&mut self, key: u64) -> bool {
         self.insert_sync(key).is_ok()
     }
@@ -83,14 +54,7 @@ impl Reserving for Set {
     }
 }
 
-impl Reserving for Index {
-    fn make(alloc: Global, slots: Option<usize>) -> Option<Self> {
-        match slots {
-            Some(slots) => Index::with_capacity(alloc, slots).ok(),
-            None => Some(Index::new(alloc)),
-        }
-    }
-
+impl Reserving for hash_index::Owned<u64, u64> {
     fn add(&mut self, key: u64) -> bool {
         self.insert_sync(key, key).is_ok()
     }
@@ -112,7 +76,9 @@ impl Reserving for Index {
 /// Reserves 10000 slots, then the greatest number and 0, inserts the keys 0 to 15, and releases the slots. Returns the
 /// capacity before and after the first reservation, whether the other two were refused, whether each key went in, and
 /// the capacity at the end.
-fn grows_and_gives_back<C: Reserving>(form: &mut C) -> (usize, usize, bool, bool, usize) {
+pub(crate) fn grows_and_gives_back<C: Reserving>(
+    form: &mut C,
+) -> (usize, usize, bool, bool, usize) {
     let before = form.sizes().0;
     let Some(token) = form.reserve_slots(10_000) else {
         return (before, 0, false, false, 0);
@@ -135,7 +101,9 @@ fn add_sixteen<C: Reserving>(form: &mut C) -> bool {
 }
 
 /// Returns the sizes of a new container, its sizes after it reserved 1000 slots, and after its first insertion.
-fn sizes_without_array<C: Reserving>(form: &mut C) -> Option<[(usize, usize, usize); 3]> {
+pub(crate) fn sizes_without_array<C: Reserving>(
+    form: &mut C,
+) -> Option<[(usize, usize, usize); 3]> {
     let bare = form.sizes();
     let _token = form.reserve_slots(1000)?;
     let reserved = form.sizes();
@@ -156,7 +124,7 @@ fn refuses<C: Reserving>(form: &mut C, token: Reservation, slots: usize) -> bool
 
 /// Returns whether `second`, which has reserved 50 and 60 slots, takes a token of 100 slots from `first`, and then
 /// refuses its own two, since only 10 reserved slots are left.
-fn foreign_and_own_tokens<C: Reserving>(first: &mut C, second: &mut C) -> bool {
+pub(crate) fn foreign_and_own_tokens<C: Reserving>(first: &mut C, second: &mut C) -> bool {
     let (Some(fifty), Some(sixty)) = (second.reserve_slots(50), second.reserve_slots(60)) else {
         return false;
     };
@@ -167,59 +135,4 @@ fn foreign_and_own_tokens<C: Reserving>(first: &mut C, second: &mut C) -> bool {
         && second.release_slots(foreign).is_ok()
         && second.sizes().1 == 10;
     taken && refuses(second, sixty, 60) && refuses(second, fifty, 50) && second.sizes().1 == 10
-}
-
-fn expect_growth<C: Reserving + Drop, R: AllocGlobal + Abort>(rt: &R, name: &str) {
-    let seen = match C::make(rt.alloc(), Some(800)) {
-        Some(mut form) => Some(grows_and_gives_back(&mut form)),
-        None => None,
-    };
-    let wanted = Some((1024, 16_384, true, true, 1024));
-    expect_eq(rt, (name, seen), (name, wanted));
-}
-
-/// A container of 1024 slots grows by a reservation, and releases the extra capacity afterwards.
-#[test]
-fn reserve_grows_and_gives_back(rt: HostRuntime) {
-    expect_growth::<Map, _>(&rt, "map");
-    expect_growth::<Set, _>(&rt, "set");
-    expect_growth::<Index, _>(&rt, "index");
-}
-
-fn expect_without_array<C: Reserving + Drop, R: AllocGlobal + Abort>(rt: &R, name: &str) {
-    let seen = match C::make(rt.alloc(), None) {
-        Some(mut form) => sizes_without_array(&mut form),
-        None => None,
-    };
-    let wanted = [
-        (0, 0, GREATEST),
-        (0, 1000, GREATEST),
-        (1024, 1000, GREATEST),
-    ];
-    expect_eq(rt, (name, seen), (name, Some(wanted)));
-}
-
-/// A reservation without an array makes none; the first insertion makes one for the slots.
-#[test]
-fn reserve_without_array(rt: HostRuntime) {
-    expect_without_array::<Map, _>(&rt, "map");
-    expect_without_array::<Set, _>(&rt, "set");
-    expect_without_array::<Index, _>(&rt, "index");
-}
-
-fn expect_tokens<C: Reserving + Drop, R: AllocGlobal + Abort>(rt: &R, name: &str) {
-    match (C::make(rt.alloc(), None), C::make(rt.alloc(), None)) {
-        (Some(mut first), Some(mut second)) => {
-            let holds = foreign_and_own_tokens(&mut first, &mut second);
-            expect_eq(rt, (name, holds), (name, true));
-        }
-        _ => expect(rt, false),
-    }
-}
-
-#[test]
-fn release_of_foreign_and_own_tokens(rt: HostRuntime) {
-    expect_tokens::<Map, _>(&rt, "map");
-    expect_tokens::<Set, _>(&rt, "set");
-    expect_tokens::<Index, _>(&rt, "index");
 }

@@ -3,7 +3,6 @@
 use crate::expect::{expect, expect_eq};
 use scc::{HashCache, HashIndex, HashMap, HashSet};
 use scc_script::same::Same;
-use std::alloc::Global;
 use std::hash::BuildHasher;
 use std::process::Abort;
 use std::sync::Wait;
@@ -194,11 +193,7 @@ fn shared_index_peeked_version_stays(rt: HostRuntime) {
 }
 
 // A container that is filled, and that refuses impossible reservations.
-trait Filling: Sized {
-    /// Makes an empty container for `slots` slots, or one without an array if no number is given. Returns `None` if
-    /// memory is refused.
-    fn make(alloc: Global, slots: Option<usize>) -> Option<Self>;
-
+trait Filling {
     /// Adds a key that is missing, and returns whether it went in.
     fn add<R: Wait>(&self, rt: &R, key: u64) -> bool;
 
@@ -232,13 +227,6 @@ fn refuses_and_adds<C: Filling, R: Wait>(rt: &R, form: &C, first: u64, end: u64)
 }
 
 impl Filling for HashMap<u64, u64> {
-    fn make(alloc: Global, slots: Option<usize>) -> Option<Self> {
-        match slots {
-            Some(slots) => HashMap::with_capacity(alloc, slots).ok(),
-            None => HashMap::new(alloc).ok(),
-        }
-    }
-
     fn add<R: Wait>(&self, rt: &R, key: u64) -> bool {
         self.insert_sync(rt, key, key).is_ok()
     }
@@ -282,13 +270,6 @@ impl Reserving for HashMap<u64, u64> {
 }
 
 impl Filling for HashSet<u64> {
-    fn make(alloc: Global, slots: Option<usize>) -> Option<Self> {
-        match slots {
-            Some(slots) => HashSet::with_capacity(alloc, slots).ok(),
-            None => HashSet::new(alloc).ok(),
-        }
-    }
-
     fn add<R: Wait>(&self, rt: &R, key: u64) -> bool {
         self.insert_sync(rt, key).is_ok()
     }
@@ -332,13 +313,6 @@ impl Reserving for HashSet<u64> {
 }
 
 impl Filling for HashIndex<u64, u64> {
-    fn make(alloc: Global, slots: Option<usize>) -> Option<Self> {
-        match slots {
-            Some(slots) => HashIndex::with_capacity(alloc, slots).ok(),
-            None => HashIndex::new(alloc).ok(),
-        }
-    }
-
     fn add<R: Wait>(&self, rt: &R, key: u64) -> bool {
         self.insert_sync(rt, key, key).is_ok()
     }
@@ -381,99 +355,144 @@ impl Reserving for HashIndex<u64, u64> {
     }
 }
 
-/// What a reservation is tried for.
-#[derive(Clone, Copy, Debug, PartialEq)]
-enum Trial {
-    // A container of 1024 slots grows by a reservation, and releases the extra capacity afterwards, also with 16 keys.
-    Growth,
-    // Each of the 16 stripes has a sixteenth of the 1000 slots, rounded up: 63, for which an array of 64 slots is made.
-    FirstArray,
-    // While the greatest number of slots is reserved, it can't be reserved again: the sum of both would be 0 in a word.
-    Most,
-    // Two reservations add up, and each releases its own slots.
-    Sums,
+/// A container of 1024 slots grows by a reservation, and releases the extra capacity afterwards, also with 16 keys.
+fn expect_growth<C: Reserving, R: Abort + Wait>(rt: &R, form: &C) {
+    let bare = form.sizes(rt);
+    let held = form.hold(rt, 10_000, 0, 16);
+    let grown = [16_384, 11_024, GREATEST];
+    expect_eq(
+        rt,
+        (bare, held, form.sizes(rt)),
+        (
+            [1024, 1024, GREATEST],
+            Some([grown, grown]),
+            [1024, 1024, GREATEST],
+        ),
+    );
 }
 
-/// Returns the sizes of the trial: those before it, those in its course, and those after it.
-fn sizes_in<C: Reserving, R: Wait>(rt: &R, form: &C, trial: Trial) -> Option<[[usize; 3]; 4]> {
-    let bare = form.sizes(rt);
-    match trial {
-        Trial::Growth => match form.hold(rt, 10_000, 0, 16) {
-            Some([held, filled]) => Some([bare, held, filled, form.sizes(rt)]),
-            None => None,
-        },
-        Trial::FirstArray => match form.hold(rt, 1000, 1, 2) {
-            Some([held, filled]) => Some([bare, held, filled, form.sizes(rt)]),
-            None => None,
-        },
-        Trial::Most => match form.hold(rt, GREATEST, 0, 0) {
-            Some([held, filled]) => Some([bare, held, filled, form.sizes(rt)]),
-            None => None,
-        },
-        Trial::Sums => match form.hold_both(rt) {
-            Some([both, one, none]) => Some([bare, both, one, none]),
-            None => None,
-        },
+#[test]
+fn shared_map_reserve_grows_and_gives_back(rt: HostRuntime) {
+    match HashMap::<u64, u64>::with_capacity(rt.alloc(), 800) {
+        Ok(map) => expect_growth(&rt, &map),
+        Err(_) => expect(&rt, false),
     }
 }
 
-/// Makes the trial on a container of one kind. The sizes that it must have are those of `wanted`.
-fn expect_trial<C: Reserving + Drop, R: AllocGlobal + Abort + Wait>(
-    rt: &R,
-    name: &str,
-    trial: Trial,
-    wanted: [[usize; 3]; 4],
-) {
-    let slots = if trial == Trial::Growth {
-        Some(800)
-    } else {
-        None
-    };
-    let seen = match C::make(rt.alloc(), slots) {
-        Some(form) => sizes_in(rt, &form, trial),
-        None => None,
-    };
-    expect_eq(rt, (name, seen), (name, Some(wanted)));
-}
-
-/// Makes the trial on a map, a set and an index.
-fn expect_in_each<R: AllocGlobal + Abort + Wait>(rt: &R, trial: Trial, wanted: [[usize; 3]; 4]) {
-    expect_trial::<HashMap<u64, u64>, R>(rt, "map", trial, wanted);
-    expect_trial::<HashSet<u64>, R>(rt, "set", trial, wanted);
-    expect_trial::<HashIndex<u64, u64>, R>(rt, "index", trial, wanted);
+#[test]
+fn shared_set_reserve_grows_and_gives_back(rt: HostRuntime) {
+    match HashSet::<u64>::with_capacity(rt.alloc(), 800) {
+        Ok(set) => expect_growth(&rt, &set),
+        Err(_) => expect(&rt, false),
+    }
 }
 
 #[test]
-fn shared_reserve_grows_and_gives_back(rt: HostRuntime) {
-    let bare = [1024, 1024, GREATEST];
-    let grown = [16_384, 11_024, GREATEST];
-    expect_in_each(&rt, Trial::Growth, [bare, grown, grown, bare]);
+fn shared_index_reserve_grows_and_gives_back(rt: HostRuntime) {
+    match HashIndex::<u64, u64>::with_capacity(rt.alloc(), 800) {
+        Ok(index) => expect_growth(&rt, &index),
+        Err(_) => expect(&rt, false),
+    }
+}
+
+/// Each of the 16 stripes has a sixteenth of the 1000 slots, rounded up: 63, for which an array of 64 slots is made.
+fn expect_first_array<C: Reserving, R: Abort + Wait>(rt: &R, form: &C) {
+    let bare = form.sizes(rt);
+    let held = form.hold(rt, 1000, 1, 2);
+    expect_eq(
+        rt,
+        (bare, held),
+        (
+            [0, 0, GREATEST],
+            Some([[0, 1000, GREATEST], [64, 1000, GREATEST]]),
+        ),
+    );
 }
 
 #[test]
-fn shared_reserve_without_array(rt: HostRuntime) {
-    let wanted = [
-        [0, 0, GREATEST],
-        [0, 1000, GREATEST],
-        [64, 1000, GREATEST],
-        [64, 0, GREATEST],
-    ];
-    expect_in_each(&rt, Trial::FirstArray, wanted);
+fn shared_map_reserve_without_array(rt: HostRuntime) {
+    match HashMap::<u64, u64>::new(rt.alloc()) {
+        Ok(map) => expect_first_array(&rt, &map),
+        Err(_) => expect(&rt, false),
+    }
 }
 
 #[test]
-fn shared_reserves_the_most_once(rt: HostRuntime) {
-    let (bare, most) = ([0, 0, GREATEST], [0, GREATEST, GREATEST]);
-    expect_in_each(&rt, Trial::Most, [bare, most, most, bare]);
+fn shared_set_reserve_without_array(rt: HostRuntime) {
+    match HashSet::<u64>::new(rt.alloc()) {
+        Ok(set) => expect_first_array(&rt, &set),
+        Err(_) => expect(&rt, false),
+    }
+}
+
+#[test]
+fn shared_index_reserve_without_array(rt: HostRuntime) {
+    match HashIndex::<u64, u64>::new(rt.alloc()) {
+        Ok(index) => expect_first_array(&rt, &index),
+        Err(_) => expect(&rt, false),
+    }
+}
+
+/// While the greatest number of slots is reserved, it can't be reserved again: the sum of both would be 0 in a word.
+fn expect_most<C: Reserving, R: Abort + Wait>(rt: &R, form: &C) {
+    let held = form.hold(rt, GREATEST, 0, 0);
+    expect_eq(
+        rt,
+        (held, form.sizes(rt)),
+        (Some([[0, GREATEST, GREATEST]; 2]), [0, 0, GREATEST]),
+    );
+}
+
+#[test]
+fn shared_map_reserves_the_most_once(rt: HostRuntime) {
+    match HashMap::<u64, u64>::new(rt.alloc()) {
+        Ok(map) => expect_most(&rt, &map),
+        Err(_) => expect(&rt, false),
+    }
+}
+
+#[test]
+fn shared_set_reserves_the_most_once(rt: HostRuntime) {
+    match HashSet::<u64>::new(rt.alloc()) {
+        Ok(set) => expect_most(&rt, &set),
+        Err(_) => expect(&rt, false),
+    }
+}
+
+#[test]
+fn shared_index_reserves_the_most_once(rt: HostRuntime) {
+    match HashIndex::<u64, u64>::new(rt.alloc()) {
+        Ok(index) => expect_most(&rt, &index),
+        Err(_) => expect(&rt, false),
+    }
+}
+
+/// Two reservations add up, and each releases its own slots.
+fn expect_sums<C: Reserving, R: Abort + Wait>(rt: &R, form: &C) {
+    let sums = [[0, 300, GREATEST], [0, 200, GREATEST], [0, 0, GREATEST]];
+    expect_eq(rt, form.hold_both(rt), Some(sums));
 }
 
 #[test]
 fn shared_reserves_add_up(rt: HostRuntime) {
-    let wanted = [
-        [0, 0, GREATEST],
-        [0, 300, GREATEST],
-        [0, 200, GREATEST],
-        [0, 0, GREATEST],
-    ];
-    expect_in_each(&rt, Trial::Sums, wanted);
+    match HashMap::<u64, u64>::new(rt.alloc()) {
+        Ok(map) => expect_sums(&rt, &map),
+        Err(_) => expect(&rt, false),
+    }
+}
+
+#[test]
+fn shared_set_reserves_add_up(rt: HostRuntime) {
+    match HashSet::<u64>::new(rt.alloc()) {
+        Ok(set) => expect_sums(&rt, &set),
+        Err(_) => expect(&rt, false),
+    }
+}
+
+#[test]
+fn shared_index_reserves_add_up(rt: HostRuntime) {
+    match HashIndex::<u64, u64>::new(rt.alloc()) {
+        Ok(index) => expect_sums(&rt, &index),
+        Err(_) => expect(&rt, false),
+    }
 }

@@ -1,28 +1,35 @@
 // When the arrays of a map, a set and an index grow and shrink, at the edges of the rules.
 use crate::expect::{expect, expect_eq};
-use crate::rows::{Call, Index, Map, Row, Set, expect_answers, expect_sizes};
-use scc::Verdict;
+use crate::rows::{Call, expect_answers, expect_sizes};
+use scc::{Verdict, hash_index, hash_map, hash_set};
 use std::process::Abort;
 use test_forms::answers::{Answer, Rule};
 use test_forms::form::Form;
+use test_forms::token::Token;
 use test_kit::masked::{Masked, SAME, ZERO};
 
 const HALF: u64 = 1 << 63;
 
+type Map = hash_map::Owned<Token, Token, Masked>;
+
+type Set = hash_set::Owned<Token, Masked>;
+
+type Index = hash_index::Owned<Token, Token, Masked>;
+
 type Sizes = (Call, (usize, usize, usize));
 
 /// Makes the calls on a map under `hasher`.
-fn expect_sizes_of_map<R: AllocGlobal + Abort>(rt: &R, hasher: Masked, rows: &[Sizes]) {
+fn expect_of_map<R: AllocGlobal + Abort>(rt: &R, hasher: Masked, rows: &[Sizes]) {
     expect_sizes(rt, &mut Map::with_hasher(rt.alloc(), hasher), rows);
 }
 
 /// Makes the calls on a set under `hasher`.
-fn expect_sizes_of_set<R: AllocGlobal + Abort>(rt: &R, hasher: Masked, rows: &[Sizes]) {
+fn expect_of_set<R: AllocGlobal + Abort>(rt: &R, hasher: Masked, rows: &[Sizes]) {
     expect_sizes(rt, &mut Set::with_hasher(rt.alloc(), hasher), rows);
 }
 
 /// Makes the calls on an index under `hasher`.
-fn expect_sizes_of_index<R: AllocGlobal + Abort>(rt: &R, hasher: Masked, rows: &[Sizes]) {
+fn expect_of_index<R: AllocGlobal + Abort>(rt: &R, hasher: Masked, rows: &[Sizes]) {
     expect_sizes(rt, &mut Index::with_hasher(rt.alloc(), hasher), rows);
 }
 
@@ -36,17 +43,17 @@ const IN_ONE_BUCKET: [Sizes; 4] = [
 
 #[test]
 fn map_grows_with_all_keys_in_one_bucket(rt: HostRuntime) {
-    expect_sizes_of_map(&rt, ZERO, &IN_ONE_BUCKET);
+    expect_of_map(&rt, ZERO, &IN_ONE_BUCKET);
 }
 
 #[test]
 fn set_grows_with_all_keys_in_one_bucket(rt: HostRuntime) {
-    expect_sizes_of_set(&rt, ZERO, &IN_ONE_BUCKET);
+    expect_of_set(&rt, ZERO, &IN_ONE_BUCKET);
 }
 
 #[test]
 fn index_grows_with_all_keys_in_one_bucket(rt: HostRuntime) {
-    expect_sizes_of_index(&rt, ZERO, &IN_ONE_BUCKET);
+    expect_of_index(&rt, ZERO, &IN_ONE_BUCKET);
 }
 
 // A bucket with 32 pairs counts as full, although a slot is free while one pair is in its overflow list.
@@ -61,17 +68,17 @@ const WITH_A_SLOT_FREE: [Sizes; 6] = [
 
 #[test]
 fn map_grows_at_32_pairs_with_a_slot_free(rt: HostRuntime) {
-    expect_sizes_of_map(&rt, SAME, &WITH_A_SLOT_FREE);
+    expect_of_map(&rt, SAME, &WITH_A_SLOT_FREE);
 }
 
 #[test]
 fn set_grows_at_32_pairs_with_a_slot_free(rt: HostRuntime) {
-    expect_sizes_of_set(&rt, SAME, &WITH_A_SLOT_FREE);
+    expect_of_set(&rt, SAME, &WITH_A_SLOT_FREE);
 }
 
 #[test]
 fn index_grows_at_32_pairs_with_a_slot_free(rt: HostRuntime) {
-    expect_sizes_of_index(&rt, SAME, &WITH_A_SLOT_FREE);
+    expect_of_index(&rt, SAME, &WITH_A_SLOT_FREE);
 }
 
 // An array that is an eighth full shrinks, also if a pair is removed through its entry.
@@ -83,17 +90,17 @@ const BY_ENTRIES: [Sizes; 3] = [
 
 #[test]
 fn map_removal_through_an_entry_shrinks(rt: HostRuntime) {
-    expect_sizes_of_map(&rt, ZERO, &BY_ENTRIES);
+    expect_of_map(&rt, ZERO, &BY_ENTRIES);
 }
 
 #[test]
 fn set_removal_through_an_entry_shrinks(rt: HostRuntime) {
-    expect_sizes_of_set(&rt, ZERO, &BY_ENTRIES);
+    expect_of_set(&rt, ZERO, &BY_ENTRIES);
 }
 
 #[test]
 fn index_removal_through_an_entry_shrinks(rt: HostRuntime) {
-    expect_sizes_of_index(&rt, ZERO, &BY_ENTRIES);
+    expect_of_index(&rt, ZERO, &BY_ENTRIES);
 }
 
 // A walk that takes one pair and stops shrinks the array too.
@@ -130,17 +137,17 @@ const BY_WALKS: [Sizes; 4] = [
 
 #[test]
 fn map_walks_shrink(rt: HostRuntime) {
-    expect_sizes_of_map(&rt, ZERO, &BY_WALKS);
+    expect_of_map(&rt, ZERO, &BY_WALKS);
 }
 
 #[test]
 fn set_walks_shrink(rt: HostRuntime) {
-    expect_sizes_of_set(&rt, ZERO, &BY_WALKS);
+    expect_of_set(&rt, ZERO, &BY_WALKS);
 }
 
 #[test]
 fn index_walks_shrink(rt: HostRuntime) {
-    expect_sizes_of_index(&rt, ZERO, &BY_WALKS);
+    expect_of_index(&rt, ZERO, &BY_WALKS);
 }
 
 const SPREAD: [Sizes; 1] = [(Call::Spread(1000), (1000, 131_072, 0))];
@@ -157,7 +164,7 @@ fn map_past_65536_slots(rt: HostRuntime) {
 }
 
 // A full bucket has no room, and the other of the two buckets has room.
-const BY_THE_BUCKET: [Row; 4] = [
+const BY_THE_BUCKET: [(Call, Answer); 4] = [
     (Call::Place(0), Answer::Place(0, true)),
     (Call::Fill(0, 32), Answer::Yes(true)),
     (Call::Place(HALF - 1), Answer::Place(0, false)),

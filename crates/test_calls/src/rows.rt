@@ -1,30 +1,17 @@
 // Calls as rows of data, and functions that make them on a container of any kind.
 use crate::expect::{expect, expect_eq};
-use scc::{hash_cache, hash_index, hash_map, hash_set};
 use std::alloc::Global;
 use std::process::Abort;
 use test_forms::answers::{Answer, Rule};
 use test_forms::form::{Act, At, Form, Way};
 use test_forms::token::Token;
-use test_kit::masked::Masked;
-
-pub(crate) type Map = hash_map::Owned<Token, Token, Masked>;
-
-pub(crate) type Set = hash_set::Owned<Token, Masked>;
-
-pub(crate) type Index = hash_index::Owned<Token, Token, Masked>;
-
-pub(crate) type Cache = hash_cache::Owned<Token, Token, Masked>;
-
-/// A call and its answer.
-pub(crate) type Row = (Call, Answer);
 
 // A call. A key has a number, by which keys are compared, and a mark, which tells equal keys apart.
 #[derive(Clone, Copy)]
 pub(crate) enum Call {
     // Adds the keys from the first number on and before the second, each with itself as value: `Yes`.
     Fill(u64, u64),
-    // Removes the keys from the first number on and before the second, each with itself as value: `Yes`.
+    // Removes the keys from the first number on and before the second: `Yes`.
     Empty(u64, u64),
     // Removes the keys from the first number on and before the second, each through its entry: `Yes`.
     EmptyByEntry(u64, u64),
@@ -34,8 +21,6 @@ pub(crate) enum Call {
     Add(Way, u64, u64, u64),
     // Replaces the key with the number by an equal key with the mark.
     Replace(u64, u64),
-    // Sets the value of a key by `update_sync`.
-    Update(u64, u64),
     // Sets the value of a key by its entry. The key in the call has the mark 1.
     Modify(u64, u64),
     // Does the act with an occupied entry, and the value.
@@ -52,8 +37,6 @@ pub(crate) enum Call {
     Passes(u64),
     Copy,
     Clear,
-    // Tells whether there are so many pairs, so many slots and so many waiting buckets: `Yes`.
-    Sizes(usize, usize, usize),
 }
 
 /// Adds the keys from `first` on and before `end`. Returns whether each was added.
@@ -66,19 +49,11 @@ fn fill<F: Form>(form: &mut F, first: u64, end: u64) -> bool {
     true
 }
 
-/// Returns whether a removal took out the key with itself as value. A set shows no value, and an index no pair.
-fn is_removed(answer: Answer, key: u64) -> bool {
-    match answer {
-        Answer::Found(Some(pair)) => pair == (key, 0, key) || pair == (key, 0, 0),
-        _ => answer == Answer::Yes(true),
-    }
-}
-
-/// Removes the keys from `first` on and before `end`. Returns whether each is taken out and gone.
+/// Removes the keys from `first` on and before `end`. Returns whether each is gone.
 fn empty<F: Form>(form: &mut F, first: u64, end: u64) -> bool {
     for key in first..end {
-        let is_out = is_removed(form.remove(&Token::of(key)), key);
-        if !is_out || form.read(&Token::of(key)) != Answer::Found(None) {
+        form.remove(&Token::of(key));
+        if form.read(&Token::of(key)) != Answer::Found(None) {
             return false;
         }
     }
@@ -128,9 +103,6 @@ fn answer_of_many<F: Form>(alloc: Global, form: &mut F, call: Call) -> Answer {
         }
         Call::Passes(number) => Answer::Yes(form.passes(number)),
         Call::Copy => form.copy(),
-        Call::Sizes(len, capacity, waiting) => {
-            Answer::Yes(sizes(form) == (len, capacity, waiting))
-        }
         _ => {
             form.clear();
             Answer::Yes(true)
@@ -147,7 +119,6 @@ fn answer<F: Form>(alloc: Global, form: &mut F, call: Call) -> Answer {
             Token::of(value),
         ),
         Call::Replace(number, mark) => form.replace(Token::marked(number, mark)),
-        Call::Update(number, value) => form.update(&Token::of(number), Token::of(value)),
         Call::Modify(number, value) => form.modify(Token::marked(number, 1), Token::of(value)),
         Call::On(at, act, number, value) => form.act(at, act, &Token::of(number), Token::of(value)),
         Call::Remove(number) => form.remove(&Token::of(number)),
@@ -165,10 +136,10 @@ fn sizes<F: Form>(form: &F) -> (usize, usize, usize) {
 }
 
 /// Returns the number of the first row with a wrong answer, and what the call returned.
-pub(crate) fn first_other<F: Form>(
+fn first_other<F: Form>(
     alloc: Global,
     form: &mut F,
-    rows: &[Row],
+    rows: &[(Call, Answer)],
 ) -> Option<(usize, Answer)> {
     for (number, row) in rows.iter().enumerate() {
         let found = answer(alloc, form, row.0);
@@ -180,7 +151,11 @@ pub(crate) fn first_other<F: Form>(
 }
 
 /// Makes the calls in turn. Each must return the answer of its row.
-pub(crate) fn expect_answers<R: AllocGlobal + Abort, F: Form>(rt: &R, form: &mut F, rows: &[Row]) {
+pub(crate) fn expect_answers<R: AllocGlobal + Abort, F: Form>(
+    rt: &R,
+    form: &mut F,
+    rows: &[(Call, Answer)],
+) {
     expect_eq(rt, first_other(rt.alloc(), form, rows), None);
 }
 
@@ -194,33 +169,5 @@ pub(crate) fn expect_sizes<R: AllocGlobal + Abort, F: Form>(
     for (call, wanted) in rows {
         expect(rt, answer(rt.alloc(), form, *call) == Answer::Yes(true));
         expect_eq(rt, sizes(form), *wanted);
-    }
-}
-
-/// Makes the calls on a map under `hasher`.
-pub(crate) fn expect_of_map<R: AllocGlobal + Abort>(rt: &R, hasher: Masked, rows: &[Row]) {
-    expect_answers(rt, &mut Map::with_hasher(rt.alloc(), hasher), rows);
-}
-
-/// Makes the calls on a set under `hasher`.
-pub(crate) fn expect_of_set<R: AllocGlobal + Abort>(rt: &R, hasher: Masked, rows: &[Row]) {
-    expect_answers(rt, &mut Set::with_hasher(rt.alloc(), hasher), rows);
-}
-
-/// Makes the calls on an index under `hasher`.
-pub(crate) fn expect_of_index<R: AllocGlobal + Abort>(rt: &R, hasher: Masked, rows: &[Row]) {
-    expect_answers(rt, &mut Index::with_hasher(rt.alloc(), hasher), rows);
-}
-
-/// Makes the calls on a cache of at most `maximum` slots under `hasher`.
-pub(crate) fn expect_of_cache<R: AllocGlobal + Abort>(
-    rt: &R,
-    hasher: Masked,
-    maximum: usize,
-    rows: &[Row],
-) {
-    match Cache::with_capacity_and_hasher(rt.alloc(), 0, maximum, hasher) {
-        Ok(mut cache) => expect_answers(rt, &mut cache, rows),
-        Err(_) => expect(rt, false),
     }
 }

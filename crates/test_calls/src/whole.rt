@@ -1,6 +1,6 @@
 // Whole containers: the sizes at making, clones, comparisons, and steps from entry to entry.
 use crate::expect::{expect, expect_eq};
-use crate::rows::{Call, Index, Map, Set, expect_sizes};
+use crate::rows::{Call, expect_sizes};
 use scc::{hash_index, hash_map, hash_set};
 use std::alloc::Global;
 use std::process::Abort;
@@ -48,7 +48,7 @@ fn index_with_capacity_rounds_up(rt: HostRuntime) {
 
 /// Returns whether a clone equals the map, the clone's capacity, and the number of its waiting buckets. Returns `None`
 /// if the clone is refused.
-fn clone_of(map: &Numbers) -> Option<(bool, usize, usize)> {
+fn clone_of(map: &Map) -> Option<(bool, usize, usize)> {
     match map.try_clone() {
         Ok(copy) => Some((copy == *map, copy.capacity(), copy.pending())),
         Err(_) => None,
@@ -56,7 +56,7 @@ fn clone_of(map: &Numbers) -> Option<(bool, usize, usize)> {
 }
 
 /// Inserts the keys from `first` on and before `end`. Returns whether each went in.
-fn fill(map: &mut Numbers, first: u64, end: u64) -> bool {
+fn fill(map: &mut Map, first: u64, end: u64) -> bool {
     for key in first..end {
         if map.insert_sync(key, key).is_err() {
             return false;
@@ -99,16 +99,16 @@ fn map_clone_without_array_has_none(rt: HostRuntime) {
     expect_eq(&rt, sizes, Some([0, 0, 1 << 63]));
 }
 
-type Numbers = hash_map::Owned<u64, u64, Zero>;
+type Map = hash_map::Owned<u64, u64, Zero>;
 
 /// Returns whether `a` equals `b`, and whether `b` equals `a`.
-fn equal(a: &Numbers, b: &Numbers) -> (bool, bool) {
+fn equal(a: &Map, b: &Map) -> (bool, bool) {
     (*a == *b, *b == *a)
 }
 
 /// Compares two empty maps, and again after each step on the way to the same pairs in both. Returns the comparisons,
 /// and whether each step succeeds.
-fn compare(a: &mut Numbers, b: &mut Numbers) -> ([(bool, bool); 5], bool) {
+fn compare(a: &mut Map, b: &mut Map) -> ([(bool, bool); 5], bool) {
     let bare = equal(a, b);
     let first = a.insert_sync(1, 10).is_ok();
     let one = equal(a, b);
@@ -166,8 +166,7 @@ fn expect_first_mark<R: Abort>(rt: &R, set: &hash_set::Owned<MaybeEqual>) {
     expect_eq(rt, set.read_sync(&MaybeEqual(5, 9), |key| key.1), Some(1));
 }
 
-/// Steps from entry to entry, and steps that remove each pair, meet the pairs of a walk in its order. Removals of such
-/// steps never resize, and a clearing after them does.
+/// Steps from entry to entry, and steps that remove each pair, meet the pairs of a walk in its order.
 fn expect_steps<R: AllocGlobal + Abort, F: Form>(rt: &R, form: &mut F) {
     expect_sizes(rt, form, &[(Call::Fill(0, 40), (40, 128, 0))]);
     let mut walked = Vec::new(rt.alloc());
@@ -176,8 +175,6 @@ fn expect_steps<R: AllocGlobal + Abort, F: Form>(rt: &R, form: &mut F) {
     expect_same_drain(rt, form, walked.as_slice());
     let sizes = form.sizes();
     expect_eq(rt, (walked.len(), sizes.len, sizes.capacity), (40, 0, 128));
-    form.clear();
-    expect_eq(rt, form.sizes().used(), (0, 64));
 }
 
 fn expect_same_steps<R: AllocGlobal + Abort, F: Form>(rt: &R, form: &mut F, walked: &[Seen]) {
@@ -202,17 +199,17 @@ fn expect_same_drain<R: AllocGlobal + Abort, F: Form>(rt: &R, form: &mut F, walk
 
 #[test]
 fn map_steps_from_entry_to_entry(rt: HostRuntime) {
-    expect_steps(&rt, &mut Map::with_hasher(rt.alloc(), ZERO));
+    expect_steps(&rt, &mut hash_map::Owned::with_hasher(rt.alloc(), ZERO));
 }
 
 #[test]
 fn set_steps_from_entry_to_entry(rt: HostRuntime) {
-    expect_steps(&rt, &mut Set::with_hasher(rt.alloc(), ZERO));
+    expect_steps(&rt, &mut hash_set::Owned::with_hasher(rt.alloc(), ZERO));
 }
 
 #[test]
 fn index_steps_from_entry_to_entry(rt: HostRuntime) {
-    expect_steps(&rt, &mut Index::with_hasher(rt.alloc(), ZERO));
+    expect_steps(&rt, &mut hash_index::Owned::with_hasher(rt.alloc(), ZERO));
 }
 
 /// A snapshot has each version once.
@@ -229,5 +226,5 @@ fn expect_snapshot<R: AllocGlobal + Abort, F: Form>(rt: &R, form: &mut F) {
 
 #[test]
 fn index_snapshot_has_each_version(rt: HostRuntime) {
-    expect_snapshot(&rt, &mut Index::with_hasher(rt.alloc(), ZERO));
+    expect_snapshot(&rt, &mut hash_index::Owned::with_hasher(rt.alloc(), ZERO));
 }

@@ -1,7 +1,7 @@
 // What single calls and entries return.
 use crate::expect::expect;
-use crate::rows::{Call, Row, expect_answers, expect_of_index, expect_of_map, expect_of_set};
-use scc::{InsertError, hash_index, hash_map};
+use crate::rows::{Call, expect_answers};
+use scc::{InsertError, hash_index, hash_map, hash_set};
 use scc_script::same::Same;
 use std::hash::{BuildHasher, RandomState};
 use test_forms::answers::Answer;
@@ -67,7 +67,7 @@ fn map_calls_under_each_hasher(rt: HostRuntime) {
 
 // A way through the entry of a key that is there keeps the stored key. All ways but `insert_entry` keep the value
 // too.
-const MAP_ENTRIES: [Row; 16] = [
+const MAP_ENTRIES: [(Call, Answer); 16] = [
     (
         Call::Add(Way::OrDefault, 1, 0, 7),
         Answer::Entry(None, (1, 0, 0)),
@@ -121,11 +121,15 @@ const MAP_ENTRIES: [Row; 16] = [
 
 #[test]
 fn map_entries_insert_what_is_asked_for(rt: HostRuntime) {
-    expect_of_map(&rt, SAME, &MAP_ENTRIES);
+    expect_answers(
+        &rt,
+        &mut hash_map::Owned::with_hasher(rt.alloc(), SAME),
+        &MAP_ENTRIES,
+    );
 }
 
 // An insertion of an equal key changes nothing, and an update keeps the stored key.
-const INDEX_VERSIONS: [Row; 12] = [
+const INDEX_VERSIONS: [(Call, Answer); 12] = [
     (Call::Add(Way::Insert, 11, 7, 17), Answer::Added(None)),
     (
         Call::Add(Way::Insert, 11, 11, 18),
@@ -145,10 +149,11 @@ const INDEX_VERSIONS: [Row; 12] = [
 
 #[test]
 fn index_keeps_the_stored_version(rt: HostRuntime) {
-    expect_of_index(&rt, ZERO, &INDEX_VERSIONS);
+    let mut index = hash_index::Owned::with_hasher(rt.alloc(), ZERO);
+    expect_answers(&rt, &mut index, &INDEX_VERSIONS);
 }
 
-const INDEX_ENTRIES: [Row; 10] = [
+const INDEX_ENTRIES: [(Call, Answer); 10] = [
     (Call::Modify(3, 9), Answer::Vacant(3, 1)),
     (
         Call::Add(Way::OrInsertWith, 3, 0, 8),
@@ -184,7 +189,7 @@ fn index_entries(rt: HostRuntime) {
     }
 }
 
-const SET_CALLS: [Row; 10] = [
+const SET_CALLS: [(Call, Answer); 10] = [
     (Call::Add(Way::Insert, 11, 7, 0), Answer::Added(None)),
     (
         Call::Add(Way::Insert, 11, 11, 0),
@@ -205,11 +210,15 @@ const SET_CALLS: [Row; 10] = [
 
 #[test]
 fn set_calls(rt: HostRuntime) {
-    expect_of_set(&rt, ZERO, &SET_CALLS);
+    expect_answers(
+        &rt,
+        &mut hash_set::Owned::with_hasher(rt.alloc(), ZERO),
+        &SET_CALLS,
+    );
 }
 
 // Walks add 1 to each value that they come to.
-const MAP_WALKS: [Row; 8] = [
+const MAP_WALKS: [(Call, Answer); 8] = [
     (Call::Fill(0, 16), Answer::Yes(true)),
     (Call::Retain(4), Answer::Yes(true)),
     (Call::Read(4), Answer::Found(None)),
@@ -222,5 +231,9 @@ const MAP_WALKS: [Row; 8] = [
 
 #[test]
 fn map_retain_removes_what_is_declined(rt: HostRuntime) {
-    expect_of_map(&rt, SAME, &MAP_WALKS);
+    expect_answers(
+        &rt,
+        &mut hash_map::Owned::with_hasher(rt.alloc(), SAME),
+        &MAP_WALKS,
+    );
 }
