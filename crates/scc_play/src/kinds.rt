@@ -2,7 +2,6 @@
 //! the threads of each kind are started here.
 ghost use Rattle.std.specs.Prelude.{◌≡◌, IfOk, Some};
 ghost use Rattle.scc_recorded.specs.Setups.{request_of};
-ghost use Rattle.scc_calls.specs.Copies.{AreSame};
 ghost use Rattle.scc_script.specs.Grammar.{IsWorkerCount, IsStripeCount};
 ghost use Rattle.scc_play.specs.Ended.{IfPlayed};
 ghost use Rattle.scc_play.specs.Kinds.{MapPlayed, SetPlayed, IndexPlayed, CachePlayed, MapPlayedFor, SetPlayedFor, IndexPlayedFor, CachePlayedFor};
@@ -15,7 +14,6 @@ use scc_calls::{CacheCall, IndexCall, MapCall, SetCall};
 use scc_common::Shared;
 use scc_owned::index::Owned as OwnedIndex;
 use scc_owned::map::Owned as OwnedMap;
-use scc_print::printed::Printed;
 use scc_recorded::{Recorded, Setup, Site};
 use scc_script::line::WorkerCall;
 use scc_script::same::Same;
@@ -26,12 +24,6 @@ use std::marker::Brand;
 use std::sync::ledger::{Blank, Ledger};
 use std::sync::{Arc, Wait};
 use std::thread::Threads;
-
-/// States that calls that compare as equal are the same, and that replies that compare as equal are the same.
-fn are_exact<P: Printed>()
-    ensures calls { AreSame P.Call.eq }
-    ensures replies { AreSame P.Reply.eq }
-{}
 
 /// Returns one owner of a script's hasher. Fails if memory is refused.
 fn shared(alloc: Global) -> Result<Shared<Same>, AllocError> {
@@ -86,7 +78,6 @@ where
         return Err(AllocError);
     }
     let passes = passes_of(alloc, running)?;
-    are_exact::<OwnedMap<u64, u64, Shared<Same>>>();
     finish_run(alloc, workers, stripes, calls, recorded.close(), passes)
 }
 
@@ -150,7 +141,6 @@ where
         return Err(AllocError);
     }
     let passes = passes_of(alloc, running)?;
-    are_exact::<OwnedSet<u64, Shared<Same>>>();
     finish_run(alloc, workers, stripes, calls, recorded.close(), passes)
 }
 
@@ -214,7 +204,6 @@ where
         return Err(AllocError);
     }
     let passes = passes_of(alloc, running)?;
-    are_exact::<OwnedIndex<u64, u64, Shared<Same>>>();
     finish_run(alloc, workers, stripes, calls, recorded.close(), passes)
 }
 
@@ -278,7 +267,6 @@ where
         return Err(AllocError);
     }
     let passes = passes_of(alloc, running)?;
-    are_exact::<OwnedCache<u64, u64, Shared<Same>>>();
     finish_run(alloc, workers, stripes, calls, recorded.close(), passes)
 }
 

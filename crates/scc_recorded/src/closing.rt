@@ -92,8 +92,6 @@ impl<C: Calls, M: Site<C::Hasher>> Histories for CountedStripe<C, M> {
     ghost last = { λ g. g.stripe.last };
 
     fn history(&self) -> &[Step<C::Call, C::Reply>] {
-        let _last = self.stripe.last;
-        let _len = self.stripe.history.len();
         self.stripe.history.as_slice()
     }
 }

@@ -1,3 +1,4 @@
+use Rattle.std.proofs.Common.{rules}
 use Rattle.std.specs.Prelude.{nat_eq, ◌==◌}
 use Rattle.std.proofs.Math.Logic.{∥∥₁_map}
 use Rattle.scc_calls.specs.SetCalls.{SetMoves}
@@ -12,7 +13,7 @@ pub returns : goal.returns
 returns g c = if-played c.finish_run.result c.finish_run.ensures.played (λ text p. ∥∥₁_map p (λ a. (
   a.0,
   a.1,
-  exactly _ (λ _. SetMoves nat_eq) (λ g n i. SetWholeMoves nat_eq (λ k. route_by finished_hash n k == i))
-      (λ g s call reply t. means_same _ _ (SetMoves nat_eq) c.are_exact.ensures.calls c.are_exact.ensures.replies s t call reply)
-      (λ g n i w call reply v. means_same _ _ (SetWholeMoves nat_eq (λ k. route_by finished_hash n k == i)) c.are_exact.ensures.calls c.are_exact.ensures.replies w v call reply) _ a.0 _ _ _ text a.2,
+  exactly _ (λ _. SetMoves nat_eq) (λ g n i. SetWholeMoves nat_eq (λ k. route_by finished_hash n k == i)) _ a.0 _ _ _ text a.2 (λ g s call reply t m. m)
+      (λ calls replies g n i w call reply v. means_same _ _ (SetWholeMoves nat_eq (λ k. route_by finished_hash n k == i)) calls replies w v call reply)
+      (λ x y same. search rules) (λ x y same. search rules),
 )))
