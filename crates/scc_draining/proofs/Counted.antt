@@ -11,7 +11,7 @@ use Rattle.scc_buckets.specs.Pour.{destined_for}
 use Rattle.scc_common.specs.Routing.{bucket_number}
 use Rattle.scc_buckets.proofs.Pours.{destined_append, destined_here, destined_other}
 use Rattle.scc_draining.specs.Moves.{IsWithinSources}
-use Rattle.scc_draining.proofs.Draining.{before-none, flat-more, flat-parts, take-all_bound}
+use Rattle.scc_draining.proofs.Drains.{before-none, flat-more, flat-parts, take-all_bound}
 
 pub destined-le : {E : Type 0} (hash : E → ℕ) (t n i : ℕ) (es : List E) → length (destined_for hash t n i es) ≤ length es
 destined-le hash t n i es = omega (arith, length-filter (λ e. bucket_number t n (hash e) == i) es, count_by-le-length (λ e. bucket_number t n (hash e) == i) es)

@@ -13,7 +13,7 @@ use Rattle.scc_buckets.proofs.PairSplits.{by_answer}
 use Rattle.scc_buckets.proofs.Pours.{destined_append}
 use Rattle.scc_draining.specs.Moves.{AreJoined, AreOwn, AreSiblings, IsWithinSources}
 use Rattle.scc_draining.proofs.Counted.{total-start, total-end}
-use Rattle.scc_draining.proofs.Draining.{flat-left, flat-more, flat-parts}
+use Rattle.scc_draining.proofs.Drains.{flat-left, flat-more, flat-parts}
 use Rattle.scc_draining.proofs.Numbers.{number-div}
 use Rattle.scc_draining.proofs.Sublists.{filter-each}
 

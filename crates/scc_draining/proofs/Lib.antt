@@ -1,7 +1,7 @@
 pub mod Arriving
 pub mod Buckets
 pub mod Counted
-pub mod Draining
+pub mod Drains
 pub mod Filled
 pub mod FromBuckets
 pub mod Joined

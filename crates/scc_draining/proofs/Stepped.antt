@@ -9,7 +9,7 @@ use Rattle.scc_common.specs.Routing.{bucket_number}
 use Rattle.scc_buckets.proofs.Arrays.{take-got}
 use Rattle.scc_buckets.proofs.Pours.{destined_append, destined_here, destined_other}
 use Rattle.scc_draining.specs.Stepping.{entries_before}
-use Rattle.scc_draining.proofs.Draining.{flat-more}
+use Rattle.scc_draining.proofs.Drains.{flat-more}
 
 take-none : {X : Type 0} (xs : List X) → take 0 xs ≡ []
 take-none [] = refl

@@ -16,7 +16,7 @@ use Rattle.scc_table.specs.Places.{owed_before, index_of, spot_of, StandsAt}
 use Rattle.scc_table.specs.NextPlaces.{index_on, own, old, rank_on, spot_on, IsStart}
 use Rattle.scc_draining.specs.Stepping.{entries_before, StandsNext}
 use Rattle.scc_table.specs.TwoArrays.{target_by, together, TwoArrays, waits_at}
-use Rattle.scc_draining.proofs.Draining.{before-none, take-all_bound}
+use Rattle.scc_draining.proofs.Drains.{before-none, take-all_bound}
 use Rattle.scc_table.proofs.arrays.JoinedLists.{count-together, owed-together, waiting-together}
 use Rattle.scc_table.proofs.places.OldSpots.{count-map, owed-before, owed-some, old-place, old-spot, old-waits, own-list, own-place, own-spot}
 use Rattle.scc_draining.proofs.FromBuckets.{few-each}

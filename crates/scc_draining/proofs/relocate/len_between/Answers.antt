@@ -3,7 +3,7 @@ use Rattle.std.specs.List.{flat_map}
 use Rattle.scc_array.specs.Shelves.{shelf_of}
 use Rattle.scc_array.specs.Shelf.{shelf_entries}
 use Rattle.scc_draining.proofs.Counted.{part-le}
-use Rattle.scc_draining.proofs.Draining.{flat-more}
+use Rattle.scc_draining.proofs.Drains.{flat-more}
 use Rattle.scc_draining.proofs.relocate.len_between.Goals as goal
 
 pub overflow_add-entry_count : goal.overflow_add-entry_count

@@ -4,7 +4,7 @@ use Rattle.scc_array.specs.Shelves.{shelf_of}
 use Rattle.scc_array.specs.Shelf.{shelf_entries}
 use Rattle.scc_buckets.specs.Pour.{destined_for}
 use Rattle.scc_draining.proofs.Buckets.{first-own, still-within, later-own}
-use Rattle.scc_draining.proofs.Draining.{DrainsUntil, drain-start, drain-end, drain-room, drain-step}
+use Rattle.scc_draining.proofs.Drains.{DrainsUntil, drain-start, drain-end, drain-room, drain-step}
 use Rattle.scc_draining.proofs.relocate.Relocation.drain.Goals as goal
 
 pub pull-requires-clause-pullable : goal.pull-requires-clause-pullable

@@ -1,7 +1,7 @@
 use Rattle.std.proofs.Common.{◌≡◌, set}
 use Rattle.scc_array.specs.Shelves.{shelf_of}
 use Rattle.scc_buckets.specs.Routes.{hash_by}
-use Rattle.scc_draining.proofs.Draining.{DrainsUntil}
+use Rattle.scc_draining.proofs.Drains.{DrainsUntil}
 use Rattle.scc_draining.proofs.relocate.Relocation.drain.Given as goal
 
 abbrev pub invariant-loop-source : goal.invariant-loop-source
