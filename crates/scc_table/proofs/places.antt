@@ -1,5 +1,6 @@
 pub mod Entries
 pub mod Finds
+pub mod KeyBuckets
 pub mod ListFinds
 pub mod Mapped
 pub mod NextPlaces

@@ -2,13 +2,13 @@
 -- relocated.
 use Rattle.std.specs.Prelude.{◌≡◌, ◌==◌, ℕ, suc, ◌+◌, ◌^◌, ◌<◌, ◌≤◌, ◌⊎◌, Bool, true, false, cond, List, [], ◌∷◌, length, map, not, count_by, slice_index_or, slice_set}
 use Rattle.std.specs.List.{filter, flat_map, range_with_len, sum_by, IsDistinct}
-use Rattle.scc_table.specs.declared.Draining as code
 use Rattle.scc_array.specs.Shelf.{Shelf, shelf_entries}
 use Rattle.scc_common.specs.Contents.{Contents, entries, bucket_count, list_of, lists_of, settings_of, notes_of, overflow_of, waiting_of, owed_of, pending_of}
 use Rattle.scc_buckets.specs.Pour.{destined_for}
 use Rattle.scc_common.specs.Routing.{bucket_number}
 use Rattle.scc_common.specs.Sizes.{IsBucketCount}
 use Rattle.scc_buckets.specs.Tables.{overflow_in}
+use Rattle.scc_draining.specs.Drainings.{Draining}
 use Rattle.scc_draining.specs.Moves.{AreMultiples, AreOwn}
 
 -- whether bucket i waits
@@ -95,25 +95,6 @@ pub record IsRelocated {E S : Type 0} (i : ℕ) (c d : Contents E S) : Type 0 wh
   pub waiting : waiting_of d ≡ cleared (waiting_of c) i
   pub owed : owed_of d ≡ owed_without (waiting_of d) i (owed_of c)
   pub pending : pending_of c ≡ pending_of d + 1
-
--- the old array, and the flags of the buckets that wait for its entries
-pub record Draining (E : Type 0) : Type 0 where
-  -- the buckets of the old array
-  pub array : List (Shelf E)
-  -- a flag for each bucket of the current array, which says whether it waits; empty if none waits
-  pub waiting : List Bool
-  -- how many buckets wait
-  pub pending : ℕ
-  -- no bucket before this number waits
-  pub next : ℕ
-  -- how many entries the old array holds
-  pub left : ℕ
-  -- its overflow lists hold at most this many of them
-  pub left_overflow : ℕ
-
--- the `Draining` of the program as that of the logic
-abbrev pub draining_of : {E : Type 0} → code.Draining E → Draining E
-draining_of o = record { array = o.array; waiting = o.waiting.items; pending = o.pending; next = o.next; left = o.left; left_overflow = o.left_overflow }
 
 -- what holds of all fields of a table of two arrays; if no bucket waits, there is no old array
 pub record IsTable {E K S : Type 0} (eq : K → K → Bool) (key : E → K) (hash : K → ℕ) (c : Contents E S) (drain : Draining E) : Type 0 where

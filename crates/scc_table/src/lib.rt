@@ -17,9 +17,9 @@ mod resize;
 mod walk;
 
 pub use resize::reserve::Reservation;
-use scc_array::Array;
 use scc_buckets::Buckets;
 use scc_common::Keyed;
+use scc_draining::Draining;
 use std::hash::{BuildHasher, Hash};
 use std::marker::Model;
 
@@ -34,24 +34,13 @@ where
     current: Buckets<E, H>,
 }
 
-/// The old array, and the flags of the buckets of the current array that wait for its entries. `pending` buckets wait,
-/// none of them before `next`. The old array holds `left` entries, at most `left_overflow` of them in overflow lists.
-#[derive(Drop)]
-struct Draining<E> {
-    array: Array<E>,
-    waiting: Vec<bool>,
-    next: usize,
-    left: usize,
-    left_overflow: usize,
-    pending: usize,
-}
-
 impl<E: Keyed, H: BuildHasher> Model for Table<E, H>
 where
     E::Key: Eq + Hash,
 {
     ghost use Rattle.scc_common.specs.Contents.{Contents, contents_code, key_hash};
-    ghost use Rattle.scc_table.specs.TwoArrays.{draining_of, together, IsTable};
+    ghost use Rattle.scc_draining.specs.Drainings.{draining_of};
+    ghost use Rattle.scc_table.specs.TwoArrays.{together, IsTable};
 
     ghost Value = { Contents E H };
 
@@ -115,6 +104,6 @@ where
         if self.draining.pending == 0 {
             return false;
         }
-        self.draining.waiting[bucket]
+        self.draining.is_waiting(bucket)
     }
 }

@@ -5,11 +5,11 @@ ghost use Rattle.scc_common.specs.Contents.{key_hash, lists_of, notes_of, settin
 ghost use Rattle.std.specs.Arc.{arc_value};
 ghost use Rattle.std.specs.Prelude.{◌≡◌, ◌≤◌, ◌<◌, [], false, IfOk};
 
-use crate::{Draining, Table};
+use crate::Table;
 use scc_array::Array;
 use scc_buckets::Buckets;
 use scc_common::{Keyed, MakeError, Shared};
-use scc_draining::insert_clones_of;
+use scc_draining::{Draining, insert_clones_of};
 use std::alloc::Global;
 use std::hash::{BuildHasher, Hash};
 use std::sync::Arc;

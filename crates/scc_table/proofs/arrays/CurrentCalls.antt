@@ -11,7 +11,8 @@ use Rattle.scc_common.specs.Steps.{FirstArrayWhenDue, Grows, IsUnchanged}
 use Rattle.scc_buckets.specs.declared.place.Place.{Place}
 use Rattle.scc_draining.specs.Moves.{AreOwn}
 use Rattle.scc_table.specs.Places.{IsInsertedAt, spot_of}
-use Rattle.scc_table.specs.TwoArrays.{Draining, IsTable, waits_at}
+use Rattle.scc_draining.specs.Drainings.{Draining}
+use Rattle.scc_table.specs.TwoArrays.{IsTable, waits_at}
 use Rattle.scc_table.proofs.arrays.OneArray.{entries-alone, nothing-owed, spilled-bare}
 use Rattle.scc_table.proofs.places.OldSpots.{spot-own}
 use Rattle.scc_table.proofs.insertions.Places.{index-same}

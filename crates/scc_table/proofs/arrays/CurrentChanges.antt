@@ -10,7 +10,8 @@ use Rattle.scc_buckets.specs.Tables.{overflow_in}
 use Rattle.scc_buckets.specs.Writes.{with_write_at_spot}
 use Rattle.scc_buckets.specs.declared.place.Place.{Place}
 use Rattle.scc_draining.specs.Moves.{AreMultiples, AreOwn}
-use Rattle.scc_table.specs.TwoArrays.{Draining, joined, owed_in, waits_at, target_by, together, TwoArrays, IsTable}
+use Rattle.scc_draining.specs.Drainings.{Draining}
+use Rattle.scc_table.specs.TwoArrays.{joined, owed_in, waits_at, target_by, together, TwoArrays, IsTable}
 use Rattle.scc_draining.proofs.Arriving.{same-contents}
 use Rattle.scc_table.proofs.arrays.ListChanges.{joined-here, joined-set}
 use Rattle.scc_table.proofs.arrays.JoinedLists.{lists-together, owed-together, settings-together, refused-together, waiting-together}

@@ -6,7 +6,8 @@ use Rattle.scc_common.specs.Contents.{Contents, bucket_count, lists_of, settings
 use Rattle.scc_common.specs.Routing.{bucket_number}
 use Rattle.scc_buckets.specs.Tables.{overflow_in}
 use Rattle.scc_draining.specs.Moves.{AreMultiples, AreOwn}
-use Rattle.scc_table.specs.TwoArrays.{Draining, IsTable, owed_in, joined, target_by, together, TwoArrays}
+use Rattle.scc_draining.specs.Drainings.{Draining}
+use Rattle.scc_table.specs.TwoArrays.{IsTable, owed_in, joined, target_by, together, TwoArrays}
 use Rattle.scc_table.proofs.arrays.OneArray.{spilled-together}
 use Rattle.scc_table.proofs.arrays.JoinedLists.{lists-together, owed-together}
 use Rattle.scc_table.proofs.arrays.SameParts.{count-same, list-same, entries-same}

@@ -14,7 +14,8 @@ use Rattle.scc_buckets.specs.Tables.{IsOwn, overflow_in}
 use Rattle.scc_buckets.proofs.Arrays.{drop-got}
 use Rattle.scc_draining.specs.Stepping.{entries_before}
 use Rattle.scc_draining.specs.Moves.{AreMultiples}
-use Rattle.scc_table.specs.TwoArrays.{Draining, waits_at, target_by, together, TwoArrays, IsTable}
+use Rattle.scc_draining.specs.Drainings.{Draining}
+use Rattle.scc_table.specs.TwoArrays.{waits_at, target_by, together, TwoArrays, IsTable}
 use Rattle.scc_table.proofs.arrays.ListChanges.{joined-changed}
 use Rattle.scc_table.proofs.arrays.JoinedLists.{lists-together}
 use Rattle.scc_table.proofs.places.OldSpots.{old-waits, old-long, old-within}

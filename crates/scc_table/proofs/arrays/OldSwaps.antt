@@ -23,7 +23,8 @@ use Rattle.scc_draining.proofs.Numbers.{multiples-flip, number-div, quotient, so
 use Rattle.scc_table.specs.Places.{IsPlace, index_of, spot_of}
 use Rattle.scc_table.specs.Removals.{SwapTakesAt}
 use Rattle.scc_table.specs.Takes.{owed_taken}
-use Rattle.scc_table.specs.TwoArrays.{Draining, owed_in, waits_at, target_by, together, TwoArrays, IsTable}
+use Rattle.scc_draining.specs.Drainings.{Draining}
+use Rattle.scc_table.specs.TwoArrays.{owed_in, waits_at, target_by, together, TwoArrays, IsTable}
 use Rattle.scc_table.proofs.arrays.CurrentChanges.{spilled-together}
 use Rattle.scc_table.proofs.arrays.JoinedLists.{count-together, owed-together, refused-together, settings-together, waiting-together}
 use Rattle.scc_table.proofs.arrays.OldChanges.{arrays-over, lists-over, old-fields}

@@ -1,14 +1,14 @@
 -- What the invariant of a table says of one bucket.
 use Rattle.std.proofs.Common.{◌≡◌, ℕ, ◌+◌, ◌-◌, ◌<◌, ◌≤◌, Bool, true, false, List, length, map, set, get_or, sym, ap, ◌∙◌, subst, arith}
 use Rattle.std.specs.Hash.{HashWrites}
-use Rattle.std.specs.List.{flat_map, IsDistinct}
+use Rattle.std.specs.List.{flat_map, sum_by, IsDistinct}
 use Rattle.std.specs.declared.hash.Hasher as hasher
 use Rattle.std.specs.declared.hash.BuildHasher as builder
 use Rattle.std.proofs.lemmas.List.{get_or_read}
-use Rattle.std.proofs.lemmas.List.Sums.{count_by-le-length}
+use Rattle.std.proofs.lemmas.List.Sums.{count_by-le-length, get_or-le-sum_by}
 use Rattle.std.proofs.lemmas.List.Concat.{length-flat_map}
 use Rattle.scc_array.specs.Shelves.{shelf_of}
-use Rattle.scc_array.specs.Shelf.{Shelf, shelf_entries}
+use Rattle.scc_array.specs.Shelf.{Shelf, empty_shelf, shelf_entries}
 use Rattle.scc_common.specs.Contents.{Contents, IsRouted, bucket_count, key_hash, list_of, lists_of, settings_of, waiting_of, owed_of, pending_of}
 use Rattle.scc_common.specs.Hashing.{hash_of}
 use Rattle.scc_common.specs.Routing.{bucket_number}
@@ -19,7 +19,8 @@ use Rattle.scc_draining.proofs.Counted.{destined-le}
 use Rattle.scc_buckets.specs.Places as spots
 use Rattle.scc_buckets.specs.declared.place.Place.{Place}
 use Rattle.scc_table.specs.Places.{IsPlace}
-use Rattle.scc_table.specs.TwoArrays.{Draining, IsTable, IsWaiting, together, waits_at}
+use Rattle.scc_draining.specs.Drainings.{Draining}
+use Rattle.scc_table.specs.TwoArrays.{IsTable, IsWaiting, together, waits_at}
 use Rattle.scc_table.proofs.arrays.JoinedLists.{flags-length}
 use Rattle.scc_table.proofs.places.NextPlaces.{owed-count}
 use Rattle.scc_table.proofs.places.OldSpots.{old-at, own-at}
@@ -41,6 +42,9 @@ module _ {E K S : Type 0} {eq : K → K → Bool} {key : E → K} {hash : K → 
   pub flag-up : {a : Contents E S} (i : ℕ) → together (λ e. hash (key e)) c drain.waiting drain.array ≡ a → IsWaiting a i → waits_at drain.waiting i ≡ true
   flag-up {a} i view waits = ap (λ w. waits_at w i) (sym (waiting-seen (λ e. hash (key e)) c drain.waiting drain.array a view)) ∙ waits
 
+  pub flag-seen : {a : Contents E S} (i : ℕ) → together (λ e. hash (key e)) c drain.waiting drain.array ≡ a → waits_at drain.waiting i ≡ true → IsWaiting a i
+  flag-seen {a} i view up = ap (λ w. waits_at w i) (waiting-seen (λ e. hash (key e)) c drain.waiting drain.array a view) ∙ up
+
   -- if bucket i of the contents a doesn't wait, its flag is down
   pub flag-down : {a : Contents E S} (i : ℕ) → together (λ e. hash (key e)) c drain.waiting drain.array ≡ a → waits_at (waiting_of a) i ≡ false → waits_at drain.waiting i ≡ false
   flag-down {a} i view down = ap (λ w. waits_at w i) (sym (waiting-seen (λ e. hash (key e)) c drain.waiting drain.array a view)) ∙ down
@@ -56,6 +60,9 @@ module _ {E K S : Type 0} {eq : K → K → Bool} {key : E → K} {hash : K → 
 
   pub count-own : {a : Contents E S} → together (λ e. hash (key e)) c drain.waiting drain.array ≡ a → bucket_count c ≡ bucket_count a
   count-own {a} view = sym (count-seen (λ e. hash (key e)) c drain.waiting drain.array a view inv.arrays.flags)
+
+  pub count-within : {a : Contents E S} {i : ℕ} → together (λ e. hash (key e)) c drain.waiting drain.array ≡ a → (0 < bucket_count a → i < bucket_count a) → 0 < bucket_count c → i < bucket_count c
+  count-within view within some = let count = count-own view in let l = within (omega (arith, some, count)) in omega (arith, l, count)
 
   pub flag-free : {a : Contents E S} (i : ℕ) → together (λ e. hash (key e)) c drain.waiting drain.array ≡ a → (IsWaiting a i → ⊥) → waits_at drain.waiting i ≡ false
   flag-free {a} i view free = not_true (waits_at drain.waiting i) (λ up. free (ap (λ w. waits_at w i) (waiting-seen (λ e. hash (key e)) c drain.waiting drain.array a view) ∙ up))
@@ -102,6 +109,13 @@ module _ {E K S : Type 0} {eq : K → K → Bool} {key : E → K} {hash : K → 
       let le = destined-le (λ e. hash (key e)) (settings_of c).skipped (bucket_count c) i (flat_map shelf_entries drain.array) in
       let all = inv.left_is ∙ sym (length-flat_map shelf_entries drain.array) in
       omega (arith, takes.moved, le, all)
+
+  -- an old bucket holds at most as many entries as the old array
+  pub left-most : (j : ℕ) → j < length drain.array → length (shelf_entries (shelf_of drain.array j)) ≤ drain.left
+  left-most j l =
+      let f : Shelf E → ℕ = λ b. length (shelf_entries b) in
+      let most : f (get_or drain.array j empty_shelf) ≤ sum_by f drain.array = get_or-le-sum_by f drain.array j empty_shelf l in
+      omega (arith, most, inv.left_is)
 
   -- if some bucket waits, there are buckets, and each has a flag
   module _ {a : Contents E S} (view : together (λ e. hash (key e)) c drain.waiting drain.array ≡ a) (pending : 0 < pending_of a) where

@@ -8,7 +8,8 @@ use Rattle.std.specs.Prelude.{[]}
 use Rattle.scc_common.specs.Contents.{Contents, Settings, settings_of}
 use Rattle.scc_buckets.specs.Updates as one
 use Rattle.scc_buckets.specs.Writes as writes
-use Rattle.scc_table.specs.TwoArrays.{Draining, together, IsTable}
+use Rattle.scc_draining.specs.Drainings.{Draining}
+use Rattle.scc_table.specs.TwoArrays.{together, IsTable}
 use Rattle.scc_table.specs.Updates.{UpdatesFirst}
 use Rattle.scc_table.proofs.arrays.CurrentChanges.{settings-write}
 use Rattle.scc_table.proofs.places.Searches.{entries-not_waiting, found-not_waiting}

@@ -4,7 +4,8 @@ use Rattle.std.specs.List.{count_by}
 use Rattle.scc_array.specs.Shelf.{Shelf}
 use Rattle.scc_common.specs.Contents.{Contents, bucket_count, lists_of, settings_of, notes_of, overflow_of, waiting_of, owed_of, pending_of}
 use Rattle.scc_buckets.specs.Tables.{overflow_in}
-use Rattle.scc_table.specs.TwoArrays.{Draining, together, IsTable}
+use Rattle.scc_draining.specs.Drainings.{Draining}
+use Rattle.scc_table.specs.TwoArrays.{together, IsTable}
 use Rattle.scc_table.proofs.arrays.OneArray.{lists-alone, owed-alone, spilled-together}
 use Rattle.scc_table.proofs.arrays.JoinedLists.{settings-together, refused-together, waiting-together, pending-together, count-together}
 

@@ -22,7 +22,8 @@ use Rattle.scc_buckets.proofs.Views.{view_of}
 use Rattle.scc_buckets.proofs.WritingTables.{distinct-write, entries-write, entries_write, written-table}
 use Rattle.scc_draining.specs.Moves.{AreOwn}
 use Rattle.scc_table.specs.Places.{IsPlace, index_of, spot_of, with_write_at}
-use Rattle.scc_table.specs.TwoArrays.{Draining, owed_in, waits_at, target_by, together, TwoArrays, IsTable}
+use Rattle.scc_draining.specs.Drainings.{Draining}
+use Rattle.scc_table.specs.TwoArrays.{owed_in, waits_at, target_by, together, TwoArrays, IsTable}
 use Rattle.scc_draining.proofs.Arriving.{same-contents}
 use Rattle.scc_table.proofs.arrays.CurrentChanges.{own-fields, own-write, lists-write, settings-write, refused-write, spilled-write, waiting-write, owed-write, spilled-together}
 use Rattle.scc_table.proofs.arrays.JoinedLists.{owed-together, refused-together, settings-together, waiting-together}

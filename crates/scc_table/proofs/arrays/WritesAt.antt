@@ -10,7 +10,8 @@ use Rattle.scc_buckets.specs.Places as spots
 use Rattle.scc_buckets.specs.Writes as writes
 use Rattle.scc_buckets.specs.declared.place.Place.{Place}
 use Rattle.scc_table.specs.Places.{IsPlace, index_of, with_write_at}
-use Rattle.scc_table.specs.TwoArrays.{Draining, together, IsTable}
+use Rattle.scc_draining.specs.Drainings.{Draining}
+use Rattle.scc_table.specs.TwoArrays.{together, IsTable}
 use Rattle.scc_table.proofs.arrays.CurrentChanges.{settings-write}
 use Rattle.scc_table.proofs.arrays.Writes.{place-seen, own-got, own-is, own-kept, own-written, old-got, old-is, old-kept, old-written}
 

@@ -14,7 +14,8 @@ use Rattle.scc_buckets.specs.declared.place.Place.{Place}
 use Rattle.scc_buckets.proofs.Inserts.{unique-inserted}
 use Rattle.scc_buckets.proofs.PairSplits.{by_answer}
 use Rattle.scc_draining.specs.Moves.{AreMultiples, AreOwn}
-use Rattle.scc_table.specs.TwoArrays.{Draining, IsTable, owed_in, joined, target_by, together, TwoArrays, waits_at}
+use Rattle.scc_draining.specs.Drainings.{Draining}
+use Rattle.scc_table.specs.TwoArrays.{IsTable, owed_in, joined, target_by, together, TwoArrays, waits_at}
 use Rattle.scc_table.proofs.arrays.OneArray.{spilled-together}
 use Rattle.scc_table.proofs.insertions.OneList.{absent-sub, count-sub, count-whole, one-sub, put-count, put-permuted}
 use Rattle.scc_table.proofs.arrays.JoinedLists.{owed-together, lists-together, refused-together, settings-together}

@@ -14,7 +14,8 @@ use Rattle.scc_buckets.proofs.FindingLemmas.{HashOf}
 use Rattle.scc_buckets.proofs.Spots.{place-get}
 use Rattle.scc_table.specs.Places.{IsFoundAt, spot_of}
 use Rattle.scc_table.specs.Removals.{SwapTakesFirst}
-use Rattle.scc_table.specs.TwoArrays.{together, waits_at, Draining, IsTable}
+use Rattle.scc_draining.specs.Drainings.{Draining}
+use Rattle.scc_table.specs.TwoArrays.{together, waits_at, IsTable}
 use Rattle.scc_table.proofs.arrays.JoinedLists.{waiting-together}
 use Rattle.scc_table.proofs.places.Searches.{entries-not_waiting, found-not_waiting, found-own, found-split, missed-own, position-routed, routed-current}
 use Rattle.scc_table.proofs.removals.Fields.{own-owed_kept, own-less_swapped, own-swapped}

@@ -18,7 +18,8 @@ use Rattle.scc_buckets.specs.declared.place.Place.{Place}
 use Rattle.scc_buckets.proofs.Removes.{entries_without, overflow_without, own_without}
 use Rattle.scc_table.specs.Places.{IsPlace, spot_of}
 use Rattle.scc_table.specs.Takes.{owed_taken}
-use Rattle.scc_table.specs.TwoArrays.{Draining, owed_in, waits_at, target_by, together, TwoArrays, IsTable}
+use Rattle.scc_draining.specs.Drainings.{Draining}
+use Rattle.scc_table.specs.TwoArrays.{owed_in, waits_at, target_by, together, TwoArrays, IsTable}
 use Rattle.scc_table.proofs.arrays.CurrentChanges.{own-fields, own-owed, own-list, own-lists, own-settings, own-refused, spilled-together}
 use Rattle.scc_table.proofs.arrays.ListChanges.{set-none}
 use Rattle.scc_table.proofs.arrays.JoinedLists.{count-together, owed-together, refused-together, settings-together}

@@ -13,7 +13,8 @@ use Rattle.scc_common.specs.Sizes.{IsBucketCount}
 use Rattle.scc_buckets.specs.Tables.{IsBuckets}
 use Rattle.scc_buckets.proofs.Arrays.{shelf-at}
 use Rattle.scc_draining.specs.Moves.{TakesOver}
-use Rattle.scc_table.specs.TwoArrays.{Draining, together, waits_at, IsTable, IsRelocated}
+use Rattle.scc_draining.specs.Drainings.{Draining}
+use Rattle.scc_table.specs.TwoArrays.{together, waits_at, IsTable, IsRelocated}
 use Rattle.scc_table.proofs.arrays.OneArray.{entries-alone}
 use Rattle.scc_draining.proofs.Arriving.{count-were, entries-were, list-were}
 use Rattle.scc_draining.proofs.Counted.{destined-le}

@@ -10,7 +10,8 @@ use Rattle.scc_common.specs.Routing.{bucket_number}
 use Rattle.scc_common.specs.Sizes.{IsBucketCount, IsArraySize}
 use Rattle.scc_common.specs.Steps.{Grows, IsUnchanged, Rests}
 use Rattle.scc_draining.specs.Moves.{AreOwn}
-use Rattle.scc_table.specs.TwoArrays.{Draining, IsTable, waits_at}
+use Rattle.scc_draining.specs.Drainings.{Draining}
+use Rattle.scc_table.specs.TwoArrays.{IsTable, waits_at}
 use Rattle.scc_table.proofs.arrays.OneArray.{entries-alone, nothing-owed}
 use Rattle.scc_draining.proofs.Arriving.{IsDistinct-nil}
 

@@ -7,7 +7,6 @@ ghost use Rattle.std.specs.Prelude.{◌≡◌, ◌<◌, ◌≤◌, ◌^◌, None
 
 use crate::Table;
 use scc_buckets::Place;
-use scc_buckets::place::tag;
 use scc_common::Keyed;
 use std::hash::{BuildHasher, Hash};
 
@@ -58,15 +57,11 @@ where
         };
         let count = self.current.bucket_count();
         let bucket = self.current.bucket_at(hash);
-        if self.draining.waiting[bucket] {
-            let source = self
-                .current
-                .router()
-                .bucket(hash, self.draining.array.len());
-            return match self.draining.array.search(source, key, tag(hash)) {
-                Some(slot) => Place {
-                    bucket: count + source,
-                    slot,
+        if self.draining.is_waiting(bucket) {
+            return match self.draining.search(self.current.router(), hash, key) {
+                Some(old) => Place {
+                    bucket: count + old.bucket,
+                    slot: old.slot,
                 },
                 None => nowhere,
             };
@@ -97,12 +92,8 @@ where
         ensures { option_copied result ≡ find (λ e. E.Key.eq key.now (E.key_of e)) (entries self.now) }
     {
         let bucket = self.current.bucket_at(hash);
-        if self.draining.waiting[bucket] {
-            let source = self
-                .current
-                .router()
-                .bucket(hash, self.draining.array.len());
-            return self.draining.array.find(source, key, tag(hash));
+        if self.draining.is_waiting(bucket) {
+            return self.draining.find(self.current.router(), hash, key);
         }
         self.current.find(hash, key)
     }

@@ -9,7 +9,6 @@ ghost use Rattle.std.specs.Prelude.{◌≡◌, ◌<◌, length, []};
 use crate::Table;
 use crate::lookup::search::NOWHERE;
 use scc_buckets::Place;
-use scc_buckets::place::tag;
 use scc_common::Keyed;
 use std::hash::{BuildHasher, Hash};
 
@@ -84,7 +83,7 @@ where
         ensures { SwapTakesFirst E.Key.eq E.key_of (λ e. E.Key.eq key.now (E.key_of e)) self.old self.new result }
     {
         let bucket = self.bucket_at(hash);
-        if !self.draining.waiting[bucket] {
+        if !self.draining.is_waiting(bucket) {
             return self.current.take_first(hash, key);
         }
         if self.draining.array.len() <= self.current.bucket_count() {
@@ -119,27 +118,6 @@ where
         requires hashed { hash ≡ key_hash H.BuildHasher H.Hasher.Hasher E.Key.hash_input self.old key.now }
         ensures { SwapTakesFirst E.Key.eq E.key_of (λ e. E.Key.eq key.now (E.key_of e)) self.old self.new result }
     {
-        let source = self
-            .current
-            .router()
-            .bucket(hash, self.draining.array.len());
-        match self.draining.array.take_in_slots(source, key, tag(hash)) {
-            Some(entry) => {
-                self.draining.left -= 1;
-                Some(entry)
-            }
-            None => {
-                if !self.draining.array.may_overflow(source) {
-                    return None;
-                }
-                match self.draining.array.take_in_overflow(source, key) {
-                    Some(entry) => {
-                        self.draining.left -= 1;
-                        Some(entry)
-                    }
-                    None => None,
-                }
-            }
-        }
+        self.draining.take(self.current.router(), hash, key)
     }
 }

@@ -3,7 +3,8 @@ use Rattle.std.specs.List.{IsDistinct}
 use Rattle.scc_common.specs.Contents.{entries, HasRoomBy, bucket_count, owed_of, key_hash, list_of, settings_of, overflow_of}
 use Rattle.scc_buckets.specs.OneList.{HasSameLists, IsPutIn}
 use Rattle.scc_common.specs.Routing.{bucket_number}
-use Rattle.scc_table.specs.TwoArrays.{draining_of, IsTable, together}
+use Rattle.scc_draining.specs.Drainings.{draining_of}
+use Rattle.scc_table.specs.TwoArrays.{IsTable, together}
 use Rattle.scc_table.proofs.arrays.JoinedLists.{waiting-together}
 use Rattle.scc_table.proofs.arrays.Notes.{fields-less, owed-kept}
 use Rattle.scc_table.proofs.insertions.CurrentArray.{unique-answered, fields-put, owed-put, long-full, put-together, room-own, same-together, new-own}

@@ -1,7 +1,8 @@
 use Rattle.std.proofs.Common.{◌≡◌, ◌∙◌, ℕ, None, List, map, sym, ap, subst, arith}
 use Rattle.std.specs.List.{position, IsDistinct}
 use Rattle.scc_common.specs.Contents.{bucket_count, key_hash, settings_of}
-use Rattle.scc_table.specs.TwoArrays.{draining_of, IsTable, together}
+use Rattle.scc_draining.specs.Drainings.{draining_of}
+use Rattle.scc_table.specs.TwoArrays.{IsTable, together}
 use Rattle.scc_table.proofs.arrays.OneArray.{entries-alone, lists-alone}
 use Rattle.scc_table.proofs.resizes.FirstArray.{no-flags}
 use Rattle.scc_table.proofs.arrays.JoinedLists.{refused-together, settings-together, waiting-together}

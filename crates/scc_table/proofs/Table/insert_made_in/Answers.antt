@@ -2,7 +2,8 @@ use Rattle.std.proofs.Common.{◌≡◌, ◌∙◌, ◌<◌, ℕ, ◌+◌, ◌^�
 use Rattle.std.specs.List.{IsDistinct}
 use Rattle.scc_common.specs.Contents.{entries, owed_of, key_hash, settings_of, overflow_of}
 use Rattle.scc_buckets.specs.OneList.{HasSameLists, IsPutIn}
-use Rattle.scc_table.specs.TwoArrays.{draining_of, IsTable, together}
+use Rattle.scc_draining.specs.Drainings.{draining_of}
+use Rattle.scc_table.specs.TwoArrays.{IsTable, together}
 use Rattle.scc_table.proofs.arrays.JoinedLists.{waiting-together}
 use Rattle.scc_table.proofs.arrays.Notes.{fields-less, owed-kept}
 use Rattle.scc_table.proofs.insertions.CurrentArray.{unique-answered, fields-put, owed-put, put-together, same-together, new-own}

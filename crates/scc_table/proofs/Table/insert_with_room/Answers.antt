@@ -2,7 +2,8 @@ use Rattle.std.proofs.Common.{◌≡◌, ◌∙◌, ◌<◌, ◌+◌, ◌^◌, �
 use Rattle.std.specs.List.{IsDistinct}
 use Rattle.scc_common.specs.Contents.{entries, key_hash, list_of, overflow_of, pending_of, waiting_of}
 use Rattle.scc_buckets.specs.OneList.{IsPutIn}
-use Rattle.scc_table.specs.TwoArrays.{IsTable, draining_of, pending_targets, together}
+use Rattle.scc_draining.specs.Drainings.{draining_of}
+use Rattle.scc_table.specs.TwoArrays.{IsTable, pending_targets, together}
 use Rattle.scc_table.proofs.arrays.JoinedLists.{waiting-together}
 use Rattle.scc_table.proofs.arrays.NoneWaits.{not_waiting-all}
 use Rattle.scc_table.proofs.places.OldSpots.{own-list}

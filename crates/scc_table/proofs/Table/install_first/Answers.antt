@@ -3,7 +3,8 @@ use Rattle.std.proofs.Common.{◌≡◌, ◌∙◌, ◌+◌, ◌*◌, ℕ, List,
 use Rattle.scc_common.specs.Contents.{bucket_count, entries, key_hash, minimum_of, overflow_of, notes_of}
 use Rattle.scc_common.specs.Sizes.{IsBucketCount, IsArraySize}
 use Rattle.scc_buckets.specs.Tables.{overflow_in}
-use Rattle.scc_table.specs.TwoArrays.{draining_of, IsTable, together}
+use Rattle.scc_draining.specs.Drainings.{draining_of}
+use Rattle.scc_table.specs.TwoArrays.{IsTable, together}
 use Rattle.scc_table.proofs.arrays.OneArray.{count-alone, entries-alone, nothing-owed, spilled-bare, spilled-together}
 use Rattle.scc_draining.proofs.Arriving.{IsDistinct-nil}
 use Rattle.scc_table.proofs.resizes.FirstArray.{fields-first, first-grows, first-rests, no-flags, same-rests}

@@ -3,7 +3,8 @@ use Rattle.std.specs.List.{position, IsDistinct}
 use Rattle.scc_buckets.specs.Bounded.{IsBounded, IsListed, PutsLast}
 use Rattle.scc_common.specs.Contents.{Contents, bucket_count, entries, owed_of, key_hash, overflow_of}
 use Rattle.scc_common.specs.Hashing.{hash_of}
-use Rattle.scc_table.specs.TwoArrays.{draining_of, together, IsTable}
+use Rattle.scc_draining.specs.Drainings.{draining_of}
+use Rattle.scc_table.specs.TwoArrays.{together, IsTable}
 use Rattle.scc_table.proofs.arrays.CurrentChanges.{own-fields, own-owed, own-list}
 use Rattle.scc_table.proofs.arrays.JoinedLists.{settings-together, waiting-together}
 use Rattle.scc_table.proofs.insertions.AtEnds.{own-bounded, own-listed, own-puts_last, puts-list, unique-puts}

@@ -4,7 +4,8 @@ use Rattle.scc_common.specs.Contents.{Contents, IsUniqueBy, key_hash, overflow_o
 use Rattle.scc_buckets.specs.Bounded.{IsListed}
 use Rattle.scc_buckets.specs.Tables.{overflow_in}
 use Rattle.scc_common.specs.Hashing.{hash_of}
-use Rattle.scc_table.specs.TwoArrays.{draining_of, together, waits_at, IsTable, IsRelocated}
+use Rattle.scc_draining.specs.Drainings.{draining_of}
+use Rattle.scc_table.specs.TwoArrays.{together, waits_at, IsTable, IsRelocated}
 use Rattle.scc_buckets.proofs.Bare.{all-bare}
 use Rattle.scc_table.proofs.arrays.OneArray.{bare-together, spilled-alone, spilled-together}
 use Rattle.scc_table.proofs.relocations.Fields.{others, last, bare-after, fields-after, fields-last, relocated-after, spilled-le}

@@ -1,208 +1,73 @@
-use Rattle.std.proofs.Common.{◌≡◌, ◌∙◌, ◌+◌, true, false, length, sym, ap, subst, rules, arith}
+use Rattle.std.proofs.Common.{◌≡◌, ◌∙◌, ◌+◌, sym, ap, arith}
 use Rattle.std.specs.List.{position}
-use Rattle.scc_array.specs.Shelves.{shelf_of}
-use Rattle.scc_common.specs.Contents.{entries, key_hash, list_of, settings_of}
-use Rattle.scc_common.specs.Hashing.{hash_of}
+use Rattle.scc_common.specs.Contents.{bucket_count, list_of}
 use Rattle.scc_buckets.specs.declared.place.Place.{Place}
-use Rattle.scc_buckets.proofs.FindingLemmas.{HashOf, has_tag}
-use Rattle.scc_table.specs.Places.{IsFoundAt}
-use Rattle.scc_table.specs.TwoArrays.{waits_at}
-use Rattle.scc_table.proofs.arrays.CurrentParts.{settings-seen}
-use Rattle.scc_table.proofs.places.Searches.{found-own, missed-own, found-old, missed-old}
-use Rattle.scc_table.proofs.arrays.OneBucket.{bucket-within, flag-read, index-within, routed-seen, source-within, source-number}
+use Rattle.scc_table.proofs.arrays.OneBucket.{index-within, routed-seen}
+use Rattle.scc_table.proofs.places.KeyBuckets.{bucket-read, found-here, found-there, hash-own, missed-here, missed-there, old-near, old-some}
 use Rattle.scc_table.proofs.Table.search_both.Goals as goal
 
-pub index-requires : goal.index-requires
-index-requires g c =
-    let l = index-within c.self.invariant c.self.view_is c.requires.pending c.bucket_at-bucket.ensures.within in
-    search rules
+pub is_waiting-requires : goal.is_waiting-requires
+is_waiting-requires g c = index-within c.self.invariant c.self.view_is c.requires.pending c.bucket_at-bucket.ensures.within
 
-pub search-requires-clause-bucket : goal.search-requires-clause-bucket
-search-requires-clause-bucket g c =
-    let t = c.self.inside in
-    let ws = t.draining.waiting.items in
-    let i = c.bucket_at-bucket.result in
-    let here = flag-read c.self.invariant c.self.view_is c.requires.pending c.bucket_at-bucket.ensures.within c.index.ensures in
-    let up : waits_at ws i ≡ true = sym here ∙ c.if-index.true in
-    let lj = source-within c.self.invariant _ up c.len.ensures.count c.bucket-source.ensures.within in
-    lj
+pub search-requires-clause-some : goal.search-requires-clause-some
+search-requires-clause-some g c = old-some c.self.invariant c.self.view_is c.bucket_at-bucket.result (sym c.is_waiting.ensures ∙ c.if-is_waiting.true)
 
-pub search-requires-clause-tagged : goal.search-requires-clause-tagged
-search-requires-clause-tagged g c =
-    let t = c.self.inside in
-    let cur = t.current in
-    let ws = t.draining.waiting.items in
-    let olds = t.draining.array in
-    let inv = c.self.invariant in
-    let now = c.args.self.now in
-    let hk = key_hash g.H.BuildHasher g.H.Hasher.Hasher g.E.Key.Hash.hash_input cur in
-    let hash = λ (e : g.row.E.Denot). hk (g.E.Keyed.key_of e) in
-    let set = settings-seen hash cur ws olds now c.self.view_is in
-    let passes = λ (e : g.row.E.Denot). g.E.Key.PartialEq.eq c.args.key.now (g.E.Keyed.key_of e) in
-    let hashed = c.requires.hashed ∙ ap (λ s. hash_of g.H.BuildHasher g.H.Hasher.Hasher s.hasher (g.E.Key.Hash.hash_input c.args.key.now)) (sym set) in
-    let same : HashOf passes hash c.args.hash = record { same = λ e w. sym (hashed ∙ ap (hash_of g.H.BuildHasher g.H.Hasher.Hasher (settings_of cur).hasher) (g.met.E.Key.Hash.respects_eq c.args.key.now (g.E.Keyed.key_of e) w)) } in
-    let i = c.bucket_at-bucket.result in
-    let here = flag-read c.self.invariant c.self.view_is c.requires.pending c.bucket_at-bucket.ensures.within c.index.ensures in
-    let up : waits_at ws i ≡ true = sym here ∙ c.if-index.true in
-    let j = c.bucket-source.result in
-    let lj = source-within c.self.invariant _ up c.len.ensures.count c.bucket-source.ensures.within in
-    rw c.tag.ensures (has_tag passes hash c.args.hash (settings_of cur).skipped (length olds) j (shelf_of olds j) same (inv.arrays.own.own j lj))
+pub search-requires-clause-own : goal.search-requires-clause-own
+search-requires-clause-own g c = rw c.router.ensures (c.self.invariant.arrays.own)
+
+pub search-requires-clause-hashed : goal.search-requires-clause-hashed
+search-requires-clause-hashed g c = rw c.router.ensures (hash-own g.H.BuildHasher g.H.Hasher.Hasher g.E.Key.Hash.hash_input c.self.invariant c.self.view_is c.args.key.now c.requires.hashed)
 
 pub returns-in-Some-clause-found : goal.returns-in-Some-clause-found
 returns-in-Some-clause-found g c =
-    let t = c.self.inside in
-    let cur = t.current in
-    let ws = t.draining.waiting.items in
-    let olds = t.draining.array in
     let inv = c.self.invariant in
-    let now = c.args.self.now in
-    let hk = key_hash g.H.BuildHasher g.H.Hasher.Hasher g.E.Key.Hash.hash_input cur in
-    let hash = λ (e : g.row.E.Denot). hk (g.E.Keyed.key_of e) in
-    let set = settings-seen hash cur ws olds now c.self.view_is in
-    let passes = λ (e : g.row.E.Denot). g.E.Key.PartialEq.eq c.args.key.now (g.E.Keyed.key_of e) in
-    let hashed = c.requires.hashed ∙ ap (λ s. hash_of g.H.BuildHasher g.H.Hasher.Hasher s.hasher (g.E.Key.Hash.hash_input c.args.key.now)) (sym set) in
-    let same : HashOf passes hash c.args.hash = record { same = λ e w. sym (hashed ∙ ap (hash_of g.H.BuildHasher g.H.Hasher.Hasher (settings_of cur).hasher) (g.met.E.Key.Hash.respects_eq c.args.key.now (g.E.Keyed.key_of e) w)) } in
-    let i = c.bucket_at-bucket.result in
-    let within = bucket-within c.self.invariant c.self.view_is c.requires.pending c.bucket_at-bucket.ensures.within in
-    let here = flag-read c.self.invariant c.self.view_is c.requires.pending c.bucket_at-bucket.ensures.within c.index.ensures in
-    let up : waits_at ws i ≡ true = sym here ∙ c.if-index.true in
-    let j = c.bucket-source.result in
-    let lj = source-within c.self.invariant _ up c.len.ensures.count c.bucket-source.ensures.within in
-    let source = source-number c.self.invariant _ c.len.ensures.count (rw c.router.ensures at c.bucket-source.ensures.value) in
-    let at = c.bucket_at-bucket.ensures.value in
-    let q : Place = record { bucket = c.bucket_count-count.result + j; slot = c.in-Some.slot } in
-    λ _. subst (λ d. IsFoundAt passes d q) c.self.view_is (found-old hash cur ws olds inv.arrays c.bucket_at-bucket.ensures.routed passes c.args.hash i same at within up j lj source q (ap (λ n. n + j) c.bucket_count-count.ensures.count) (sym c.in-Some.ensures))
+    let b = bucket-read g.H.BuildHasher g.H.Hasher.Hasher g.E.Key.Hash.hash_input inv c.self.view_is g.met.E.Key.Hash.respects_eq c.requires.hashed c.requires.pending c.bucket_at-bucket.ensures.value c.bucket_at-bucket.ensures.within (sym c.is_waiting.ensures ∙ c.if-is_waiting.true) in
+    let old = c.in-Some.old in
+    let q : Place = record { bucket = c.bucket_count-count.result + old.bucket; slot = old.slot } in
+    let found = rw c.router.ensures at c.in-Some.ensures in
+    λ _. found-there inv c.self.view_is c.bucket_at-bucket.ensures.routed b q (ap (λ n. n + old.bucket) c.bucket_count-count.ensures.count ∙ ap (λ j. bucket_count c.self.inside.current + j) found.0) found.1
 
 pub returns-in-Some-clause-missed : goal.returns-in-Some-clause-missed
 returns-in-Some-clause-missed g c =
-    let t = c.self.inside in
-    let cur = t.current in
-    let ws = t.draining.waiting.items in
-    let olds = t.draining.array in
-    let now = c.args.self.now in
-    let hk = key_hash g.H.BuildHasher g.H.Hasher.Hasher g.E.Key.Hash.hash_input cur in
-    let hash = λ (e : g.row.E.Denot). hk (g.E.Keyed.key_of e) in
-    let set = settings-seen hash cur ws olds now c.self.view_is in
-    let passes = λ (e : g.row.E.Denot). g.E.Key.PartialEq.eq c.args.key.now (g.E.Keyed.key_of e) in
-    let hashed = c.requires.hashed ∙ ap (λ s. hash_of g.H.BuildHasher g.H.Hasher.Hasher s.hasher (g.E.Key.Hash.hash_input c.args.key.now)) (sym set) in
-    let same : HashOf passes hash c.args.hash = record { same = λ e w. sym (hashed ∙ ap (hash_of g.H.BuildHasher g.H.Hasher.Hasher (settings_of cur).hasher) (g.met.E.Key.Hash.respects_eq c.args.key.now (g.E.Keyed.key_of e) w)) } in
-    let i = c.bucket_at-bucket.result in
-    let within = bucket-within c.self.invariant c.self.view_is c.requires.pending c.bucket_at-bucket.ensures.within in
-    let here = flag-read c.self.invariant c.self.view_is c.requires.pending c.bucket_at-bucket.ensures.within c.index.ensures in
-    let up : waits_at ws i ≡ true = sym here ∙ c.if-index.true in
-    let lj = source-within c.self.invariant _ up c.len.ensures.count c.bucket-source.ensures.within in
-    let most = c.bucket_count-count.ensures.most in
-    let old = c.len.ensures.most in
-    λ far. absurd (omega (arith, c.len.ensures.count, lj, most, old, far))
+    let near = old-near c.self.invariant c.self.view_is c.args.hash c.bucket_at-bucket.result (sym c.is_waiting.ensures ∙ c.if-is_waiting.true) in
+    let found = rw c.router.ensures at c.in-Some.ensures in
+    λ far. absurd (omega (arith, found.0, near, c.bucket_count-count.ensures.most, far))
 
 pub returns-in-None-clause-found : goal.returns-in-None-clause-found
 returns-in-None-clause-found g c = λ near. absurd (omega (arith, near))
 
 pub returns-in-None-clause-missed : goal.returns-in-None-clause-missed
 returns-in-None-clause-missed g c =
-    let t = c.self.inside in
-    let cur = t.current in
-    let ws = t.draining.waiting.items in
-    let olds = t.draining.array in
     let inv = c.self.invariant in
-    let now = c.args.self.now in
-    let hk = key_hash g.H.BuildHasher g.H.Hasher.Hasher g.E.Key.Hash.hash_input cur in
-    let hash = λ (e : g.row.E.Denot). hk (g.E.Keyed.key_of e) in
-    let set = settings-seen hash cur ws olds now c.self.view_is in
-    let passes = λ (e : g.row.E.Denot). g.E.Key.PartialEq.eq c.args.key.now (g.E.Keyed.key_of e) in
-    let hashed = c.requires.hashed ∙ ap (λ s. hash_of g.H.BuildHasher g.H.Hasher.Hasher s.hasher (g.E.Key.Hash.hash_input c.args.key.now)) (sym set) in
-    let same : HashOf passes hash c.args.hash = record { same = λ e w. sym (hashed ∙ ap (hash_of g.H.BuildHasher g.H.Hasher.Hasher (settings_of cur).hasher) (g.met.E.Key.Hash.respects_eq c.args.key.now (g.E.Keyed.key_of e) w)) } in
-    let i = c.bucket_at-bucket.result in
-    let within = bucket-within c.self.invariant c.self.view_is c.requires.pending c.bucket_at-bucket.ensures.within in
-    let here = flag-read c.self.invariant c.self.view_is c.requires.pending c.bucket_at-bucket.ensures.within c.index.ensures in
-    let up : waits_at ws i ≡ true = sym here ∙ c.if-index.true in
-    let j = c.bucket-source.result in
-    let lj = source-within c.self.invariant _ up c.len.ensures.count c.bucket-source.ensures.within in
-    let source = source-number c.self.invariant _ c.len.ensures.count (rw c.router.ensures at c.bucket-source.ensures.value) in
-    let at = c.bucket_at-bucket.ensures.value in
-    λ _. ap (λ d. position passes (entries d)) (sym c.self.view_is) ∙ missed-old hash cur ws olds inv.arrays c.bucket_at-bucket.ensures.routed passes c.args.hash i same at within up j lj source (sym c.in-None.ensures)
+    let b = bucket-read g.H.BuildHasher g.H.Hasher.Hasher g.E.Key.Hash.hash_input inv c.self.view_is g.met.E.Key.Hash.respects_eq c.requires.hashed c.requires.pending c.bucket_at-bucket.ensures.value c.bucket_at-bucket.ensures.within (sym c.is_waiting.ensures ∙ c.if-is_waiting.true) in
+    λ _. missed-there inv c.self.view_is c.bucket_at-bucket.ensures.routed b (rw c.router.ensures at c.in-None.ensures)
 
 pub search_place-requires : goal.search_place-requires
-search_place-requires g c =
-    let t = c.self.inside in
-    let cur = t.current in
-    let ws = t.draining.waiting.items in
-    let olds = t.draining.array in
-    let now = c.args.self.now in
-    let hk = key_hash g.H.BuildHasher g.H.Hasher.Hasher g.E.Key.Hash.hash_input cur in
-    let hash = λ (e : g.row.E.Denot). hk (g.E.Keyed.key_of e) in
-    let set = settings-seen hash cur ws olds now c.self.view_is in
-    c.requires.hashed ∙ ap (λ s. hash_of g.H.BuildHasher g.H.Hasher.Hasher s.hasher (g.E.Key.Hash.hash_input c.args.key.now)) (sym set)
+search_place-requires g c = hash-own g.H.BuildHasher g.H.Hasher.Hasher g.E.Key.Hash.hash_input c.self.invariant c.self.view_is c.args.key.now c.requires.hashed
 
 pub returns-in-Some-search_place-clause-found : goal.returns-in-Some-search_place-clause-found
 returns-in-Some-search_place-clause-found g c =
-    let t = c.self.inside in
-    let cur = t.current in
-    let ws = t.draining.waiting.items in
-    let olds = t.draining.array in
     let inv = c.self.invariant in
-    let now = c.args.self.now in
-    let hk = key_hash g.H.BuildHasher g.H.Hasher.Hasher g.E.Key.Hash.hash_input cur in
-    let hash = λ (e : g.row.E.Denot). hk (g.E.Keyed.key_of e) in
-    let set = settings-seen hash cur ws olds now c.self.view_is in
+    let b = bucket-read g.H.BuildHasher g.H.Hasher.Hasher g.E.Key.Hash.hash_input inv c.self.view_is g.met.E.Key.Hash.respects_eq c.requires.hashed c.requires.pending c.bucket_at-bucket.ensures.value c.bucket_at-bucket.ensures.within (sym c.is_waiting.ensures ∙ c.if-is_waiting.false) in
     let passes = λ (e : g.row.E.Denot). g.E.Key.PartialEq.eq c.args.key.now (g.E.Keyed.key_of e) in
-    let hashed = c.requires.hashed ∙ ap (λ s. hash_of g.H.BuildHasher g.H.Hasher.Hasher s.hasher (g.E.Key.Hash.hash_input c.args.key.now)) (sym set) in
-    let same : HashOf passes hash c.args.hash = record { same = λ e w. sym (hashed ∙ ap (hash_of g.H.BuildHasher g.H.Hasher.Hasher (settings_of cur).hasher) (g.met.E.Key.Hash.respects_eq c.args.key.now (g.E.Keyed.key_of e) w)) } in
-    let i = c.bucket_at-bucket.result in
-    let within = bucket-within c.self.invariant c.self.view_is c.requires.pending c.bucket_at-bucket.ensures.within in
-    let here = flag-read c.self.invariant c.self.view_is c.requires.pending c.bucket_at-bucket.ensures.within c.index.ensures in
-    let at = c.bucket_at-bucket.ensures.value in
-    let down : waits_at ws i ≡ false = sym here ∙ c.if-index.false in
-    let q = c.in-Some-search_place.place in
     let f = c.in-Some-search_place.ensures in
-    λ _. subst (λ d. IsFoundAt passes d q) c.self.view_is (found-own hash cur ws olds inv.arrays c.bucket_at-bucket.ensures.routed passes c.args.hash i same at within down q (f.bucket ∙ sym at) (ap (λ k. position passes (list_of cur k)) at ∙ f.found))
+    λ _. found-here inv c.self.view_is c.bucket_at-bucket.ensures.routed b c.in-Some-search_place.place (f.bucket ∙ sym b.at) (ap (λ k. position passes (list_of c.self.inside.current k)) b.at ∙ f.found)
 
 pub returns-in-Some-search_place-clause-missed : goal.returns-in-Some-search_place-clause-missed
 returns-in-Some-search_place-clause-missed g c =
-    let t = c.self.inside in
-    let cur = t.current in
-    let ws = t.draining.waiting.items in
-    let olds = t.draining.array in
-    let now = c.args.self.now in
-    let hk = key_hash g.H.BuildHasher g.H.Hasher.Hasher g.E.Key.Hash.hash_input cur in
-    let hash = λ (e : g.row.E.Denot). hk (g.E.Keyed.key_of e) in
-    let set = settings-seen hash cur ws olds now c.self.view_is in
-    let passes = λ (e : g.row.E.Denot). g.E.Key.PartialEq.eq c.args.key.now (g.E.Keyed.key_of e) in
-    let hashed = c.requires.hashed ∙ ap (λ s. hash_of g.H.BuildHasher g.H.Hasher.Hasher s.hasher (g.E.Key.Hash.hash_input c.args.key.now)) (sym set) in
-    let same : HashOf passes hash c.args.hash = record { same = λ e w. sym (hashed ∙ ap (hash_of g.H.BuildHasher g.H.Hasher.Hasher (settings_of cur).hasher) (g.met.E.Key.Hash.respects_eq c.args.key.now (g.E.Keyed.key_of e) w)) } in
-    let i = c.bucket_at-bucket.result in
-    let within = bucket-within c.self.invariant c.self.view_is c.requires.pending c.bucket_at-bucket.ensures.within in
-    let here = flag-read c.self.invariant c.self.view_is c.requires.pending c.bucket_at-bucket.ensures.within c.index.ensures in
-    let at = c.bucket_at-bucket.ensures.value in
-    let down : waits_at ws i ≡ false = sym here ∙ c.if-index.false in
-    let most = c.bucket_count-count.ensures.most in
-    let f = c.in-Some-search_place.ensures in
-    λ far. absurd (omega (arith, f.bucket, at, within, most, far))
+    let inv = c.self.invariant in
+    let b = bucket-read g.H.BuildHasher g.H.Hasher.Hasher g.E.Key.Hash.hash_input inv c.self.view_is g.met.E.Key.Hash.respects_eq c.requires.hashed c.requires.pending c.bucket_at-bucket.ensures.value c.bucket_at-bucket.ensures.within (sym c.is_waiting.ensures ∙ c.if-is_waiting.false) in
+    λ far. absurd (omega (arith, (c.in-Some-search_place.ensures).bucket, b.at, b.within, c.bucket_count-count.ensures.most, far))
 
 pub returns-in-None-search_place-clause-found : goal.returns-in-None-search_place-clause-found
 returns-in-None-search_place-clause-found g c = λ near. absurd (omega (arith, near))
 
 pub returns-in-None-search_place-clause-missed : goal.returns-in-None-search_place-clause-missed
 returns-in-None-search_place-clause-missed g c =
-    let t = c.self.inside in
-    let cur = t.current in
-    let ws = t.draining.waiting.items in
-    let olds = t.draining.array in
     let inv = c.self.invariant in
-    let now = c.args.self.now in
-    let hk = key_hash g.H.BuildHasher g.H.Hasher.Hasher g.E.Key.Hash.hash_input cur in
-    let hash = λ (e : g.row.E.Denot). hk (g.E.Keyed.key_of e) in
-    let set = settings-seen hash cur ws olds now c.self.view_is in
+    let b = bucket-read g.H.BuildHasher g.H.Hasher.Hasher g.E.Key.Hash.hash_input inv c.self.view_is g.met.E.Key.Hash.respects_eq c.requires.hashed c.requires.pending c.bucket_at-bucket.ensures.value c.bucket_at-bucket.ensures.within (sym c.is_waiting.ensures ∙ c.if-is_waiting.false) in
     let passes = λ (e : g.row.E.Denot). g.E.Key.PartialEq.eq c.args.key.now (g.E.Keyed.key_of e) in
-    let hashed = c.requires.hashed ∙ ap (λ s. hash_of g.H.BuildHasher g.H.Hasher.Hasher s.hasher (g.E.Key.Hash.hash_input c.args.key.now)) (sym set) in
-    let same : HashOf passes hash c.args.hash = record { same = λ e w. sym (hashed ∙ ap (hash_of g.H.BuildHasher g.H.Hasher.Hasher (settings_of cur).hasher) (g.met.E.Key.Hash.respects_eq c.args.key.now (g.E.Keyed.key_of e) w)) } in
-    let i = c.bucket_at-bucket.result in
-    let within = bucket-within c.self.invariant c.self.view_is c.requires.pending c.bucket_at-bucket.ensures.within in
-    let here = flag-read c.self.invariant c.self.view_is c.requires.pending c.bucket_at-bucket.ensures.within c.index.ensures in
-    let at = c.bucket_at-bucket.ensures.value in
-    let down : waits_at ws i ≡ false = sym here ∙ c.if-index.false in
-    let n = c.in-None-search_place.ensures in
-    λ _. ap (λ d. position passes (entries d)) (sym c.self.view_is) ∙ missed-own hash cur ws olds inv.arrays c.bucket_at-bucket.ensures.routed passes c.args.hash i same at within down (ap (λ k. position passes (list_of cur k)) at ∙ n.list)
+    λ _. missed-here inv c.self.view_is c.bucket_at-bucket.ensures.routed b (ap (λ k. position passes (list_of c.self.inside.current k)) b.at ∙ (c.in-None-search_place.ensures).list)
 
 pub returns-in-Some-clause-routed : goal.returns-in-Some-clause-routed
 returns-in-Some-clause-routed g c = routed-seen g.H.BuildHasher g.H.Hasher.Hasher g.E.Key.Hash.hash_input g.E.Keyed.key_of c.self.invariant c.self.view_is c.bucket_count-count.ensures.routed

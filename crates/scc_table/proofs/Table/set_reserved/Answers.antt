@@ -1,6 +1,7 @@
 use Rattle.std.proofs.Common.{◌∙◌, ℕ, sym, ap, subst}
 use Rattle.scc_common.specs.Contents.{Settings, key_hash, lists_of, owed_of}
-use Rattle.scc_table.specs.TwoArrays.{draining_of, IsTable, together}
+use Rattle.scc_draining.specs.Drainings.{draining_of}
+use Rattle.scc_table.specs.TwoArrays.{IsTable, together}
 use Rattle.scc_table.proofs.arrays.JoinedLists.{settings-together, refused-together, waiting-together}
 use Rattle.scc_table.proofs.arrays.Notes.{fields-kept, lists-kept, owed-kept}
 use Rattle.scc_table.proofs.arrays.SameParts.{hash-like, entries-same, count-same}

@@ -4,7 +4,8 @@ use Rattle.scc_array.specs.Shelf.{Shelf, shelf_entries}
 use Rattle.scc_common.specs.Contents.{Contents, bucket_count, key_hash}
 use Rattle.scc_buckets.specs.Placed.{at, at-get}
 use Rattle.scc_table.specs.Removals.{SwapTakesAt}
-use Rattle.scc_table.specs.TwoArrays.{draining_of, together, IsTable}
+use Rattle.scc_draining.specs.Drainings.{draining_of}
+use Rattle.scc_table.specs.TwoArrays.{together, IsTable}
 use Rattle.scc_table.proofs.arrays.OldSwaps.{swap-some, swap-table, swap-takes}
 use Rattle.scc_table.proofs.arrays.OneBucket.{old-here}
 use Rattle.scc_table.proofs.removals.OneList.{swapped-count, swapped-moved, swapped-unique, taken-swapped}

@@ -5,7 +5,8 @@ use Rattle.scc_common.specs.Hashing.{hash_of}
 use Rattle.scc_buckets.specs.OneList.{IsTakenFrom}
 use Rattle.scc_table.specs.Places.{index_of, spot_of}
 use Rattle.scc_table.specs.Takes.{owed_taken}
-use Rattle.scc_table.specs.TwoArrays.{draining_of, together, IsTable}
+use Rattle.scc_draining.specs.Drainings.{draining_of}
+use Rattle.scc_table.specs.TwoArrays.{together, IsTable}
 use Rattle.scc_table.proofs.arrays.JoinedLists.{waiting-together}
 use Rattle.scc_table.proofs.removals.Fields.{own-owed_kept, own-less, own-taken}
 use Rattle.scc_table.proofs.arrays.Views.{count-seen}

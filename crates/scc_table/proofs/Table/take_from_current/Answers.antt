@@ -2,7 +2,8 @@ use Rattle.std.proofs.Common.{◌∙◌, sym, ap, subst}
 use Rattle.scc_common.specs.Contents.{Contents, Settings, key_hash, waiting_of}
 use Rattle.scc_common.specs.Hashing.{hash_of}
 use Rattle.scc_table.specs.Removals.{SwapTakesFirst}
-use Rattle.scc_table.specs.TwoArrays.{draining_of, together}
+use Rattle.scc_draining.specs.Drainings.{draining_of}
+use Rattle.scc_table.specs.TwoArrays.{together}
 use Rattle.scc_table.proofs.arrays.JoinedLists.{waiting-together}
 use Rattle.scc_table.proofs.arrays.CurrentParts.{settings-seen}
 use Rattle.scc_table.proofs.removals.CurrentArray.{not_waiting-taken, not_waiting-left}

@@ -6,7 +6,8 @@ use Rattle.scc_common.specs.Contents.{Contents, bucket_count, entries, key_hash,
 use Rattle.scc_buckets.specs.OneList.{IsTakenFrom}
 use Rattle.scc_table.specs.Places.{index_of, spot_of}
 use Rattle.scc_table.specs.Takes.{owed_taken}
-use Rattle.scc_table.specs.TwoArrays.{draining_of, together, IsTable}
+use Rattle.scc_draining.specs.Drainings.{draining_of}
+use Rattle.scc_table.specs.TwoArrays.{together, IsTable}
 use Rattle.scc_table.proofs.arrays.JoinedLists.{waiting-together}
 use Rattle.scc_table.proofs.removals.Fields.{old-owed_taken, old-less, old-some, old-taken_at}
 use Rattle.scc_table.proofs.arrays.Views.{count-seen}

@@ -3,7 +3,8 @@ use Rattle.std.specs.List.{remove, slice_get, slice_set, IsDistinct}
 use Rattle.scc_buckets.specs.Bounded.{HasList, IsBounded, IsListed}
 use Rattle.scc_common.specs.Contents.{Contents, bucket_count, entries, owed_of, key_hash, list_of, lists_of, overflow_of}
 use Rattle.scc_common.specs.Hashing.{hash_of}
-use Rattle.scc_table.specs.TwoArrays.{draining_of, together, IsTable}
+use Rattle.scc_draining.specs.Drainings.{draining_of}
+use Rattle.scc_table.specs.TwoArrays.{together, IsTable}
 use Rattle.scc_table.proofs.arrays.CurrentChanges.{own-fields, own-owed, own-list}
 use Rattle.scc_table.proofs.arrays.JoinedLists.{settings-together, waiting-together}
 use Rattle.scc_table.proofs.insertions.AtEnds.{own-bounded, own-has_list, own-listed, unique-moved}

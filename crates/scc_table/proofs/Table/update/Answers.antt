@@ -4,7 +4,8 @@ use Rattle.scc_array.proofs.Finds.{find-position}
 use Rattle.scc_common.specs.Contents.{Contents, Settings, entries, key_hash, pending_of}
 use Rattle.scc_common.specs.Hashing.{hash_of}
 use Rattle.scc_table.specs.Places.{IsFoundAt, index_of}
-use Rattle.scc_table.specs.TwoArrays.{draining_of, together}
+use Rattle.scc_draining.specs.Drainings.{draining_of}
+use Rattle.scc_table.specs.TwoArrays.{together}
 use Rattle.scc_table.specs.Updates.{UpdatesFirst}
 use Rattle.scc_table.proofs.arrays.JoinedLists.{pending-together}
 use Rattle.scc_table.proofs.places.Searches.{entries-not_waiting}
