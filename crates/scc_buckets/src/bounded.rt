@@ -1,29 +1,28 @@
 //! Changes of buckets that hold at most 32 entries each, each in the order of its list.
 ghost use Rattle.scc_buckets.specs.Bounded.{HasList, IsBounded, IsListed, PutsLast};
 ghost use Rattle.scc_buckets.specs.Insertions.{IsNewIn};
-ghost use Rattle.scc_common.specs.Contents.{bucket_count, list_of, settings_of, key_hash, IsUniqueBy};
+ghost use Rattle.scc_common.specs.Contents.{bucket_count, list_of, settings_of, hash_in, IsUniqueBy};
 ghost use Rattle.scc_common.specs.Routing.{bucket_number};
 ghost use Rattle.std.specs.Prelude.{◌≡◌, ◌<◌, ◌++◌, [], ◌∷◌, length, suc, Some, slice_get, remove};
 
 use crate::Buckets;
 use crate::place::Place;
-use scc_common::Keyed;
-use std::hash::{BuildHasher, Hash};
+use scc_common::{Hashes, Keyed};
 
-impl<E: Keyed, H: BuildHasher> Buckets<E, H>
+impl<E: Keyed, H: Hashes<E::Key>> Buckets<E, H>
 where
-    E::Key: Eq + Hash,
+    E::Key: Eq,
 {
     /// Puts `entry`, whose key is new, at the end of the list of `bucket`. `bucket` must be the bucket of `hash`, and
     /// hold fewer than 32 entries.
     #[inline(always)]
     pub(crate) fn push_last(&mut self, bucket: usize, hash: u64, entry: E)
-        requires new { IsNewIn E.Key.eq E.key_of (key_hash H.BuildHasher H.Hasher.Hasher E.Key.hash_input self.old) self.old
+        requires new { IsNewIn E.Key.eq E.key_of (hash_in H.hash_of self.old) self.old
             bucket hash (E.key_of entry) }
         requires bounded { IsBounded self.old }
         requires short { length (list_of self.old bucket) < 32 }
         ensures list { HasList self.old bucket (list_of self.old bucket ++ entry ∷ []) self.new }
-        ensures listed { IsListed (λ e. key_hash H.BuildHasher H.Hasher.Hasher E.Key.hash_input self.new (E.key_of e))
+        ensures listed { IsListed (λ e. hash_in H.hash_of self.new (E.key_of e))
             self.new }
         ensures unique { IsUniqueBy E.Key.eq E.key_of self.new }
     {
@@ -35,12 +34,12 @@ where
     /// Allocates nothing.
     #[inline(always)]
     pub fn put_last(&mut self, bucket: usize, hash: u64, entry: E) -> (Option<E>, usize)
-        requires new { IsNewIn E.Key.eq E.key_of (key_hash H.BuildHasher H.Hasher.Hasher E.Key.hash_input self.old) self.old
+        requires new { IsNewIn E.Key.eq E.key_of (hash_in H.hash_of self.old) self.old
             bucket hash (E.key_of entry) }
         requires bounded { IsBounded self.old }
         ensures step { PutsLast self.old bucket entry result.0 self.new }
         ensures slot { suc result.1 ≡ length (list_of self.new bucket) }
-        ensures listed { IsListed (λ e. key_hash H.BuildHasher H.Hasher.Hasher E.Key.hash_input self.new (E.key_of e))
+        ensures listed { IsListed (λ e. hash_in H.hash_of self.new (E.key_of e))
             self.new }
         ensures unique { IsUniqueBy E.Key.eq E.key_of self.new }
     {
@@ -63,10 +62,10 @@ where
         requires routed { bucket ≡ bucket_number (settings_of self.old).skipped (bucket_count self.old) hash }
         requires bounded { IsBounded self.old }
         requires hashed { (e : E) → slice_get (list_of self.old bucket) slot ≡ Some e
-            → hash ≡ key_hash H.BuildHasher H.Hasher.Hasher E.Key.hash_input self.old (E.key_of e) }
+            → hash ≡ hash_in H.hash_of self.old (E.key_of e) }
         ensures list { (e : E) × (slice_get (list_of self.old bucket) slot ≡ Some e)
             × HasList self.old bucket (remove (list_of self.old bucket) slot ++ e ∷ []) self.new }
-        ensures listed { IsListed (λ e. key_hash H.BuildHasher H.Hasher.Hasher E.Key.hash_input self.new (E.key_of e))
+        ensures listed { IsListed (λ e. hash_in H.hash_of self.new (E.key_of e))
             self.new }
         ensures unique { IsUniqueBy E.Key.eq E.key_of self.new }
     {

@@ -8,12 +8,11 @@ ghost use Rattle.std.specs.Prelude.{◌≡◌, ◌*◌, ◌^◌, ◌<◌, [], �
 use crate::make::fresh_buckets;
 use crate::{Buckets, Router};
 use scc_array::Array;
-use scc_common::{Keyed, MakeError};
-use std::hash::{BuildHasher, Hash};
+use scc_common::{Hashes, Keyed, MakeError};
 
-impl<E: Keyed, H: BuildHasher> Buckets<E, H>
+impl<E: Keyed, H: Hashes<E::Key>> Buckets<E, H>
 where
-    E::Key: Eq + Hash,
+    E::Key: Eq,
 {
     /// Makes buckets with clones of all entries, under a clone of the hasher. The copy has the same number of buckets
     /// as `self`, and all its slots count as asked for. Fails if memory is refused, if a clone fails, and if the clones

@@ -1,14 +1,13 @@
 //! Insertions into buckets: of an entry, and of an entry that the insertion makes of its parts.
 ghost use Rattle.scc_buckets.specs.Bounded.{IsBounded, IsListed};
 ghost use Rattle.scc_buckets.specs.Insertions.{InsertsInBucket, InsertsMadeInBucket, InsertsMadeInFirstArray, InsertsWithRoom, IsNewIn};
-ghost use Rattle.scc_common.specs.Contents.{entries, bucket_count, list_of, key_hash};
+ghost use Rattle.scc_common.specs.Contents.{entries, bucket_count, list_of, hash_in};
 ghost use Rattle.std.specs.List.{position};
 ghost use Rattle.std.specs.Prelude.{◌≡◌, ◌<◌, ◌+◌, ◌^◌, length, None, IsTrue};
 
 use crate::Buckets;
 use crate::place::{Place, tag};
-use scc_common::{Keyed, Made};
-use std::hash::{BuildHasher, Hash};
+use scc_common::{Hashes, Keyed, Made};
 
 /// Returns 1 if `holds`, or else 0.
 #[inline(always)]
@@ -29,20 +28,20 @@ pub fn overflow_room(overflowing: usize) -> usize
     (1 << 62) - 1 - overflowing
 }
 
-impl<E: Keyed, H: BuildHasher> Buckets<E, H>
+impl<E: Keyed, H: Hashes<E::Key>> Buckets<E, H>
 where
-    E::Key: Eq + Hash,
+    E::Key: Eq,
 {
     /// Inserts `entry`, whose key is new, into a free slot of `bucket`, and returns its place. `bucket` must be the
     /// bucket of `hash`, and hold fewer than 32 entries. Allocates nothing.
     #[inline(always)]
     pub fn insert_with_room(&mut self, bucket: usize, hash: u64, entry: E) -> Place
-        requires new { IsNewIn E.Key.eq E.key_of (key_hash H.BuildHasher H.Hasher.Hasher E.Key.hash_input self.old) self.old
+        requires new { IsNewIn E.Key.eq E.key_of (hash_in H.hash_of self.old) self.old
             bucket hash (E.key_of entry) }
         requires short { length (list_of self.old bucket) < 32 }
         ensures inserts { InsertsWithRoom E.Key.eq E.key_of self.old bucket entry result self.new }
         ensures listed { IsBounded self.new → IsListed
-            (λ e. key_hash H.BuildHasher H.Hasher.Hasher E.Key.hash_input self.new (E.key_of e)) self.new }
+            (λ e. hash_in H.hash_of self.new (E.key_of e)) self.new }
     {
         let slot = self.buckets.insert_reserved(bucket, entry, tag(hash));
         self.length += 1;
@@ -53,9 +52,9 @@ where
     /// Fails if the bucket is full and the overflow list can't grow; then `entry` is handed back.
     #[inline(always)]
     pub fn insert_in(&mut self, bucket: usize, hash: u64, entry: E) -> Result<Place, E>
-        requires { IsNewIn E.Key.eq E.key_of (key_hash H.BuildHasher H.Hasher.Hasher E.Key.hash_input self.old) self.old
+        requires { IsNewIn E.Key.eq E.key_of (hash_in H.hash_of self.old) self.old
             bucket hash (E.key_of entry) }
-        ensures { InsertsInBucket E.Key.eq E.key_of (key_hash H.BuildHasher H.Hasher.Hasher E.Key.hash_input self.old)
+        ensures { InsertsInBucket E.Key.eq E.key_of (hash_in H.hash_of self.old)
             self.old bucket entry result self.new }
     {
         if self.buckets.is_full(bucket) && overflow_room(self.overflowing) == 0 {
@@ -72,9 +71,9 @@ where
     }
 }
 
-impl<E: Keyed + Made, H: BuildHasher> Buckets<E, H>
+impl<E: Keyed + Made, H: Hashes<E::Key>> Buckets<E, H>
 where
-    E::Key: Eq + Hash,
+    E::Key: Eq,
 {
     /// Makes the first array, with the size of the minimum, and inserts an entry made of `parts`, whose key is new.
     /// Returns its place. Fails if memory for the array is refused or the entry can't be made; then `parts` are handed
@@ -82,7 +81,7 @@ where
     #[cold]
     pub fn insert_made_first(&mut self, hash: u64, parts: E::Parts) -> Result<Place, E::Parts>
         requires none { bucket_count self.old ≡ 0 }
-        requires hashed { hash ≡ key_hash H.BuildHasher H.Hasher.Hasher E.Key.hash_input self.old
+        requires hashed { hash ≡ hash_in H.hash_of self.old
             (E.key_of (E.made_of parts)) }
         requires absent { position (λ e. E.Key.eq (E.key_of (E.made_of parts)) (E.key_of e)) (entries self.old) ≡ None }
         ensures { InsertsMadeInFirstArray E.Key.eq E.key_of self.old (E.made_of parts) parts result self.new }
@@ -111,7 +110,7 @@ where
         hash: u64,
         parts: E::Parts,
     ) -> Result<Place, E::Parts>
-        requires { IsNewIn E.Key.eq E.key_of (key_hash H.BuildHasher H.Hasher.Hasher E.Key.hash_input self.old) self.old
+        requires { IsNewIn E.Key.eq E.key_of (hash_in H.hash_of self.old) self.old
             bucket hash (E.key_of (E.made_of parts)) }
         ensures { InsertsMadeInBucket E.Key.eq E.key_of self.old bucket (E.made_of parts) parts result self.new }
     {

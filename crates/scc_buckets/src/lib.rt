@@ -6,7 +6,7 @@ ghost use Rattle.scc_array.specs.Shelf.{shelf_entries};
 ghost use Rattle.scc_array.specs.Shelves.{shelf_of};
 ghost use Rattle.scc_buckets.specs.Places.{IsFoundAtSpot};
 ghost use Rattle.scc_buckets.specs.Routes.{route_of};
-ghost use Rattle.scc_common.specs.Contents.{entries, bucket_count, overflow_of, key_hash, bucket_of, IsRouted, IsUniqueBy, note_of};
+ghost use Rattle.scc_common.specs.Contents.{entries, bucket_count, overflow_of, hash_in, bucket_of, IsRouted, IsUniqueBy, note_of};
 ghost use Rattle.scc_common.specs.Sizes.{IsLawful};
 ghost use Rattle.std.specs.List.{flat_map, position};
 ghost use Rattle.std.specs.Prelude.{◌≡◌, ◌≤◌, ◌<◌, ◌+◌, ◌*◌, ◌^◌, ℕ, [], length, Some, None, MatchOption};
@@ -28,17 +28,16 @@ pub use insert::overflow_room;
 pub use place::Place;
 pub use router::Router;
 use scc_array::Array;
-use scc_common::Keyed;
-use std::hash::{BuildHasher, Hash};
+use scc_common::{Hashes, Keyed};
 use std::marker::Model;
 
 /// Entries with distinct keys, in buckets. A contract sees the list of each bucket, the number of buckets and the
 /// settings, by the words of `scc_common`. `scc_draining` fills a bucket of the array in place, so it may reach the
 /// array, the router and the two numbers.
 #[derive(Drop)]
-pub struct Buckets<E: Keyed, H: BuildHasher>
+pub struct Buckets<E: Keyed, H: Hashes<E::Key>>
 where
-    E::Key: Eq + Hash,
+    E::Key: Eq,
 {
     pub router: Router<H>,
     refused: bool,
@@ -50,9 +49,9 @@ where
     reserved: usize,
 }
 
-impl<E: Keyed, H: BuildHasher> Model for Buckets<E, H>
+impl<E: Keyed, H: Hashes<E::Key>> Model for Buckets<E, H>
 where
-    E::Key: Eq + Hash,
+    E::Key: Eq,
 {
     ghost use Rattle.std.specs.Prelude.{map, ◌+◌, []};
     ghost use Rattle.scc_common.specs.Contents.{Contents, contents_code};
@@ -61,7 +60,6 @@ where
 
     ghost coded = { contents_code E.code H.code };
 
-    ghost use Rattle.scc_common.specs.Hashing.{hash_of};
     ghost use Rattle.scc_array.specs.Shelf.{shelf_entries};
     ghost use Rattle.scc_buckets.specs.Tables.{AreBuckets, overflow_in};
 
@@ -75,13 +73,12 @@ where
       owed = [];
     } };
 
-    ghost invariant = { λ t. AreBuckets E.Key.eq E.key_of (λ k. hash_of H.BuildHasher H.Hasher.Hasher
-        t.router.hasher (E.Key.hash_input k)) t.router.skipped (t.asked + t.reserved) t.buckets t.length t.overflowing };
+    ghost invariant = { λ t. AreBuckets E.Key.eq E.key_of (H.hash_of t.router.hasher) t.router.skipped (t.asked + t.reserved) t.buckets t.length t.overflowing };
 }
 
-impl<E: Keyed, H: BuildHasher> Buckets<E, H>
+impl<E: Keyed, H: Hashes<E::Key>> Buckets<E, H>
 where
-    E::Key: Eq + Hash,
+    E::Key: Eq,
 {
     /// Returns the number of entries.
     #[inline(always)]
@@ -110,7 +107,7 @@ where
         ensures most { result ≤ 2 ^ 58 }
         ensures lawful { IsLawful result }
         ensures few { length (entries self.now) ≤ 32 * bucket_count self.now + overflow_of self.now }
-        ensures routed { IsRouted (λ e. key_hash H.BuildHasher H.Hasher.Hasher E.Key.hash_input self.now (E.key_of e))
+        ensures routed { IsRouted (λ e. hash_in H.hash_of self.now (E.key_of e))
             self.now }
         ensures unique { IsUniqueBy E.Key.eq E.key_of self.now }
     {
@@ -128,14 +125,14 @@ where
     /// Returns the hash of `key` under the hasher of the buckets.
     #[inline(always)]
     pub fn hash(&self, key: &E::Key) -> u64
-        ensures { result ≡ key_hash H.BuildHasher H.Hasher.Hasher E.Key.hash_input self.now key.now }
+        ensures { result ≡ hash_in H.hash_of self.now key.now }
     {
         self.router.hash(key)
     }
 
     /// Returns the number of the bucket of `key`, 0 if there is no array.
     pub fn bucket_index(&self, key: &E::Key) -> usize
-        ensures { result ≡ bucket_of (key_hash H.BuildHasher H.Hasher.Hasher E.Key.hash_input self.now) self.now
+        ensures { result ≡ bucket_of (hash_in H.hash_of self.now) self.now
             key.now }
     {
         self.router
@@ -145,10 +142,10 @@ where
     /// Returns the place of the entry whose key equals `key`, or `None`. `hash` must be the hash of `key`.
     #[inline(always)]
     pub fn search(&self, hash: u64, key: &E::Key) -> Option<Place>
-        requires { hash ≡ key_hash H.BuildHasher H.Hasher.Hasher E.Key.hash_input self.now key.now }
+        requires { hash ≡ hash_in H.hash_of self.now key.now }
         ensures place { MatchOption result (position (λ e. E.Key.eq key.now (E.key_of e)) (entries self.now) ≡ None)
             (IsFoundAtSpot (λ e. E.Key.eq key.now (E.key_of e)) self.now) }
-        ensures routed { IsRouted (λ e. key_hash H.BuildHasher H.Hasher.Hasher E.Key.hash_input self.now (E.key_of e))
+        ensures routed { IsRouted (λ e. hash_in H.hash_of self.now (E.key_of e))
             self.now }
         ensures unique { IsUniqueBy E.Key.eq E.key_of self.now }
     {

@@ -1,7 +1,7 @@
 //! Searches that return the entry or its slot, and reads.
 ghost use Rattle.scc_buckets.specs.Bounded.{IsBounded, IsListed, IsListedAtSpot, IsUnlisted};
 ghost use Rattle.scc_buckets.specs.Places.{IsSpot};
-ghost use Rattle.scc_common.specs.Contents.{entries, key_hash, bucket_count, list_of, settings_of, IsUniqueBy, IsRouted};
+ghost use Rattle.scc_common.specs.Contents.{entries, hash_in, bucket_count, list_of, settings_of, IsUniqueBy, IsRouted};
 ghost use Rattle.scc_common.specs.Routing.{bucket_number};
 ghost use Rattle.std.specs.List.{find, position};
 ghost use Rattle.std.specs.Option.{option_copied};
@@ -9,17 +9,16 @@ ghost use Rattle.std.specs.Prelude.{◌≡◌, MatchOption, Some, None, ◌<◌,
 
 use crate::Buckets;
 use crate::place::{Place, tag};
-use scc_common::Keyed;
-use std::hash::{BuildHasher, Hash};
+use scc_common::{Hashes, Keyed};
 
-impl<E: Keyed, H: BuildHasher> Buckets<E, H>
+impl<E: Keyed, H: Hashes<E::Key>> Buckets<E, H>
 where
-    E::Key: Eq + Hash,
+    E::Key: Eq,
 {
     /// Returns the entry whose key equals `key`, or `None`. `hash` must be the hash of `key`.
     #[inline(always)]
     pub fn find(&self, hash: u64, key: &E::Key) -> Option<&E>
-        requires { hash ≡ key_hash H.BuildHasher H.Hasher.Hasher E.Key.hash_input self.now key.now }
+        requires { hash ≡ hash_in H.hash_of self.now key.now }
         ensures { option_copied result ≡ find (λ e. E.Key.eq key.now (E.key_of e)) (entries self.now) }
     {
         let count = self.buckets.len();
@@ -51,7 +50,7 @@ where
     /// As `find`, for a key whose hash wasn't the hint.
     #[cold]
     fn find_anew(&self, hash: u64, key: &E::Key) -> Option<&E>
-        requires { hash ≡ key_hash H.BuildHasher H.Hasher.Hasher E.Key.hash_input self.now key.now }
+        requires { hash ≡ hash_in H.hash_of self.now key.now }
         ensures { option_copied result ≡ find (λ e. E.Key.eq key.now (E.key_of e)) (entries self.now) }
     {
         self.find(hash, key)
@@ -61,7 +60,7 @@ where
     /// hash of `key`, there is no such entry.
     #[inline(always)]
     fn find_hinted(&self, hint: u64, key: &E::Key) -> Option<&E>
-        ensures { MatchOption result (hint ≡ key_hash H.BuildHasher H.Hasher.Hasher E.Key.hash_input self.now key.now
+        ensures { MatchOption result (hint ≡ hash_in H.hash_of self.now key.now
             → find (λ e. E.Key.eq key.now (E.key_of e)) (entries self.now) ≡ None)
             (λ b. find (λ e. E.Key.eq key.now (E.key_of e)) (entries self.now) ≡ Some b.now) }
     {
@@ -82,10 +81,10 @@ where
     pub fn search_in(&self, bucket: usize, hash: u64, key: &E::Key) -> Option<usize>
         requires within { bucket < bucket_count self.now }
         requires routed { bucket ≡ bucket_number (settings_of self.now).skipped (bucket_count self.now) hash }
-        requires hashed { hash ≡ key_hash H.BuildHasher H.Hasher.Hasher E.Key.hash_input self.now key.now }
+        requires hashed { hash ≡ hash_in H.hash_of self.now key.now }
         ensures place { result ≡ position (λ e. E.Key.eq key.now (E.key_of e)) (list_of self.now bucket) }
         ensures missed { result ≡ None → position (λ e. E.Key.eq key.now (E.key_of e)) (entries self.now) ≡ None }
-        ensures routed { IsRouted (λ e. key_hash H.BuildHasher H.Hasher.Hasher E.Key.hash_input self.now (E.key_of e))
+        ensures routed { IsRouted (λ e. hash_in H.hash_of self.now (E.key_of e))
             self.now }
     {
         self.buckets.search(bucket, key, tag(hash))
@@ -94,7 +93,7 @@ where
     /// As `search`, but the contract speaks of the list of the bucket. `hash` must be the hash of `key`.
     #[inline(always)]
     pub fn search_place(&self, hash: u64, key: &E::Key) -> Option<Place>
-        requires { hash ≡ key_hash H.BuildHasher H.Hasher.Hasher E.Key.hash_input self.now key.now }
+        requires { hash ≡ hash_in H.hash_of self.now key.now }
         ensures { MatchOption result (IsUnlisted (λ e. E.Key.eq key.now (E.key_of e)) self.now
             (bucket_number (settings_of self.now).skipped (bucket_count self.now) hash))
             (IsListedAtSpot (λ e. E.Key.eq key.now (E.key_of e)) self.now
@@ -125,8 +124,8 @@ where
         requires { bucket < bucket_count self.now }
         ensures len { result ≡ length (list_of self.now bucket) }
         ensures listed { IsBounded self.now → IsListed
-            (λ e. key_hash H.BuildHasher H.Hasher.Hasher E.Key.hash_input self.now (E.key_of e)) self.now }
-        ensures routed { IsRouted (λ e. key_hash H.BuildHasher H.Hasher.Hasher E.Key.hash_input self.now (E.key_of e))
+            (λ e. hash_in H.hash_of self.now (E.key_of e)) self.now }
+        ensures routed { IsRouted (λ e. hash_in H.hash_of self.now (E.key_of e))
             self.now }
         ensures unique { IsUniqueBy E.Key.eq E.key_of self.now }
     {
@@ -138,7 +137,7 @@ where
     pub fn bucket_at(&self, hash: u64) -> usize
         ensures value { result ≡ bucket_number (settings_of self.now).skipped (bucket_count self.now) hash }
         ensures within { 0 < bucket_count self.now → result < bucket_count self.now }
-        ensures routed { IsRouted (λ e. key_hash H.BuildHasher H.Hasher.Hasher E.Key.hash_input self.now (E.key_of e))
+        ensures routed { IsRouted (λ e. hash_in H.hash_of self.now (E.key_of e))
             self.now }
         ensures unique { IsUniqueBy E.Key.eq E.key_of self.now }
     {

@@ -2,25 +2,24 @@
 ghost use Rattle.scc_array.specs.Shelf.{shelf_entries};
 ghost use Rattle.scc_buckets.specs.Making.{AreNewBuckets, MakesBuckets, InstallsFirstArray, InstallsBuckets};
 ghost use Rattle.scc_buckets.specs.Tables.{AllEmpty, IsBuckets};
-ghost use Rattle.scc_common.specs.Contents.{entries, bucket_count, settings_of, key_hash, overflow_of, notes_of, IsRouted, IsUniqueBy};
+ghost use Rattle.scc_common.specs.Contents.{entries, bucket_count, settings_of, hash_in, overflow_of, notes_of, IsRouted, IsUniqueBy};
 ghost use Rattle.std.specs.List.{flat_map, IsDistinct};
 ghost use Rattle.std.specs.Prelude.{◌≡◌, ◌<◌, ◌≤◌, ◌+◌, ◌*◌, ◌^◌, [], false, length, IfOk, map};
 
 use crate::sizes::buckets_for;
 use crate::{Buckets, Router};
 use scc_array::Array;
-use scc_common::{Keyed, MakeError};
+use scc_common::{Hashes, Keyed, MakeError};
 use std::alloc::{AllocError, Global};
-use std::hash::{BuildHasher, Hash};
 
-impl<E: Keyed, H: BuildHasher> Buckets<E, H>
+impl<E: Keyed, H: Hashes<E::Key>> Buckets<E, H>
 where
-    E::Key: Eq + Hash,
+    E::Key: Eq,
 {
     /// Returns the allocator of the buckets.
     pub fn allocator(&self) -> Global
         ensures few { overflow_of self.now < 2 ^ 62 }
-        ensures routed { IsRouted (λ e. key_hash H.BuildHasher H.Hasher.Hasher E.Key.hash_input self.now (E.key_of e))
+        ensures routed { IsRouted (λ e. hash_in H.hash_of self.now (E.key_of e))
             self.now }
         ensures unique { IsUniqueBy E.Key.eq E.key_of self.now }
     {
@@ -31,7 +30,7 @@ where
     /// bucket waits. Allocates nothing.
     pub fn new(alloc: Global, skipped: u32, hasher: H) -> Buckets<E, H>
         requires { skipped ≤ 4 }
-        ensures { AreNewBuckets E.key_of (key_hash H.BuildHasher H.Hasher.Hasher E.Key.hash_input)
+        ensures { AreNewBuckets E.key_of (hash_in H.hash_of)
             hasher skipped result }
     {
         Buckets::bare(alloc, Router::new(skipped, hasher))
@@ -39,7 +38,7 @@ where
 
     /// Makes buckets without an array, as `new` does, with `router`.
     pub(crate) fn bare(alloc: Global, router: Router<H>) -> Buckets<E, H>
-        ensures { AreNewBuckets E.key_of (key_hash H.BuildHasher H.Hasher.Hasher E.Key.hash_input)
+        ensures { AreNewBuckets E.key_of (hash_in H.hash_of)
             router.hasher router.skipped result }
     {
         Buckets {
@@ -65,7 +64,7 @@ where
     where
         H: Drop,
         requires { skipped ≤ 4 }
-        ensures { MakesBuckets E.key_of (key_hash H.BuildHasher H.Hasher.Hasher E.Key.hash_input)
+        ensures { MakesBuckets E.key_of (hash_in H.hash_of)
             hasher skipped slots result }
     {
         if slots == 0 {
@@ -90,7 +89,7 @@ where
     /// Makes the first array, with the size of the minimum.
     pub fn install_first(&mut self) -> Result<(), AllocError>
         requires { bucket_count self.old ≡ 0 }
-        ensures { InstallsFirstArray (λ e. key_hash H.BuildHasher H.Hasher.Hasher E.Key.hash_input self.old (E.key_of e))
+        ensures { InstallsFirstArray (λ e. hash_in H.hash_of self.old (E.key_of e))
             self.old result self.new }
     {
         let count = buckets_for(self.asked + self.reserved);
@@ -125,10 +124,10 @@ where
         count: usize,
         overflowing: usize,
     ) -> (Array<E>, usize, usize)
-        requires table { IsBuckets (λ e. key_hash H.BuildHasher H.Hasher.Hasher E.Key.hash_input self.old
+        requires table { IsBuckets (λ e. hash_in H.hash_of self.old
             (E.key_of e)) (settings_of self.old).skipped buckets count overflowing }
         requires unique { IsDistinct E.Key.eq (map E.key_of (flat_map shelf_entries buckets)) }
-        ensures { InstallsBuckets (λ e. key_hash H.BuildHasher H.Hasher.Hasher E.Key.hash_input self.old (E.key_of e))
+        ensures { InstallsBuckets (λ e. hash_in H.hash_of self.old (E.key_of e))
             self.old buckets overflowing result self.new }
     {
         let own_count = self.length;

@@ -2,18 +2,17 @@
 ghost use Rattle.scc_buckets.specs.Places.{IsSpot};
 ghost use Rattle.scc_buckets.specs.Removals.{TakesAtSpot, SwapsOutAtSpot};
 ghost use Rattle.scc_buckets.specs.Takes.{TakesFirstSpot};
-ghost use Rattle.scc_common.specs.Contents.{key_hash};
+ghost use Rattle.scc_common.specs.Contents.{hash_in};
 ghost use Rattle.std.specs.Prelude.{◌≡◌, ◌<◌, ◌+◌, ◌-◌, None};
 
 use crate::Buckets;
 use crate::insert::one_if;
 use crate::place::{Place, tag};
-use scc_common::Keyed;
-use std::hash::{BuildHasher, Hash};
+use scc_common::{Hashes, Keyed};
 
-impl<E: Keyed, H: BuildHasher> Buckets<E, H>
+impl<E: Keyed, H: Hashes<E::Key>> Buckets<E, H>
 where
-    E::Key: Eq + Hash,
+    E::Key: Eq,
 {
     /// Takes the entry at `place` out, and returns it. The other entries keep their order, and the number of entries
     /// before `place` stays.
@@ -46,7 +45,7 @@ where
     /// of the slots of its bucket, or of the overflow list, may move into its slot. `hash` must be the hash of `key`.
     #[inline(always)]
     pub fn take_first(&mut self, hash: u64, key: &E::Key) -> Option<E>
-        requires { hash ≡ key_hash H.BuildHasher H.Hasher.Hasher E.Key.hash_input self.old key.now }
+        requires { hash ≡ hash_in H.hash_of self.old key.now }
         ensures { TakesFirstSpot (λ e. E.Key.eq key.now (E.key_of e)) self.old self.new result }
     {
         let count = self.buckets.len();

@@ -1,11 +1,9 @@
 //! `Router`: the bucket of a key.
-ghost use Rattle.scc_buckets.specs.Routes.{hash_by};
 ghost use Rattle.scc_common.specs.Routing.{bucket_number};
 ghost use Rattle.std.specs.Prelude.{◌≡◌, ◌≤◌, ◌<◌, IfOk};
 
 use crate::place::bucket_index;
-use scc_common::MakeError;
-use std::hash::{BuildHasher, Hash};
+use scc_common::{Hashes, MakeError};
 use std::marker::Model;
 
 /// The hasher, and the number of first bits of each hash that are skipped. It says where a key belongs in an array, and
@@ -65,12 +63,14 @@ impl<H> Router<H> {
     }
 }
 
-impl<H: BuildHasher> Router<H> {
+impl<H> Router<H> {
     /// Returns the hash of `key`.
     #[inline(always)]
-    pub fn hash<K: Hash>(&self, key: &K) -> u64
-        ensures { result ≡ hash_by H.BuildHasher H.Hasher.Hasher K.hash_input self.now key.now }
+    pub fn hash<K: Eq>(&self, key: &K) -> u64
+    where
+        H: Hashes<K>,
+        ensures { result ≡ H.hash_of self.now.hasher key.now }
     {
-        self.hasher.hash_one(key)
+        self.hasher.hash(key)
     }
 }

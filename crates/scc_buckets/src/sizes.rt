@@ -6,8 +6,7 @@ ghost use Rattle.scc_common.specs.Steps.{IsUnchanged};
 ghost use Rattle.std.specs.Prelude.{◌≡◌, ◌*◌, ◌≤◌, ◌<◌, ◌+◌, ◌-◌, ◌^◌, false};
 
 use crate::Buckets;
-use scc_common::Keyed;
-use std::hash::{BuildHasher, Hash};
+use scc_common::{Hashes, Keyed};
 
 /// The greatest capacity, in slots.
 pub const GREATEST_CAPACITY: usize = 1 << 63;
@@ -37,9 +36,9 @@ pub fn buckets_for(slots: usize) -> usize
     slots_for(slots) / 32
 }
 
-impl<E: Keyed, H: BuildHasher> Buckets<E, H>
+impl<E: Keyed, H: Hashes<E::Key>> Buckets<E, H>
 where
-    E::Key: Eq + Hash,
+    E::Key: Eq,
 {
     /// Returns the minimum: the slots asked for at making, and the slots reserved.
     #[inline(always)]

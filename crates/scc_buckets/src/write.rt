@@ -4,19 +4,18 @@ ghost use Rattle.scc_buckets.specs.LendsBuckets.{lends_value};
 ghost use Rattle.scc_buckets.specs.Places.{IsSpot, index_of_spot};
 ghost use Rattle.scc_buckets.specs.Updates.{UpdatesFirstSpot};
 ghost use Rattle.scc_buckets.specs.Writes.{with_write_at_spot};
-ghost use Rattle.scc_common.specs.Contents.{entries, key_hash};
+ghost use Rattle.scc_common.specs.Contents.{entries, hash_in};
 ghost use Rattle.std.specs.Borrow.{Bor, MutBor, sem};
 ghost use Rattle.std.specs.List.{find};
 ghost use Rattle.std.specs.Prelude.{◌≡◌, ◌<◌, Some, None, true, slice_get};
 
 use crate::Buckets;
 use crate::place::{Place, tag};
-use scc_common::{Keyed, Valued};
-use std::hash::{BuildHasher, Hash};
+use scc_common::{Hashes, Keyed, Valued};
 
-impl<E: Keyed, H: BuildHasher> Buckets<E, H>
+impl<E: Keyed, H: Hashes<E::Key>> Buckets<E, H>
 where
-    E::Key: Eq + Hash,
+    E::Key: Eq,
 {
     /// Replaces the entry at `place` by `entry`, and returns the old entry. The two keys must be equal.
     pub fn replace_at(&mut self, place: Place, entry: E) -> E
@@ -30,9 +29,9 @@ where
     }
 }
 
-impl<E: Valued, H: BuildHasher> Buckets<E, H>
+impl<E: Valued, H: Hashes<E::Key>> Buckets<E, H>
 where
-    E::Key: Eq + Hash,
+    E::Key: Eq,
 {
     /// Calls `u` with the key and the value of the entry whose key equals `key`, and returns the result of `u`. `u` may
     /// write to the value. Returns `None` if there is no such entry. `hash` must be the hash of `key`.
@@ -43,7 +42,7 @@ where
         key: &E::Key,
         u: U,
     ) -> Option<R>
-        requires hashed { hash ≡ key_hash H.BuildHasher H.Hasher.Hasher E.Key.hash_input self.old key.now }
+        requires hashed { hash ≡ hash_in H.hash_of self.old key.now }
         requires takes { (e : E) (a : Bor E.Key) (b : MutBor E.Value)
             → find (λ e. E.Key.eq key.now (E.Keyed.key_of e)) (entries self.old) ≡ Some e → a.now ≡ E.Keyed.key_of e
             → b.now ≡ E.value_of e → U.pre u a b }
@@ -62,8 +61,8 @@ where
     #[inline(always)]
     pub fn parts_mut_at(&mut self, place: Place) -> (&E::Key, &mut E::Value)
         requires { IsSpot self.old place }
-        ensures* writes_back { sem 𝓛 (lends_value E.row H.row E.Key.row H.Hasher.row E.Value.row E.Keyed E.Key.Hash
-            H.BuildHasher H.Hasher.Hasher E.with_value self.entry place result.1) }
+        ensures* writes_back { sem 𝓛 (lends_value E.row H.row E.Key.row E.Value.row E.Keyed E.Key.PartialEq H.Hashes
+            E.with_value self.entry place result.1) }
         ensures parts { (e : E) × (slice_get (entries self.old) (index_of_spot self.old place) ≡ Some e)
             × (result.0.now ≡ E.Keyed.key_of e) × (result.1.now ≡ E.value_of e) }
     {

@@ -1,14 +1,13 @@
 //! Counts of the entries of a bucket that belong to a bucket of another array, and the limit of overflow lists.
 ghost use Rattle.scc_buckets.specs.Pour.{destined_for};
-ghost use Rattle.scc_common.specs.Contents.{bucket_count, key_hash, list_of, settings_of};
+ghost use Rattle.scc_common.specs.Contents.{bucket_count, hash_in, list_of, settings_of};
 ghost use Rattle.std.specs.Prelude.{◌≡◌, ◌<◌, ◌≤◌, length, take, ◌+◌, ◌-◌, ◌^◌, ◌⊎◌, IsTrue};
 
 use scc_buckets::{Buckets, Place, overflow_room};
-use scc_common::Keyed;
-use std::hash::{BuildHasher, Hash};
+use scc_common::{Hashes, Keyed};
 
 /// Returns how many of the first `first` entries of `bucket` belong to the bucket `target` of `count`.
-pub fn count_destined<E: Keyed, H: BuildHasher>(
+pub fn count_destined<E: Keyed, H: Hashes<E::Key>>(
     table: &Buckets<E, H>,
     bucket: usize,
     first: usize,
@@ -16,11 +15,11 @@ pub fn count_destined<E: Keyed, H: BuildHasher>(
     count: usize,
 ) -> usize
 where
-    E::Key: Eq + Hash,
+    E::Key: Eq,
     requires within { bucket < bucket_count table.now }
     requires first { first ≤ length (list_of table.now bucket) }
     ensures { result ≡ length (destined_for
-        (λ e. key_hash H.BuildHasher H.Hasher.Hasher E.Key.hash_input table.now (E.key_of e))
+        (λ e. hash_in H.hash_of table.now (E.key_of e))
         (settings_of table.now).skipped count target
         (take first (list_of table.now bucket))) }
 {

@@ -1,7 +1,6 @@
 //! `Draining`: the old array of a table, and the buckets that wait for its entries.
 ghost use Rattle.scc_array.specs.Shelf.{shelf_entries};
 ghost use Rattle.scc_array.specs.Shelves.{shelf_of};
-ghost use Rattle.scc_buckets.specs.Routes.{hash_by};
 ghost use Rattle.scc_common.specs.Routing.{bucket_number};
 ghost use Rattle.scc_draining.specs.Drainings.{TakesFromOld};
 ghost use Rattle.scc_draining.specs.Moves.{AreOwn};
@@ -12,8 +11,7 @@ ghost use Rattle.std.specs.Prelude.{◌≡◌, ◌<◌, ◌≤◌, false, length
 use scc_array::Array;
 use scc_buckets::place::tag;
 use scc_buckets::{Place, Router};
-use scc_common::Keyed;
-use std::hash::{BuildHasher, Hash};
+use scc_common::{Hashes, Keyed};
 
 /// The old array, and the flags of the buckets of the current array that wait for its entries. `pending` buckets wait,
 /// none of them before `next`. The old array holds `left` entries, at most `left_overflow` of them in overflow lists.
@@ -40,21 +38,21 @@ impl<E> Draining<E> {
 
 impl<E: Keyed> Draining<E>
 where
-    E::Key: Eq + Hash,
+    E::Key: Eq,
 {
     /// Returns the place in the old array of the first entry whose key equals `key`, or `None`. Only the old bucket of
     /// `hash`, which must be the hash of `key`, is searched.
     #[inline(always)]
-    pub fn search<H: BuildHasher>(
+    pub fn search<H: Hashes<E::Key>>(
         &self,
         router: &Router<H>,
         hash: u64,
         key: &E::Key,
     ) -> Option<Place>
         requires some { 0 < length self.now.array }
-        requires own { AreOwn (λ e. hash_by H.BuildHasher H.Hasher.Hasher E.Key.hash_input router.now (E.key_of e))
+        requires own { AreOwn (λ e. H.hash_of router.now.hasher (E.key_of e))
             router.now.skipped self.now.array }
-        requires hashed { hash ≡ hash_by H.BuildHasher H.Hasher.Hasher E.Key.hash_input router.now key.now }
+        requires hashed { hash ≡ H.hash_of router.now.hasher key.now }
         ensures { MatchOption result (position (λ e. E.Key.eq key.now (E.key_of e)) (shelf_entries
             (shelf_of self.now.array (bucket_number router.now.skipped (length self.now.array) hash))) ≡ None)
             (λ p. (p.bucket ≡ bucket_number router.now.skipped (length self.now.array) hash)
@@ -72,11 +70,11 @@ where
     /// Returns the first entry of the old bucket of `hash` whose key equals `key`, or `None`. `hash` must be the hash
     /// of `key`.
     #[inline(always)]
-    pub fn find<H: BuildHasher>(&self, router: &Router<H>, hash: u64, key: &E::Key) -> Option<&E>
+    pub fn find<H: Hashes<E::Key>>(&self, router: &Router<H>, hash: u64, key: &E::Key) -> Option<&E>
         requires some { 0 < length self.now.array }
-        requires own { AreOwn (λ e. hash_by H.BuildHasher H.Hasher.Hasher E.Key.hash_input router.now (E.key_of e))
+        requires own { AreOwn (λ e. H.hash_of router.now.hasher (E.key_of e))
             router.now.skipped self.now.array }
-        requires hashed { hash ≡ hash_by H.BuildHasher H.Hasher.Hasher E.Key.hash_input router.now key.now }
+        requires hashed { hash ≡ H.hash_of router.now.hasher key.now }
         ensures { option_copied result ≡ find (λ e. E.Key.eq key.now (E.key_of e)) (shelf_entries
             (shelf_of self.now.array (bucket_number router.now.skipped (length self.now.array) hash))) }
     {
@@ -87,11 +85,16 @@ where
     /// Takes the first entry whose key equals `key` out of the old bucket of `hash`, and returns it, or `None`. `hash`
     /// must be the hash of `key`. The last entry of the slots with a tag, or of the overflow list, takes its slot.
     #[inline(always)]
-    pub fn take<H: BuildHasher>(&mut self, router: &Router<H>, hash: u64, key: &E::Key) -> Option<E>
+    pub fn take<H: Hashes<E::Key>>(
+        &mut self,
+        router: &Router<H>,
+        hash: u64,
+        key: &E::Key,
+    ) -> Option<E>
         requires some { 0 < length self.old.array }
-        requires own { AreOwn (λ e. hash_by H.BuildHasher H.Hasher.Hasher E.Key.hash_input router.now (E.key_of e))
+        requires own { AreOwn (λ e. H.hash_of router.now.hasher (E.key_of e))
             router.now.skipped self.old.array }
-        requires hashed { hash ≡ hash_by H.BuildHasher H.Hasher.Hasher E.Key.hash_input router.now key.now }
+        requires hashed { hash ≡ H.hash_of router.now.hasher key.now }
         requires left { length (shelf_entries (shelf_of self.old.array
             (bucket_number router.now.skipped (length self.old.array) hash))) ≤ self.old.left }
         ensures { TakesFromOld (λ e. E.Key.eq key.now (E.key_of e))

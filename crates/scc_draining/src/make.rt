@@ -7,9 +7,8 @@ ghost use Rattle.std.specs.Prelude.{◌≡◌, ◌≤◌, ◌^◌, true, replica
 
 use scc_array::Array;
 use scc_buckets::Buckets;
-use scc_common::{Keyed, MakeError};
+use scc_common::{Hashes, Keyed, MakeError};
 use std::alloc::{AllocError, Global};
-use std::hash::{BuildHasher, Hash};
 
 /// Makes an array of `count` empty buckets, and a flag for each bucket, which says that it waits.
 pub fn fresh_waiting<E>(alloc: Global, count: usize) -> Result<(Array<E>, Vec<bool>), AllocError>
@@ -28,12 +27,12 @@ pub fn fresh_waiting<E>(alloc: Global, count: usize) -> Result<(Array<E>, Vec<bo
 }
 
 /// Inserts a clone of each entry of the array `old` into `table`, without a resize.
-pub fn insert_clones_of<E: Keyed + Clone, H: BuildHasher>(
+pub fn insert_clones_of<E: Keyed + Clone, H: Hashes<E::Key>>(
     table: &mut Buckets<E, H>,
     old: &Array<E>,
 ) -> Result<(), MakeError>
 where
-    E::Key: Eq + Hash,
+    E::Key: Eq,
     requires few { (j : ℕ) → length (shelf_entries (shelf_of old.now j)) < 2 ^ 63 }
     ensures { OnOk result (AddsClones E.is_clone (flat_map shelf_entries old.now) table.old table.new) }
 {

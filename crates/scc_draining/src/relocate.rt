@@ -3,9 +3,8 @@ ghost use Rattle.scc_array.specs.Shelf.{empty_shelf, shelf_entries};
 ghost use Rattle.scc_array.specs.Shelves.{shelf_of};
 ghost use Rattle.scc_array.specs.Sifts.{raised};
 ghost use Rattle.scc_buckets.specs.Pour.{IsPacked, destined_for};
-ghost use Rattle.scc_buckets.specs.Routes.{hash_by};
 ghost use Rattle.scc_buckets.specs.Tables.{overflow_in};
-ghost use Rattle.scc_common.specs.Contents.{bucket_count, key_hash, list_of, lists_of, settings_of, overflow_of};
+ghost use Rattle.scc_common.specs.Contents.{bucket_count, hash_in, list_of, lists_of, settings_of, overflow_of};
 ghost use Rattle.scc_common.specs.Routing.{bucket_number};
 ghost use Rattle.scc_common.specs.Sizes.{IsBucketCount};
 ghost use Rattle.scc_draining.specs.Moves.{AreMultiples, AreOwn, AreSiblings, Drains, IsDrainable, IsPullable, IsWithinSources, Pulls};
@@ -16,9 +15,8 @@ ghost use Rattle.std.specs.Prelude.{◌≡◌, ◌==◌, ◌<◌, ◌≤◌, ◌
 use scc_array::Array;
 use scc_buckets::place::tag;
 use scc_buckets::{Buckets, Router, overflow_room};
-use scc_common::Keyed;
+use scc_common::{Hashes, Keyed};
 use std::alloc::AllocError;
-use std::hash::{BuildHasher, Hash};
 
 /// One relocation: the entries that belong to the bucket `target` of the new array, which has `count` buckets, stand in
 /// the old buckets from `first` up to before `last`. If `whole`, these old buckets hold no other entries.
@@ -34,7 +32,7 @@ pub struct Relocation {
 impl Relocation {
     /// Sets the flag of each slot of the old bucket `source` to 1 if its entry belongs to the target, or else to 0.
     #[inline(always)]
-    fn flags_of<E: Keyed, H: BuildHasher>(
+    fn flags_of<E: Keyed, H: Hashes<E::Key>>(
         &self,
         router: &Router<H>,
         old: &Array<E>,
@@ -42,11 +40,11 @@ impl Relocation {
         flags: &mut [u8; 32],
     )
     where
-        E::Key: Eq + Hash,
+        E::Key: Eq,
         requires { source < length old.now }
         ensures { (j : ℕ) (e : E) → slice_get (shelf_of old.now source).slots j ≡ Some e
             → slice_get (raised flags.new) j ≡ Some (bucket_number router.now.skipped self.now.count
-            (hash_by H.BuildHasher H.Hasher.Hasher E.Key.hash_input router.now (E.key_of e)) == self.now.target) }
+            (H.hash_of router.now.hasher (E.key_of e)) == self.now.target) }
     {
         let slots = old.slot_count(source);
         for slot in 0..slots {
@@ -58,7 +56,7 @@ impl Relocation {
     /// As `pull`, but moves entry by entry: for an old bucket with entries in its overflow list, and for a target whose
     /// free slots may not suffice.
     #[cold]
-    fn pull_each<E: Keyed, H: BuildHasher>(
+    fn pull_each<E: Keyed, H: Hashes<E::Key>>(
         &self,
         router: &Router<H>,
         old: &mut Array<E>,
@@ -66,10 +64,10 @@ impl Relocation {
         source: usize,
     )
     where
-        E::Key: Eq + Hash,
-        requires { IsPullable (λ e. hash_by H.BuildHasher H.Hasher.Hasher E.Key.hash_input router.now (E.key_of e))
+        E::Key: Eq,
+        requires { IsPullable (λ e. H.hash_of router.now.hasher (E.key_of e))
             router.now.skipped self.now.count self.now.target source old.old into.old }
-        ensures pulls { Pulls (λ e. hash_by H.BuildHasher H.Hasher.Hasher E.Key.hash_input router.now (E.key_of e))
+        ensures pulls { Pulls (λ e. H.hash_of router.now.hasher (E.key_of e))
             router.now.skipped self.now.count self.now.target source old.old (shelf_of into.old self.now.target)
             old.new (shelf_of into.new self.now.target) }
         ensures others { into.new ≡ slice_set into.old self.now.target (shelf_of into.new self.now.target) }
@@ -90,7 +88,7 @@ impl Relocation {
     /// Moves the entries of the old bucket `source` that belong to the target to the end of the target, in order. The
     /// target must have room for them, so nothing is allocated. The others keep their order. If `whole`, the old bucket
     /// holds no others, and its entries aren't hashed unless `pull_each` moves them.
-    fn pull<E: Keyed, H: BuildHasher>(
+    fn pull<E: Keyed, H: Hashes<E::Key>>(
         &self,
         router: &Router<H>,
         old: &mut Array<E>,
@@ -98,13 +96,13 @@ impl Relocation {
         source: usize,
     )
     where
-        E::Key: Eq + Hash,
-        requires pullable { IsPullable (λ e. hash_by H.BuildHasher H.Hasher.Hasher E.Key.hash_input router.now (E.key_of e))
+        E::Key: Eq,
+        requires pullable { IsPullable (λ e. H.hash_of router.now.hasher (E.key_of e))
             router.now.skipped self.now.count self.now.target source old.old into.old }
-        requires joined { IsTrue self.now.whole → destined_for (λ e. hash_by H.BuildHasher H.Hasher.Hasher E.Key.hash_input router.now (E.key_of e))
+        requires joined { IsTrue self.now.whole → destined_for (λ e. H.hash_of router.now.hasher (E.key_of e))
             router.now.skipped self.now.count self.now.target (shelf_entries (shelf_of old.old source))
             ≡ shelf_entries (shelf_of old.old source) }
-        ensures pulls { Pulls (λ e. hash_by H.BuildHasher H.Hasher.Hasher E.Key.hash_input router.now (E.key_of e))
+        ensures pulls { Pulls (λ e. H.hash_of router.now.hasher (E.key_of e))
             router.now.skipped self.now.count self.now.target source old.old (shelf_of into.old self.now.target)
             old.new (shelf_of into.new self.now.target) }
         ensures others { into.new ≡ slice_set into.old self.now.target (shelf_of into.new self.now.target) }
@@ -129,24 +127,24 @@ impl Relocation {
 
     /// Moves the entries of all old buckets that belong to the target to the end of the target, in order. The target
     /// must have room for them. The others keep their order.
-    fn drain<E: Keyed, H: BuildHasher>(
+    fn drain<E: Keyed, H: Hashes<E::Key>>(
         &self,
         router: &Router<H>,
         old: &mut Array<E>,
         into: &mut Array<E>,
     )
     where
-        E::Key: Eq + Hash,
-        requires drainable { IsDrainable (λ e. hash_by H.BuildHasher H.Hasher.Hasher E.Key.hash_input router.now (E.key_of e))
+        E::Key: Eq,
+        requires drainable { IsDrainable (λ e. H.hash_of router.now.hasher (E.key_of e))
             router.now.skipped self.now.count self.now.target self.now.first self.now.last self.now.whole old.old }
         requires target { self.now.target < length into.old }
-        requires packed { IsPacked (λ e. hash_by H.BuildHasher H.Hasher.Hasher E.Key.hash_input router.now (E.key_of e))
+        requires packed { IsPacked (λ e. H.hash_of router.now.hasher (E.key_of e))
             (shelf_of into.old self.now.target) }
         requires room { length (shelf_entries (shelf_of into.old self.now.target)) + length (destined_for
-            (λ e. hash_by H.BuildHasher H.Hasher.Hasher E.Key.hash_input router.now (E.key_of e))
+            (λ e. H.hash_of router.now.hasher (E.key_of e))
             router.now.skipped self.now.count self.now.target (flat_map shelf_entries old.old))
             ≤ 32 + (shelf_of into.old self.now.target).room }
-        ensures drains { Drains (λ e. hash_by H.BuildHasher H.Hasher.Hasher E.Key.hash_input router.now (E.key_of e))
+        ensures drains { Drains (λ e. H.hash_of router.now.hasher (E.key_of e))
             router.now.skipped self.now.count self.now.target old.old (shelf_of into.old self.now.target) old.new
             (shelf_of into.new self.now.target) }
         ensures others { into.new ≡ slice_set into.old self.now.target (shelf_of into.new self.now.target) }
@@ -159,7 +157,7 @@ impl Relocation {
     /// Moves the entries of all old buckets that belong to the target into the target, in order. The target must be
     /// empty, and the entries at most `coming`. Fails if memory is refused, or if more than `left` of `coming` entries
     /// would stand in the overflow list; then all entries stay.
-    fn fill<E: Keyed, H: BuildHasher>(
+    fn fill<E: Keyed, H: Hashes<E::Key>>(
         &self,
         router: &Router<H>,
         old: &mut Array<E>,
@@ -168,15 +166,15 @@ impl Relocation {
         left: usize,
     ) -> Result<(), AllocError>
     where
-        E::Key: Eq + Hash,
-        requires drainable { IsDrainable (λ e. hash_by H.BuildHasher H.Hasher.Hasher E.Key.hash_input router.now (E.key_of e))
+        E::Key: Eq,
+        requires drainable { IsDrainable (λ e. H.hash_of router.now.hasher (E.key_of e))
             router.now.skipped self.now.count self.now.target self.now.first self.now.last self.now.whole old.old }
         requires target { self.now.target < length into.old }
         requires empty { shelf_of into.old self.now.target
             ≡ record empty_shelf { room = (shelf_of into.old self.now.target).room } }
-        requires coming { length (destined_for (λ e. hash_by H.BuildHasher H.Hasher.Hasher E.Key.hash_input router.now (E.key_of e))
+        requires coming { length (destined_for (λ e. H.hash_of router.now.hasher (E.key_of e))
             router.now.skipped self.now.count self.now.target (flat_map shelf_entries old.old)) ≤ coming }
-        ensures { Fills (λ e. hash_by H.BuildHasher H.Hasher.Hasher E.Key.hash_input router.now (E.key_of e))
+        ensures { Fills (λ e. H.hash_of router.now.hasher (E.key_of e))
             router.now.skipped self.now.count self.now.target coming left into.old old.old result into.new old.new }
     {
         make_room_for(into, self.target, coming, left)?;
@@ -188,7 +186,7 @@ impl Relocation {
     /// returns their number. The bucket must be empty, and the entries at most `coming`. `aside` entries count as if
     /// they stood in overflow lists of `current`. Fails if memory is refused, or if the overflow lists would hold too
     /// many entries; then all stays.
-    fn move_in<E: Keyed, H: BuildHasher>(
+    fn move_in<E: Keyed, H: Hashes<E::Key>>(
         &self,
         current: &mut Buckets<E, H>,
         old: &mut Array<E>,
@@ -196,22 +194,22 @@ impl Relocation {
         aside: usize,
     ) -> Result<usize, AllocError>
     where
-        E::Key: Eq + Hash,
-        requires drainable { IsDrainable (λ e. key_hash H.BuildHasher H.Hasher.Hasher E.Key.hash_input current.old (E.key_of e))
+        E::Key: Eq,
+        requires drainable { IsDrainable (λ e. hash_in H.hash_of current.old (E.key_of e))
             (settings_of current.old).skipped (bucket_count current.old) self.now.target self.now.first self.now.last
             self.now.whole old.old }
         requires count { self.now.count ≡ bucket_count current.old }
         requires target { self.now.target < bucket_count current.old }
         requires bare { list_of current.old self.now.target ≡ [] }
-        requires coming { length (destined_for (λ e. key_hash H.BuildHasher H.Hasher.Hasher E.Key.hash_input current.old (E.key_of e))
+        requires coming { length (destined_for (λ e. hash_in H.hash_of current.old (E.key_of e))
             (settings_of current.old).skipped (bucket_count current.old) self.now.target (flat_map shelf_entries old.old))
             ≤ coming }
         requires aside { overflow_of current.old + aside < 2 ^ 62 }
         requires unique { IsDistinct E.Key.eq (map E.key_of (flat_map (λ l. l) (slice_set (lists_of current.old)
-            self.now.target (destined_for (λ e. key_hash H.BuildHasher H.Hasher.Hasher E.Key.hash_input current.old (E.key_of e))
+            self.now.target (destined_for (λ e. hash_in H.hash_of current.old (E.key_of e))
             (settings_of current.old).skipped (bucket_count current.old) self.now.target
             (flat_map shelf_entries old.old))))) }
-        ensures { MovesTarget (λ e. key_hash H.BuildHasher H.Hasher.Hasher E.Key.hash_input current.old (E.key_of e))
+        ensures { MovesTarget (λ e. hash_in H.hash_of current.old (E.key_of e))
             self.now.target coming aside current.old old.old result current.new old.new }
     {
         let left = overflow_room(current.overflowing + aside);
@@ -226,17 +224,17 @@ impl Relocation {
     }
 
     /// Returns how many entries of the old bucket `source` belong to the target.
-    fn count_in<E: Keyed, H: BuildHasher>(
+    fn count_in<E: Keyed, H: Hashes<E::Key>>(
         &self,
         router: &Router<H>,
         old: &Array<E>,
         source: usize,
     ) -> usize
     where
-        E::Key: Eq + Hash,
+        E::Key: Eq,
         requires source { source < length old.now }
         requires few { length (shelf_entries (shelf_of old.now source)) < 2 ^ 63 }
-        ensures { result ≡ length (destined_for (λ e. hash_by H.BuildHasher H.Hasher.Hasher E.Key.hash_input router.now (E.key_of e))
+        ensures { result ≡ length (destined_for (λ e. H.hash_of router.now.hasher (E.key_of e))
             router.now.skipped self.now.count self.now.target (shelf_entries (shelf_of old.now source))) }
     {
         let entry_count = old.bucket_len(source);
@@ -251,16 +249,20 @@ impl Relocation {
     }
 
     /// Returns how many entries of all old buckets belong to the target.
-    pub fn count_all<E: Keyed, H: BuildHasher>(&self, router: &Router<H>, old: &Array<E>) -> usize
+    pub fn count_all<E: Keyed, H: Hashes<E::Key>>(
+        &self,
+        router: &Router<H>,
+        old: &Array<E>,
+    ) -> usize
     where
-        E::Key: Eq + Hash,
-        requires sources { IsWithinSources (λ e. hash_by H.BuildHasher H.Hasher.Hasher E.Key.hash_input router.now (E.key_of e))
+        E::Key: Eq,
+        requires sources { IsWithinSources (λ e. H.hash_of router.now.hasher (E.key_of e))
             router.now.skipped self.now.count self.now.target self.now.first self.now.last old.now }
         requires few { (j : ℕ) → length (shelf_of old.now j).overflow < 2 ^ 62 }
-        requires own { AreOwn (λ e. hash_by H.BuildHasher H.Hasher.Hasher E.Key.hash_input router.now (E.key_of e))
+        requires own { AreOwn (λ e. H.hash_of router.now.hasher (E.key_of e))
             router.now.skipped old.now }
         requires most { length (flat_map shelf_entries old.now) < 2 ^ 64 }
-        ensures { result ≡ length (destined_for (λ e. hash_by H.BuildHasher H.Hasher.Hasher E.Key.hash_input router.now (E.key_of e))
+        ensures { result ≡ length (destined_for (λ e. H.hash_of router.now.hasher (E.key_of e))
             router.now.skipped self.now.count self.now.target (flat_map shelf_entries old.now)) }
     {
         let mut found = 0;
@@ -272,16 +274,16 @@ impl Relocation {
 
     /// Returns at least the number of entries of all old buckets that belong to the target. A result greater than 32 is
     /// exact. Hashes no entry if these entries stand in one old bucket of at most 32 entries, or if `whole`.
-    fn count_coming<E: Keyed, H: BuildHasher>(&self, router: &Router<H>, old: &Array<E>) -> usize
+    fn count_coming<E: Keyed, H: Hashes<E::Key>>(&self, router: &Router<H>, old: &Array<E>) -> usize
     where
-        E::Key: Eq + Hash,
-        requires drainable { IsDrainable (λ e. hash_by H.BuildHasher H.Hasher.Hasher E.Key.hash_input router.now (E.key_of e))
+        E::Key: Eq,
+        requires drainable { IsDrainable (λ e. H.hash_of router.now.hasher (E.key_of e))
             router.now.skipped self.now.count self.now.target self.now.first self.now.last self.now.whole old.now }
         requires most { length (flat_map shelf_entries old.now) < 2 ^ 64 }
-        ensures enough { length (destined_for (λ e. hash_by H.BuildHasher H.Hasher.Hasher E.Key.hash_input router.now (E.key_of e))
+        ensures enough { length (destined_for (λ e. H.hash_of router.now.hasher (E.key_of e))
             router.now.skipped self.now.count self.now.target (flat_map shelf_entries old.now)) ≤ result }
         ensures exact { 32 < result → result ≡ length (destined_for
-            (λ e. hash_by H.BuildHasher H.Hasher.Hasher E.Key.hash_input router.now (E.key_of e))
+            (λ e. H.hash_of router.now.hasher (E.key_of e))
             router.now.skipped self.now.count self.now.target (flat_map shelf_entries old.now)) }
     {
         if self.last - self.first == 1 && old.bucket_len(self.first) <= 32 {
@@ -395,7 +397,7 @@ fn len_between<E>(old: &Array<E>, first: usize, last: usize) -> usize
 /// they stood in overflow lists of `current`. `waiting` must have a flag for each bucket of `current`, and `old` must
 /// hold no entry of a bucket whose flag is down. Fails if memory is refused, or if the overflow lists would hold too
 /// many entries; then all stays.
-pub fn move_target<E: Keyed, H: BuildHasher>(
+pub fn move_target<E: Keyed, H: Hashes<E::Key>>(
     current: &mut Buckets<E, H>,
     old: &mut Array<E>,
     target: usize,
@@ -403,24 +405,24 @@ pub fn move_target<E: Keyed, H: BuildHasher>(
     waiting: &[bool],
 ) -> Result<usize, AllocError>
 where
-    E::Key: Eq + Hash,
+    E::Key: Eq,
     requires target { target < bucket_count current.old }
     requires bare { list_of current.old target ≡ [] }
     requires sized { IsBucketCount (length old.old) }
     requires multiples { AreMultiples (length old.old) (bucket_count current.old) }
-    requires own { AreOwn (λ e. key_hash H.BuildHasher H.Hasher.Hasher E.Key.hash_input current.old (E.key_of e))
+    requires own { AreOwn (λ e. hash_in H.hash_of current.old (E.key_of e))
         (settings_of current.old).skipped old.old }
     requires spilled { overflow_in old.old ≤ aside }
     requires aside { overflow_of current.old + aside < 2 ^ 62 }
     requires flags { length waiting.now ≡ bucket_count current.old }
     requires not_waiting { (i : ℕ) → i < bucket_count current.old → slice_index_or waiting.now i false ≡ false →
-        destined_for (λ e. key_hash H.BuildHasher H.Hasher.Hasher E.Key.hash_input current.old (E.key_of e))
+        destined_for (λ e. hash_in H.hash_of current.old (E.key_of e))
         (settings_of current.old).skipped (bucket_count current.old) i (flat_map shelf_entries old.old) ≡ [] }
     requires unique { IsDistinct E.Key.eq (map E.key_of (flat_map (λ l. l) (slice_set (lists_of current.old) target
-        (destined_for (λ e. key_hash H.BuildHasher H.Hasher.Hasher E.Key.hash_input current.old (E.key_of e))
+        (destined_for (λ e. hash_in H.hash_of current.old (E.key_of e))
         (settings_of current.old).skipped (bucket_count current.old) target (flat_map shelf_entries old.old))))) }
-    ensures { MovesTarget (λ e. key_hash H.BuildHasher H.Hasher.Hasher E.Key.hash_input current.old (E.key_of e)) target
-        (length (destined_for (λ e. key_hash H.BuildHasher H.Hasher.Hasher E.Key.hash_input current.old (E.key_of e))
+    ensures { MovesTarget (λ e. hash_in H.hash_of current.old (E.key_of e)) target
+        (length (destined_for (λ e. hash_in H.hash_of current.old (E.key_of e))
         (settings_of current.old).skipped (bucket_count current.old) target (flat_map shelf_entries old.old))) aside
         current.old old.old result current.new old.new }
 {

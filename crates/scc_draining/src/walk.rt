@@ -2,7 +2,6 @@
 ghost use Rattle.scc_array.specs.Shelf.{shelf_entries};
 ghost use Rattle.scc_array.specs.Shelves.{shelf_of};
 ghost use Rattle.scc_buckets.specs.Pour.{destined_for};
-ghost use Rattle.scc_buckets.specs.Routes.{hash_by};
 ghost use Rattle.scc_draining.specs.Stepping.{entries_before, StandsNext};
 ghost use Rattle.std.specs.List.{flat_map};
 ghost use Rattle.std.specs.Prelude.{◌≡◌, ◌<◌, ◌≤◌, ◌⊎◌, ◌+◌, ◌^◌, ℕ, length, take, MatchOption};
@@ -10,8 +9,7 @@ ghost use Rattle.std.specs.Prelude.{◌≡◌, ◌<◌, ◌≤◌, ◌⊎◌, �
 use crate::Relocation;
 use scc_array::Array;
 use scc_buckets::Router;
-use scc_common::Keyed;
-use std::hash::{BuildHasher, Hash};
+use scc_common::{Hashes, Keyed};
 
 /// Returns `end`, or `first + 1` if that is greater.
 pub fn end_past(end: usize, first: usize) -> usize
@@ -26,7 +24,7 @@ pub fn end_past(end: usize, first: usize) -> usize
 impl Relocation {
     /// Returns the slot of the first entry of the old bucket `source`, from `slot` on, that belongs to the target, or
     /// `None`.
-    fn slot_from<E: Keyed, H: BuildHasher>(
+    fn slot_from<E: Keyed, H: Hashes<E::Key>>(
         &self,
         router: &Router<H>,
         old: &Array<E>,
@@ -34,14 +32,14 @@ impl Relocation {
         slot: usize,
     ) -> Option<usize>
     where
-        E::Key: Eq + Hash,
+        E::Key: Eq,
         requires source { source < length old.now }
         requires few { length (shelf_entries (shelf_of old.now source)) < 2 ^ 63 }
-        ensures { MatchOption result (destined_for (λ e. hash_by H.BuildHasher H.Hasher.Hasher E.Key.hash_input router.now (E.key_of e))
+        ensures { MatchOption result (destined_for (λ e. H.hash_of router.now.hasher (E.key_of e))
             router.now.skipped self.now.count self.now.target (entries_before old.now source slot)
-            ≡ destined_for (λ e. hash_by H.BuildHasher H.Hasher.Hasher E.Key.hash_input router.now (E.key_of e))
+            ≡ destined_for (λ e. H.hash_of router.now.hasher (E.key_of e))
             router.now.skipped self.now.count self.now.target (flat_map shelf_entries (take (source + 1) old.now)))
-            (λ s. StandsNext (λ e. hash_by H.BuildHasher H.Hasher.Hasher E.Key.hash_input router.now (E.key_of e))
+            (λ s. StandsNext (λ e. H.hash_of router.now.hasher (E.key_of e))
             router.now.skipped self.now.count self.now.target old.now source slot source s) }
     {
         for place in slot..old.bucket_len(source) {
@@ -55,22 +53,22 @@ impl Relocation {
 
     /// Returns the old bucket and the slot of the first entry that belongs to the target, from `slot` of the first old
     /// bucket on, or `None`.
-    pub fn spot_from<E: Keyed, H: BuildHasher>(
+    pub fn spot_from<E: Keyed, H: Hashes<E::Key>>(
         &self,
         router: &Router<H>,
         old: &Array<E>,
         slot: usize,
     ) -> Option<(usize, usize)>
     where
-        E::Key: Eq + Hash,
+        E::Key: Eq,
         requires order { self.now.first < self.now.last }
         requires within { self.now.last ≤ length old.now }
         requires few { (j : ℕ) → length (shelf_entries (shelf_of old.now j)) < 2 ^ 63 }
-        ensures { MatchOption result (destined_for (λ e. hash_by H.BuildHasher H.Hasher.Hasher E.Key.hash_input router.now (E.key_of e))
+        ensures { MatchOption result (destined_for (λ e. H.hash_of router.now.hasher (E.key_of e))
             router.now.skipped self.now.count self.now.target (entries_before old.now self.now.first slot)
-            ≡ destined_for (λ e. hash_by H.BuildHasher H.Hasher.Hasher E.Key.hash_input router.now (E.key_of e))
+            ≡ destined_for (λ e. H.hash_of router.now.hasher (E.key_of e))
             router.now.skipped self.now.count self.now.target (flat_map shelf_entries (take self.now.last old.now)))
-            (λ r. StandsNext (λ e. hash_by H.BuildHasher H.Hasher.Hasher E.Key.hash_input router.now (E.key_of e))
+            (λ r. StandsNext (λ e. H.hash_of router.now.hasher (E.key_of e))
             router.now.skipped self.now.count self.now.target old.now self.now.first slot r.0 r.1) }
     {
         if let Some(place) = self.slot_from(router, old, self.first, slot) {

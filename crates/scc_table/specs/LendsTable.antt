@@ -1,18 +1,17 @@
 -- What a table of two arrays ends as, once a `&mut` into it has ended.
 use Rattle.std.specs.Borrow.{Fml, RattleType, MutBor, Lends}
-use Rattle.std.specs.HashMap.Lent.{HashMembers}
-use Rattle.std.specs.declared.hash.Hasher as hasher
-use Rattle.std.specs.declared.hash.BuildHasher as builder
+use Rattle.std.specs.declared.cmp.PartialEq as comparison
 use Rattle.scc_common.specs.Contents.{Contents}
 use Rattle.scc_buckets.specs.declared.place.Place.{Place}
 use Rattle.scc_common.specs.declared.entry.Keyed as keyed
+use Rattle.scc_common.specs.declared.hashes.Hashes as hashing
 use Rattle.scc_table.specs.Places.{with_write_at}
 use Rattle.scc_table.specs.contracts.Table.{the_row}
 
-module _ (E H K T V : RattleType) (by : keyed.Ghosts E.Denot K.Denot) (key : HashMembers K.Denot) (build : builder.Ghosts H.Denot T.Denot) (feed : hasher.Ghosts T.Denot) (put : E.Denot → V.Denot → E.Denot) where
+module _ (E H K V : RattleType) (by : keyed.Ghosts E.Denot K.Denot) (compare : comparison.Ghosts K.Denot) (hashes : hashing.Ghosts H.Denot K.Denot) (put : E.Denot → V.Denot → E.Denot) where
   -- the type of the table, as the logic holds it
   abbrev pub table_row : RattleType
-  table_row = the_row E H K T by build feed (record { eq = key.eq }) (record { hash_input = key.hash_input })
+  table_row = the_row E H K by hashes compare
 
   -- when the loan r ends, the entry at p has the last value written through r
   abbrev pub lends_value : MutBor (Contents E.Denot H.Denot) → Place → MutBor V.Denot → Fml

@@ -2,7 +2,7 @@
 //! stay there until their bucket of the current array is relocated.
 #![tactic(auto)]
 
-ghost use Rattle.scc_common.specs.Contents.{bucket_count, key_hash, pending_of, IsRouted, IsUniqueBy, mark_of, note_of};
+ghost use Rattle.scc_common.specs.Contents.{bucket_count, hash_in, pending_of, IsRouted, IsUniqueBy, mark_of, note_of};
 ghost use Rattle.scc_common.specs.Sizes.{IsLawful};
 ghost use Rattle.scc_table.specs.TwoArrays.{IsWaiting};
 ghost use Rattle.std.specs.Prelude.{◌≡◌, ◌<◌, ◌≤◌, ◌^◌, ◌↔◌, IsTrue};
@@ -18,27 +18,26 @@ mod walk;
 
 pub use resize::reserve::Reservation;
 use scc_buckets::Buckets;
-use scc_common::Keyed;
+use scc_common::{Hashes, Keyed};
 use scc_draining::Draining;
-use std::hash::{BuildHasher, Hash};
 use std::marker::Model;
 
 /// Entries with distinct keys, in the buckets of the current array, or in the old array if their bucket waits. A
 /// contract sees one list for each bucket, whichever array holds its entries.
 #[derive(Drop)]
-pub struct Table<E: Keyed, H: BuildHasher>
+pub struct Table<E: Keyed, H: Hashes<E::Key>>
 where
-    E::Key: Eq + Hash,
+    E::Key: Eq,
 {
     draining: Draining<E>,
     current: Buckets<E, H>,
 }
 
-impl<E: Keyed, H: BuildHasher> Model for Table<E, H>
+impl<E: Keyed, H: Hashes<E::Key>> Model for Table<E, H>
 where
-    E::Key: Eq + Hash,
+    E::Key: Eq,
 {
-    ghost use Rattle.scc_common.specs.Contents.{Contents, contents_code, key_hash};
+    ghost use Rattle.scc_common.specs.Contents.{Contents, contents_code, hash_in};
     ghost use Rattle.scc_draining.specs.Drainings.{draining_of};
     ghost use Rattle.scc_table.specs.TwoArrays.{together, IsTable};
 
@@ -46,16 +45,16 @@ where
 
     ghost coded = { contents_code E.code H.code };
 
-    ghost view = { λ t. together (λ e. key_hash H.BuildHasher H.Hasher.Hasher E.Key.hash_input t.current (E.key_of e))
+    ghost view = { λ t. together (λ e. hash_in H.hash_of t.current (E.key_of e))
         t.current t.draining.waiting.items t.draining.array };
 
-    ghost invariant = { λ t. IsTable E.Key.eq E.key_of (key_hash H.BuildHasher H.Hasher.Hasher E.Key.hash_input
+    ghost invariant = { λ t. IsTable E.Key.eq E.key_of (hash_in H.hash_of
         t.current) t.current (draining_of t.draining) };
 }
 
-impl<E: Keyed, H: BuildHasher> Table<E, H>
+impl<E: Keyed, H: Hashes<E::Key>> Table<E, H>
 where
-    E::Key: Eq + Hash,
+    E::Key: Eq,
 {
     /// Returns the number of buckets, 0 if there is no array.
     #[inline(always)]
@@ -63,7 +62,7 @@ where
         ensures count { result ≡ bucket_count self.now }
         ensures most { result ≤ 2 ^ 58 }
         ensures lawful { IsLawful result }
-        ensures routed { IsRouted (λ e. key_hash H.BuildHasher H.Hasher.Hasher E.Key.hash_input self.now (E.key_of e))
+        ensures routed { IsRouted (λ e. hash_in H.hash_of self.now (E.key_of e))
             self.now }
         ensures unique { IsUniqueBy E.Key.eq E.key_of self.now }
     {

@@ -1,28 +1,28 @@
 //! Makes tables with a current array alone: empty ones, and clones.
 ghost use Rattle.scc_buckets.specs.Making.{AreNewBuckets, MakesBuckets};
 ghost use Rattle.scc_common.specs.Clones.{HasClones};
-ghost use Rattle.scc_common.specs.Contents.{key_hash, lists_of, notes_of, settings_of, overflow_of, waiting_of, IsUniqueBy};
+ghost use Rattle.scc_common.specs.Contents.{hash_in, lists_of, notes_of, settings_of, overflow_of, waiting_of, IsUniqueBy};
 ghost use Rattle.std.specs.Arc.{arc_value};
 ghost use Rattle.std.specs.Prelude.{◌≡◌, ◌≤◌, ◌<◌, [], false, IfOk};
 
 use crate::Table;
 use scc_array::Array;
 use scc_buckets::Buckets;
-use scc_common::{Keyed, MakeError, Shared};
+use scc_common::{Hashes, Keyed, MakeError, Shared};
 use scc_draining::{Draining, insert_clones_of};
 use std::alloc::Global;
 use std::hash::{BuildHasher, Hash};
 use std::sync::Arc;
 
-impl<E: Keyed, H: BuildHasher> Table<E, H>
+impl<E: Keyed, H: Hashes<E::Key>> Table<E, H>
 where
-    E::Key: Eq + Hash,
+    E::Key: Eq,
 {
     /// Makes an empty table without an array, which skips `skipped` bits of each hash. No refused memory is noted, and
     /// no bucket waits. Allocates nothing.
     pub fn new(alloc: Global, skipped: u32, hasher: H) -> Table<E, H>
         requires { skipped ≤ 4 }
-        ensures { AreNewBuckets E.key_of (key_hash H.BuildHasher H.Hasher.Hasher E.Key.hash_input) hasher skipped
+        ensures { AreNewBuckets E.key_of (hash_in H.hash_of) hasher skipped
             result }
     {
         Table::over(Buckets::new(alloc, skipped, hasher))
@@ -39,7 +39,7 @@ where
     where
         H: Drop,
         requires { skipped ≤ 4 }
-        ensures { MakesBuckets E.key_of (key_hash H.BuildHasher H.Hasher.Hasher E.Key.hash_input) hasher skipped slots
+        ensures { MakesBuckets E.key_of (hash_in H.hash_of) hasher skipped slots
             result }
     {
         match Buckets::with_capacity(alloc, skipped, slots, hasher) {
@@ -108,7 +108,7 @@ where
     where
         H: Drop,
         requires { skipped ≤ 4 }
-        ensures { MakesBuckets E.key_of (key_hash H.BuildHasher H.Hasher.Hasher E.Key.hash_input) (arc_value hasher)
+        ensures { MakesBuckets E.key_of (hash_in ⟦<H as Hashes<E::Key>>⟧.hash_of) (arc_value hasher)
             skipped slots result }
     {
         Table::with_capacity(alloc, skipped, slots, Shared::new(hasher))

@@ -7,8 +7,7 @@ ghost use Rattle.std.specs.Prelude.{◌≡◌, ◌<◌, ◌^◌, drop, length, t
 
 use crate::Buckets;
 use scc_array::Array;
-use scc_common::SharedVersion;
-use std::hash::{BuildHasher, Hash};
+use scc_common::{Hashes, SharedVersion};
 
 /// Calls `f` on the pairs of the versions in the overflow list of `bucket` in turn, until it returns false. Returns
 /// false if it stopped. `slots` must be the `slot_count` of the bucket.
@@ -57,7 +56,7 @@ fn walk_bucket<K, V, F: FnMut(&K, &V) -> bool>(
     walk_list(array, bucket, slots, f)
 }
 
-impl<K: Eq + Hash, V, H: BuildHasher> Buckets<SharedVersion<K, V>, H> {
+impl<K: Eq, V, H: Hashes<K>> Buckets<SharedVersion<K, V>, H> {
     /// Calls `f` on all pairs in the order of the buckets, until it returns false. Returns false if it stopped.
     pub fn walk<F: FnMut(&K, &V) -> bool>(&self, mut f: F) -> bool
         requires { CallableWhile F.FnMut true f (entries self.now) }

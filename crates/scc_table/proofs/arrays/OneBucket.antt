@@ -1,16 +1,12 @@
 -- What the invariant of a table says of one bucket.
 use Rattle.std.proofs.Common.{◌≡◌, ℕ, ◌+◌, ◌-◌, ◌<◌, ◌≤◌, Bool, true, false, List, length, map, set, get_or, sym, ap, ◌∙◌, subst, arith}
-use Rattle.std.specs.Hash.{HashWrites}
 use Rattle.std.specs.List.{flat_map, sum_by, IsDistinct}
-use Rattle.std.specs.declared.hash.Hasher as hasher
-use Rattle.std.specs.declared.hash.BuildHasher as builder
 use Rattle.std.proofs.lemmas.List.{get_or_read}
 use Rattle.std.proofs.lemmas.List.Sums.{count_by-le-length, get_or-le-sum_by}
 use Rattle.std.proofs.lemmas.List.Concat.{length-flat_map}
 use Rattle.scc_array.specs.Shelves.{shelf_of}
 use Rattle.scc_array.specs.Shelf.{Shelf, empty_shelf, shelf_entries}
-use Rattle.scc_common.specs.Contents.{Contents, IsRouted, bucket_count, key_hash, list_of, lists_of, settings_of, waiting_of, owed_of, pending_of}
-use Rattle.scc_common.specs.Hashing.{hash_of}
+use Rattle.scc_common.specs.Contents.{Contents, IsRouted, bucket_count, list_of, lists_of, settings_of, waiting_of, owed_of, pending_of, hash_in}
 use Rattle.scc_common.specs.Routing.{bucket_number}
 use Rattle.scc_common.specs.Sizes.{IsBucketCount}
 use Rattle.scc_buckets.specs.Pour.{destined_for}
@@ -30,12 +26,12 @@ use Rattle.scc_table.proofs.places.Searches.{not_true, routed-together}
 use Rattle.scc_table.proofs.arrays.Views.{count-seen, pending-seen, settings-seen, waiting-seen}
 
 -- if each entry of the current array stands in the list of the bucket of its hash, so does each entry of both arrays
-pub routed-seen : {E K S T : Type 0} (build : builder.Ghosts S T) (feed : hasher.Ghosts T) (input : K → HashWrites) {eq : K → K → Bool} (key : E → K) {c a : Contents E S} {drain : Draining E} → IsTable eq key (key_hash build feed input c) c drain
-    → together (λ e. key_hash build feed input c (key e)) c drain.waiting drain.array ≡ a → IsRouted (λ e. key_hash build feed input c (key e)) c → IsRouted (λ e. key_hash build feed input a (key e)) a
-routed-seen {E} build feed input key {c} {a} {drain} inv view routed =
-    let hash = λ (e : E). key_hash build feed input c (key e) in
+pub routed-seen : {E K S : Type 0} (hash_of : S → K → ℕ) {eq : K → K → Bool} (key : E → K) {c a : Contents E S} {drain : Draining E} → IsTable eq key (hash_in hash_of c) c drain
+    → together (λ e. hash_in hash_of c (key e)) c drain.waiting drain.array ≡ a → IsRouted (λ e. hash_in hash_of c (key e)) c → IsRouted (λ e. hash_in hash_of a (key e)) a
+routed-seen {E} hash_of key {c} {a} {drain} inv view routed =
+    let hash = λ (e : E). hash_in hash_of c (key e) in
     let all = subst (λ d. IsRouted hash d) view (routed-together hash c drain.waiting drain.array inv.arrays routed) in
-    subst (λ s. IsRouted (λ (e : E). hash_of build feed s.hasher (input (key e))) a) (sym (settings-seen hash c drain.waiting drain.array a view)) all
+    subst (λ s. IsRouted (λ (e : E). hash_of s.hasher (key e)) a) (sym (settings-seen hash c drain.waiting drain.array a view)) all
 
 module _ {E K S : Type 0} {eq : K → K → Bool} {key : E → K} {hash : K → ℕ} {c : Contents E S} {drain : Draining E} (inv : IsTable eq key hash c drain) where
   -- if bucket i of the contents a waits, its flag is up

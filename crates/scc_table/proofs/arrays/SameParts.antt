@@ -1,13 +1,9 @@
 -- Contents that have the same lists, or the same settings.
 use Rattle.std.proofs.Common.{◌≡◌, ℕ, ◌≤◌, Bool, List, [], length, map, get_or, Result, Ok, Err, sym, ap, ◌∙◌, subst}
 use Rattle.std.specs.Prelude.{OnOk, OnErr, IfOk, IfErr}
-use Rattle.std.specs.Hash.{HashWrites}
 use Rattle.std.specs.List.{flat_map, slice_get, count_by, IsDistinct}
-use Rattle.std.specs.declared.hash.Hasher as hasher
-use Rattle.std.specs.declared.hash.BuildHasher as builder
 use Rattle.scc_buckets.specs.Bounded.{IsListed}
-use Rattle.scc_common.specs.Contents.{Contents, entries, bucket_count, list_of, lists_of, settings_of, overflow_of, waiting_of, pending_of, key_hash, IsUniqueBy}
-use Rattle.scc_common.specs.Hashing.{hash_of}
+use Rattle.scc_common.specs.Contents.{Contents, entries, bucket_count, list_of, lists_of, settings_of, overflow_of, waiting_of, pending_of, IsUniqueBy, hash_in}
 use Rattle.scc_buckets.specs.Pour.{IsRegrouped, destined_for}
 use Rattle.scc_common.specs.Sizes.{IsLawful}
 use Rattle.scc_common.specs.Steps.{IsUnchanged}
@@ -42,12 +38,12 @@ module _ {E S : Type 0} (c d : Contents E S) (same : lists_of d ≡ lists_of c) 
   }
 
 -- if two contents have equal hashers or equal settings, a key has the same hash in both
-module _ {E S T K : Type 0} (build : builder.Ghosts S T) (feed : hasher.Ghosts T) (input : K → HashWrites) (c d : Contents E S) where
-  pub hash-like : (settings_of d).hasher ≡ (settings_of c).hasher → key_hash build feed input d ≡ key_hash build feed input c
-  hash-like same = ap (λ s. let h : K → ℕ = λ k. hash_of build feed s (input k) in h) same
+module _ {E S K : Type 0} (hash : S → K → ℕ) (c d : Contents E S) where
+  pub hash-like : (settings_of d).hasher ≡ (settings_of c).hasher → hash_in hash d ≡ hash_in hash c
+  hash-like same = ap (λ s. let h : K → ℕ = λ k. hash s k in h) same
 
-  pub hash-same : settings_of d ≡ settings_of c → key_hash build feed input d ≡ key_hash build feed input c
-  hash-same same = ap (λ s. let h : K → ℕ = λ k. hash_of build feed s.hasher (input k) in h) same
+  pub hash-same : settings_of d ≡ settings_of c → hash_in hash d ≡ hash_in hash c
+  hash-same same = ap (λ s. let h : K → ℕ = λ k. hash s.hasher k in h) same
 
 module _ {E S : Type 0} (b d : Contents E S) where
   pub pending-same : waiting_of d ≡ waiting_of b → pending_of d ≡ pending_of b

@@ -1,13 +1,9 @@
 -- What is known of the bucket of a key, and of its old bucket if that bucket waits, from the hash of the key.
 use Rattle.std.proofs.Common.{◌≡◌, ◌∙◌, ℕ, ◌+◌, ◌^◌, ◌<◌, Bool, true, false, Some, None, List, length, refl, sym, ap, subst, arith}
-use Rattle.std.specs.Hash.{HashWrites}
 use Rattle.std.specs.List.{find, position}
-use Rattle.std.specs.declared.hash.Hasher as hasher
-use Rattle.std.specs.declared.hash.BuildHasher as builder
 use Rattle.scc_array.specs.Shelves.{shelf_of}
 use Rattle.scc_array.specs.Shelf.{shelf_entries}
-use Rattle.scc_common.specs.Contents.{Contents, IsRouted, bucket_count, entries, key_hash, list_of, pending_of, settings_of}
-use Rattle.scc_common.specs.Hashing.{hash_of}
+use Rattle.scc_common.specs.Contents.{Contents, IsRouted, bucket_count, entries, hash_in, list_of, pending_of, settings_of}
 use Rattle.scc_common.specs.Routing.{bucket_number}
 use Rattle.scc_buckets.specs.declared.place.Place.{Place}
 use Rattle.scc_buckets.proofs.FindingLemmas.{HashOf}
@@ -35,32 +31,32 @@ old_bucket c drain h = bucket_number (settings_of c).skipped (length drain.array
 abbrev pub old_entries : {E S : Type 0} → Contents E S → Draining E → ℕ → List E
 old_entries c drain h = shelf_entries (shelf_of drain.array (old_bucket c drain h))
 
-module _ {E K S T : Type 0} (build : builder.Ghosts S T) (feed : hasher.Ghosts T) (input : K → HashWrites) {eq : K → K → Bool} {key : E → K} {c a : Contents E S} {drain : Draining E} (inv : IsTable eq key (key_hash build feed input c) c drain)
-    (view : together (λ e. key_hash build feed input c (key e)) c drain.waiting drain.array ≡ a) where
+module _ {E K S : Type 0} (hash_of : S → K → ℕ) {eq : K → K → Bool} {key : E → K} {c a : Contents E S} {drain : Draining E} (inv : IsTable eq key (hash_in hash_of c) c drain)
+    (view : together (λ e. hash_in hash_of c (key e)) c drain.waiting drain.array ≡ a) where
   -- a key has the same hash in the contents a and in the current array
-  pub hash-own : (k : K) {h : ℕ} → h ≡ key_hash build feed input a k → h ≡ key_hash build feed input c k
-  hash-own k hashed = hashed ∙ ap (λ s. hash_of build feed s.hasher (input k)) (sym (settings-seen (λ (e : E). key_hash build feed input c (key e)) c drain.waiting drain.array a view))
+  pub hash-own : (k : K) {h : ℕ} → h ≡ hash_in hash_of a k → h ≡ hash_in hash_of c k
+  hash-own k hashed = hashed ∙ ap (λ s. hash_of s.hasher k) (sym (settings-seen (λ (e : E). hash_in hash_of c (key e)) c drain.waiting drain.array a view))
 
   -- if each entry of the contents a stands in the bucket of its hash, it does so in the contents of both arrays
-  pub routed-own-hash : IsRouted (λ e. key_hash build feed input a (key e)) a → IsRouted (λ e. key_hash build feed input c (key e)) (together (λ e. key_hash build feed input c (key e)) c drain.waiting drain.array)
+  pub routed-own-hash : IsRouted (λ e. hash_in hash_of a (key e)) a → IsRouted (λ e. hash_in hash_of c (key e)) (together (λ e. hash_in hash_of c (key e)) c drain.waiting drain.array)
   routed-own-hash routed =
-      let hash = λ (e : E). key_hash build feed input c (key e) in
-      let all = subst (λ s. IsRouted (λ (e : E). hash_of build feed s.hasher (input (key e))) a) (sym (settings-seen hash c drain.waiting drain.array a view)) routed in
+      let hash = λ (e : E). hash_in hash_of c (key e) in
+      let all = subst (λ s. IsRouted (λ (e : E). hash_of s.hasher (key e)) a) (sym (settings-seen hash c drain.waiting drain.array a view)) routed in
       subst (λ d. IsRouted hash d) (sym view) all
 
-  module _ (respects : (x y : K) → eq x y ≡ true → input x ≡ input y) {k : K} {h : ℕ} (hashed : h ≡ key_hash build feed input a k) where
+  module _ (respects : (s : S) (x y : K) → eq x y ≡ true → hash_of s x ≡ hash_of s y) {k : K} {h : ℕ} (hashed : h ≡ hash_in hash_of a k) where
     -- entries with an equal key have its hash
-    pub same-hash : HashOf (λ e. eq k (key e)) (λ e. key_hash build feed input c (key e)) h
-    same-hash = record { same = λ e w. sym (hash-own k hashed ∙ ap (hash_of build feed (settings_of c).hasher) (respects k (key e) w)) }
+    pub same-hash : HashOf (λ e. eq k (key e)) (λ e. hash_in hash_of c (key e)) h
+    same-hash = record { same = λ e w. sym (hash-own k hashed ∙ respects (settings_of c).hasher k (key e) w) }
 
     -- what is known after the flag of the bucket of the hash was read
     pub bucket-read : {i : ℕ} {w : Bool} → 0 < pending_of a → i ≡ bucket_number (settings_of c).skipped (bucket_count c) h → (0 < bucket_count c → i < bucket_count c) → waits_at drain.waiting i ≡ w
-        → IsBucketOf (λ e. key_hash build feed input c (key e)) (λ e. eq k (key e)) h i c drain.waiting w
+        → IsBucketOf (λ e. hash_in hash_of c (key e)) (λ e. eq k (key e)) h i c drain.waiting w
     bucket-read pending at within flag = record { same = same-hash; at = at; within = bucket-within inv view pending within; flag = flag }
 
     -- what is known if the bucket of the hash waits
     pub bucket-waits : IsWaiting a (bucket_number (settings_of a).skipped (bucket_count a) h)
-        → IsBucketOf (λ e. key_hash build feed input c (key e)) (λ e. eq k (key e)) h (bucket_number (settings_of a).skipped (bucket_count a) h) c drain.waiting true
+        → IsBucketOf (λ e. hash_in hash_of c (key e)) (λ e. eq k (key e)) h (bucket_number (settings_of a).skipped (bucket_count a) h) c drain.waiting true
     bucket-waits waits =
         let i = bucket_number (settings_of a).skipped (bucket_count a) h in
         let up = flag-up inv i view waits in

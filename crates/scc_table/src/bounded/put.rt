@@ -1,7 +1,7 @@
 //! Puts of entries at the end of a list of at most 32, and moves to its end. None of these calls allocates.
 ghost use Rattle.scc_buckets.specs.Bounded.{IsListed, IsBounded};
 ghost use Rattle.scc_buckets.specs.Insertions.{IsNewIn};
-ghost use Rattle.scc_common.specs.Contents.{entries, bucket_count, key_hash, settings_of, waiting_of, IsUniqueBy, list_of};
+ghost use Rattle.scc_common.specs.Contents.{entries, bucket_count, hash_in, settings_of, waiting_of, IsUniqueBy, list_of};
 ghost use Rattle.scc_common.specs.Routing.{bucket_number};
 ghost use Rattle.scc_table.specs.Puts.{PutsWithin, MovesToEnd, PutsAtEnd};
 ghost use Rattle.scc_table.specs.Relocates.{left_after};
@@ -10,12 +10,11 @@ ghost use Rattle.std.specs.List.{filter};
 ghost use Rattle.std.specs.Prelude.{◌≡◌, ◌==◌, ◌<◌, ◌≤◌, false, drop, not, length, Some, slice_get};
 
 use crate::Table;
-use scc_common::Keyed;
-use std::hash::{BuildHasher, Hash};
+use scc_common::{Hashes, Keyed};
 
-impl<E: Keyed, H: BuildHasher> Table<E, H>
+impl<E: Keyed, H: Hashes<E::Key>> Table<E, H>
 where
-    E::Key: Eq + Hash,
+    E::Key: Eq,
 {
     /// Puts `entry`, whose key is new, at the end of the list of `bucket`, and returns its slot. If the list holds 32
     /// entries, first takes its first entry out, and returns that entry too. Relocates two waiting buckets in all:
@@ -23,11 +22,11 @@ where
     /// `hash`. Allocates nothing.
     #[inline(always)]
     pub fn put_within(&mut self, bucket: usize, hash: u64, entry: E) -> (Option<E>, usize)
-        requires new { IsNewIn E.Key.eq E.key_of (key_hash H.BuildHasher H.Hasher.Hasher E.Key.hash_input self.old) self.old
+        requires new { IsNewIn E.Key.eq E.key_of (hash_in H.hash_of self.old) self.old
             bucket hash (E.key_of entry) }
-        requires listed { IsListed (λ e. key_hash H.BuildHasher H.Hasher.Hasher E.Key.hash_input self.old
+        requires listed { IsListed (λ e. hash_in H.hash_of self.old
             (E.key_of e)) self.old }
-        ensures { PutsWithin E.Key.eq E.key_of (key_hash H.BuildHasher H.Hasher.Hasher E.Key.hash_input) self.old
+        ensures { PutsWithin E.Key.eq E.key_of (hash_in H.hash_of) self.old
             bucket entry (left_after bucket (pending_targets self.old)) 2 result self.new }
     {
         if self.is_waiting(bucket) {
@@ -39,12 +38,12 @@ where
     /// As `put_within`, if `bucket` waits.
     #[cold]
     fn put_after_relocation(&mut self, bucket: usize, hash: u64, entry: E) -> (Option<E>, usize)
-        requires new { IsNewIn E.Key.eq E.key_of (key_hash H.BuildHasher H.Hasher.Hasher E.Key.hash_input self.old) self.old
+        requires new { IsNewIn E.Key.eq E.key_of (hash_in H.hash_of self.old) self.old
             bucket hash (E.key_of entry) }
         requires waits { IsWaiting self.old bucket }
-        requires listed { IsListed (λ e. key_hash H.BuildHasher H.Hasher.Hasher E.Key.hash_input self.old
+        requires listed { IsListed (λ e. hash_in H.hash_of self.old
             (E.key_of e)) self.old }
-        ensures { PutsWithin E.Key.eq E.key_of (key_hash H.BuildHasher H.Hasher.Hasher E.Key.hash_input) self.old
+        ensures { PutsWithin E.Key.eq E.key_of (hash_in H.hash_of) self.old
             bucket entry (left_after bucket (pending_targets self.old)) 2 result self.new }
     {
         match self.relocate(bucket) {
@@ -62,13 +61,13 @@ where
         entry: E,
         most: usize,
     ) -> (Option<E>, usize)
-        requires new { IsNewIn E.Key.eq E.key_of (key_hash H.BuildHasher H.Hasher.Hasher E.Key.hash_input self.old) self.old
+        requires new { IsNewIn E.Key.eq E.key_of (hash_in H.hash_of self.old) self.old
             bucket hash (E.key_of entry) }
         requires not_waiting { waits_at (waiting_of self.old) bucket ≡ false }
-        requires listed { IsListed (λ e. key_hash H.BuildHasher H.Hasher.Hasher E.Key.hash_input self.old
+        requires listed { IsListed (λ e. hash_in H.hash_of self.old
             (E.key_of e)) self.old }
         requires most { most ≤ 2 }
-        ensures { PutsWithin E.Key.eq E.key_of (key_hash H.BuildHasher H.Hasher.Hasher E.Key.hash_input) self.old
+        ensures { PutsWithin E.Key.eq E.key_of (hash_in H.hash_of) self.old
             bucket entry (drop most (pending_targets self.old)) most result self.new }
     {
         let put = self.put_last(bucket, hash, entry);
@@ -81,11 +80,11 @@ where
     /// bucket of `hash`. Allocates nothing.
     #[inline(always)]
     pub fn put_last(&mut self, bucket: usize, hash: u64, entry: E) -> (Option<E>, usize)
-        requires new { IsNewIn E.Key.eq E.key_of (key_hash H.BuildHasher H.Hasher.Hasher E.Key.hash_input self.old) self.old
+        requires new { IsNewIn E.Key.eq E.key_of (hash_in H.hash_of self.old) self.old
             bucket hash (E.key_of entry) }
         requires not_waiting { IsWaiting self.old bucket → ⊥ }
         requires bounded { IsBounded self.old }
-        ensures { PutsAtEnd E.Key.eq E.key_of (key_hash H.BuildHasher H.Hasher.Hasher E.Key.hash_input) self.old
+        ensures { PutsAtEnd E.Key.eq E.key_of (hash_in H.hash_of) self.old
             bucket entry result self.new }
     {
         self.current.put_last(bucket, hash, entry)
@@ -101,8 +100,8 @@ where
         requires routed { bucket ≡ bucket_number (settings_of self.old).skipped (bucket_count self.old) hash }
         requires bounded { IsBounded self.old }
         requires hashed { (e : E) → slice_get (list_of self.old bucket) slot ≡ Some e
-            → hash ≡ key_hash H.BuildHasher H.Hasher.Hasher E.Key.hash_input self.old (E.key_of e) }
-        ensures { MovesToEnd E.Key.eq E.key_of (key_hash H.BuildHasher H.Hasher.Hasher E.Key.hash_input) self.old
+            → hash ≡ hash_in H.hash_of self.old (E.key_of e) }
+        ensures { MovesToEnd E.Key.eq E.key_of (hash_in H.hash_of) self.old
             bucket slot self.new }
     {
         self.current.touch(bucket, slot, hash);

@@ -1,7 +1,7 @@
 //! Shrinks after which no list holds more than 32 entries.
 ghost use Rattle.scc_buckets.specs.Bounded.{IsListed, MayShrinkWithin, ShrinksBounded};
 ghost use Rattle.scc_buckets.specs.Pour.{destined_for};
-ghost use Rattle.scc_common.specs.Contents.{entries, bucket_count, key_hash, settings_of, IsUniqueBy};
+ghost use Rattle.scc_common.specs.Contents.{entries, bucket_count, hash_in, settings_of, IsUniqueBy};
 ghost use Rattle.scc_common.specs.Sizes.{IsBucketCount};
 ghost use Rattle.scc_table.specs.Relocates.{Spreads};
 ghost use Rattle.std.specs.List.Sorted.{IsPermutation};
@@ -9,12 +9,11 @@ ghost use Rattle.std.specs.Prelude.{◌≡◌, ◌≤◌, ◌<◌, ◌*◌, ◌^
 
 use crate::Table;
 use scc_buckets::sizes::buckets_for;
-use scc_common::Keyed;
-use std::hash::{BuildHasher, Hash};
+use scc_common::{Hashes, Keyed};
 
-impl<E: Keyed, H: BuildHasher> Table<E, H>
+impl<E: Keyed, H: Hashes<E::Key>> Table<E, H>
 where
-    E::Key: Eq + Hash,
+    E::Key: Eq,
 {
     /// Shrinks the array if the table has at most an eighth as many entries as slots, a smaller array has enough slots,
     /// and each of its buckets would hold at most 32 entries; the array stays if memory is refused. First relocates all
@@ -22,15 +21,15 @@ where
     /// buckets and of entries that waited; otherwise, takes constant time.
     #[inline(always)]
     pub fn shrink_within(&mut self)
-        requires { IsListed (λ e. key_hash H.BuildHasher H.Hasher.Hasher E.Key.hash_input self.old (E.key_of e))
+        requires { IsListed (λ e. hash_in H.hash_of self.old (E.key_of e))
             self.old }
-        ensures shrinks { ShrinksBounded (λ e. key_hash H.BuildHasher H.Hasher.Hasher E.Key.hash_input self.old
+        ensures shrinks { ShrinksBounded (λ e. hash_in H.hash_of self.old
             (E.key_of e)) self.old self.new }
-        ensures listed { IsListed (λ e. key_hash H.BuildHasher H.Hasher.Hasher E.Key.hash_input self.new (E.key_of e))
+        ensures listed { IsListed (λ e. hash_in H.hash_of self.new (E.key_of e))
             self.new }
         ensures same { IsPermutation (entries self.old) (entries self.new) }
         ensures spreads { Spreads ((n : ℕ) × MayShrinkWithin
-            (λ e. key_hash H.BuildHasher H.Hasher.Hasher E.Key.hash_input self.old (E.key_of e)) self.old n) self.old
+            (λ e. hash_in H.hash_of self.old (E.key_of e)) self.old n) self.old
             self.new }
         ensures unique { IsUniqueBy E.Key.eq E.key_of self.new }
     {
@@ -45,16 +44,16 @@ where
     /// As `shrink_within`, if the table has at most an eighth as many entries as slots.
     #[cold]
     fn shrink_sparse_within(&mut self)
-        requires listed { IsListed (λ e. key_hash H.BuildHasher H.Hasher.Hasher E.Key.hash_input self.old
+        requires listed { IsListed (λ e. hash_in H.hash_of self.old
             (E.key_of e)) self.old }
         requires few { length (entries self.old) ≤ 4 * bucket_count self.old }
-        ensures shrinks { ShrinksBounded (λ e. key_hash H.BuildHasher H.Hasher.Hasher E.Key.hash_input self.old
+        ensures shrinks { ShrinksBounded (λ e. hash_in H.hash_of self.old
             (E.key_of e)) self.old self.new }
-        ensures listed { IsListed (λ e. key_hash H.BuildHasher H.Hasher.Hasher E.Key.hash_input self.new (E.key_of e))
+        ensures listed { IsListed (λ e. hash_in H.hash_of self.new (E.key_of e))
             self.new }
         ensures same { IsPermutation (entries self.old) (entries self.new) }
         ensures spreads { Spreads ((n : ℕ) × MayShrinkWithin
-            (λ e. key_hash H.BuildHasher H.Hasher.Hasher E.Key.hash_input self.old (E.key_of e)) self.old n) self.old
+            (λ e. hash_in H.hash_of self.old (E.key_of e)) self.old n) self.old
             self.new }
         ensures unique { IsUniqueBy E.Key.eq E.key_of self.new }
     {
@@ -76,10 +75,10 @@ where
     fn is_short_in(&self, count: usize) -> bool
         requires array { IsBucketCount count }
         requires fewer { count < bucket_count self.now }
-        requires listed { IsListed (λ e. key_hash H.BuildHasher H.Hasher.Hasher E.Key.hash_input self.now
+        requires listed { IsListed (λ e. hash_in H.hash_of self.now
             (E.key_of e)) self.now }
         ensures { IsTrue result ↔ ((i : ℕ) → i < count
-            → length (destined_for (λ e. key_hash H.BuildHasher H.Hasher.Hasher E.Key.hash_input self.now (E.key_of e))
+            → length (destined_for (λ e. hash_in H.hash_of self.now (E.key_of e))
             (settings_of self.now).skipped count i (entries self.now)) ≤ 32) }
     {
         let spread = self.bucket_count() / count;
@@ -94,13 +93,13 @@ where
     /// Returns how many entries would belong to the bucket `target` of `count`: the entries of `spread` buckets in a
     /// row. `count * spread` must be the number of buckets.
     fn joined_len(&self, target: usize, count: usize, spread: usize) -> usize
-        requires listed { IsListed (λ e. key_hash H.BuildHasher H.Hasher.Hasher E.Key.hash_input self.now
+        requires listed { IsListed (λ e. hash_in H.hash_of self.now
             (E.key_of e)) self.now }
         requires spread { count * spread ≡ bucket_count self.now }
         requires some { 0 < spread }
         requires within { target < count }
         ensures { result ≡ length (destined_for
-            (λ e. key_hash H.BuildHasher H.Hasher.Hasher E.Key.hash_input self.now (E.key_of e))
+            (λ e. hash_in H.hash_of self.now (E.key_of e))
             (settings_of self.now).skipped count target (entries self.now)) }
     {
         let first = target * spread;

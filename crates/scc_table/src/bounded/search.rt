@@ -1,6 +1,6 @@
 //! Searches in the list of one bucket, and its first entry.
 ghost use Rattle.scc_buckets.specs.Bounded.{IsUnlisted};
-ghost use Rattle.scc_common.specs.Contents.{entries, bucket_count, list_of, settings_of, key_hash};
+ghost use Rattle.scc_common.specs.Contents.{entries, bucket_count, list_of, settings_of, hash_in};
 ghost use Rattle.scc_common.specs.Routing.{bucket_number};
 ghost use Rattle.scc_table.specs.Bounded.{IsListedAt};
 ghost use Rattle.scc_table.specs.TwoArrays.{IsWaiting};
@@ -9,12 +9,11 @@ ghost use Rattle.std.specs.Prelude.{◌≡◌, ◌<◌, length, None, Some, slic
 
 use crate::Table;
 use scc_buckets::Place;
-use scc_common::Keyed;
-use std::hash::{BuildHasher, Hash};
+use scc_common::{Hashes, Keyed};
 
-impl<E: Keyed, H: BuildHasher> Table<E, H>
+impl<E: Keyed, H: Hashes<E::Key>> Table<E, H>
 where
-    E::Key: Eq + Hash,
+    E::Key: Eq,
 {
     /// Returns the slot of the entry of `bucket` whose key equals `key`, or `None`. `bucket` must be the bucket of
     /// `hash` and not wait, and `hash` must be the hash of `key`.
@@ -23,7 +22,7 @@ where
         requires within { bucket < bucket_count self.now }
         requires not_waiting { IsWaiting self.now bucket → ⊥ }
         requires routed { bucket ≡ bucket_number (settings_of self.now).skipped (bucket_count self.now) hash }
-        requires hashed { hash ≡ key_hash H.BuildHasher H.Hasher.Hasher E.Key.hash_input self.now key.now }
+        requires hashed { hash ≡ hash_in H.hash_of self.now key.now }
         ensures place { result ≡ position (λ e. E.Key.eq key.now (E.key_of e)) (list_of self.now bucket) }
         ensures missed { result ≡ None → position (λ e. E.Key.eq key.now (E.key_of e)) (entries self.now) ≡ None }
     {
@@ -33,7 +32,7 @@ where
     /// As `search`, but the contract speaks of the list of the bucket. `hash` must be the hash of `key`.
     #[inline(always)]
     pub fn search_place(&self, hash: u64, key: &E::Key) -> Option<Place>
-        requires { hash ≡ key_hash H.BuildHasher H.Hasher.Hasher E.Key.hash_input self.now key.now }
+        requires { hash ≡ hash_in H.hash_of self.now key.now }
         ensures { MatchOption result (IsUnlisted (λ e. E.Key.eq key.now (E.key_of e)) self.now
             (bucket_number (settings_of self.now).skipped (bucket_count self.now) hash))
             (IsListedAt (λ e. E.Key.eq key.now (E.key_of e)) self.now

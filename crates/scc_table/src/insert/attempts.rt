@@ -1,6 +1,6 @@
 //! The insertion of an entry whose key is new, from the check for a growth down to the bucket.
 ghost use Rattle.scc_buckets.specs.Insertions.{IsNewIn};
-ghost use Rattle.scc_common.specs.Contents.{entries, key_hash, list_of, pending_of, waiting_of, HasRoomBy};
+ghost use Rattle.scc_common.specs.Contents.{entries, hash_in, list_of, pending_of, waiting_of, HasRoomBy};
 ghost use Rattle.scc_table.specs.Insertions.{InsertsAndRelocates, InsertsThenRelocates, InsertsNew};
 ghost use Rattle.scc_table.specs.Puts.{InsertsIn};
 ghost use Rattle.scc_table.specs.TwoArrays.{IsWaiting, pending_targets, waits_at};
@@ -10,13 +10,12 @@ ghost use Rattle.std.specs.Prelude.{◌≡◌, ◌<◌, ◌≤◌, ◌+◌, fals
 use crate::Table;
 use scc_buckets::Place;
 use scc_buckets::sizes::GREATEST_CAPACITY;
-use scc_common::Keyed;
+use scc_common::{Hashes, Keyed};
 use scc_draining::has_no_room;
-use std::hash::{BuildHasher, Hash};
 
-impl<E: Keyed, H: BuildHasher> Table<E, H>
+impl<E: Keyed, H: Hashes<E::Key>> Table<E, H>
 where
-    E::Key: Eq + Hash,
+    E::Key: Eq,
 {
     /// Inserts `entry`, whose key is new, and returns its place. Makes the first array if there is none. Doubles the
     /// array if no bucket waits, the bucket of `hash` holds 32 entries or more, and the table has at least half as many
@@ -26,9 +25,9 @@ where
     /// refused, or if the bucket is full and the overflow list can't grow; then `entry` is handed back.
     #[inline(always)]
     pub fn insert_new(&mut self, hash: u64, entry: E) -> Result<Place, E>
-        requires hashed { hash ≡ key_hash H.BuildHasher H.Hasher.Hasher E.Key.hash_input self.old (E.key_of entry) }
+        requires hashed { hash ≡ hash_in H.hash_of self.old (E.key_of entry) }
         requires absent { position (λ e. E.Key.eq (E.key_of entry) (E.key_of e)) (entries self.old) ≡ None }
-        ensures { InsertsNew E.Key.eq E.key_of (key_hash H.BuildHasher H.Hasher.Hasher E.Key.hash_input self.old)
+        ensures { InsertsNew E.Key.eq E.key_of (hash_in H.hash_of self.old)
             self.old hash entry result self.new }
     {
         if self.draining.pending == 0 && self.bucket_count() > 0 {
@@ -43,7 +42,7 @@ where
     /// As `insert_and_relocate`, if no bucket waits and `bucket` holds fewer than 32 entries. Allocates nothing.
     #[inline(always)]
     pub(crate) fn insert_with_room(&mut self, bucket: usize, hash: u64, entry: E) -> Place
-        requires new { IsNewIn E.Key.eq E.key_of (key_hash H.BuildHasher H.Hasher.Hasher E.Key.hash_input self.old) self.old
+        requires new { IsNewIn E.Key.eq E.key_of (hash_in H.hash_of self.old) self.old
             bucket hash (E.key_of entry) }
         requires none { pending_of self.old ≡ 0 }
         requires short { length (list_of self.old bucket) < 32 }
@@ -54,9 +53,9 @@ where
 
     /// As `insert_new`, after a check whether the array has to be made or to grow.
     pub(crate) fn insert_after_growth(&mut self, hash: u64, entry: E) -> Result<Place, E>
-        requires hashed { hash ≡ key_hash H.BuildHasher H.Hasher.Hasher E.Key.hash_input self.old (E.key_of entry) }
+        requires hashed { hash ≡ hash_in H.hash_of self.old (E.key_of entry) }
         requires absent { position (λ e. E.Key.eq (E.key_of entry) (E.key_of e)) (entries self.old) ≡ None }
-        ensures { InsertsNew E.Key.eq E.key_of (key_hash H.BuildHasher H.Hasher.Hasher E.Key.hash_input self.old)
+        ensures { InsertsNew E.Key.eq E.key_of (hash_in H.hash_of self.old)
             self.old hash entry result self.new }
     {
         match self.bucket_for_new(hash, GREATEST_CAPACITY) {
@@ -75,10 +74,10 @@ where
         hash: u64,
         entry: E,
     ) -> Result<Place, E>
-        requires { IsNewIn E.Key.eq E.key_of (key_hash H.BuildHasher H.Hasher.Hasher E.Key.hash_input self.old) self.old
+        requires { IsNewIn E.Key.eq E.key_of (hash_in H.hash_of self.old) self.old
             bucket hash (E.key_of entry) }
         ensures { InsertsAndRelocates E.Key.eq E.key_of self.old bucket entry entry
-            (HasRoomBy (key_hash H.BuildHasher H.Hasher.Hasher E.Key.hash_input self.old) E.key_of self.old
+            (HasRoomBy (hash_in H.hash_of self.old) E.key_of self.old
             (E.key_of entry) → ⊥) result self.new }
     {
         if self.is_waiting(bucket) {
@@ -95,11 +94,11 @@ where
         hash: u64,
         entry: E,
     ) -> Result<Place, E>
-        requires new { IsNewIn E.Key.eq E.key_of (key_hash H.BuildHasher H.Hasher.Hasher E.Key.hash_input self.old) self.old
+        requires new { IsNewIn E.Key.eq E.key_of (hash_in H.hash_of self.old) self.old
             bucket hash (E.key_of entry) }
         requires waits { IsWaiting self.old bucket }
         ensures { InsertsAndRelocates E.Key.eq E.key_of self.old bucket entry entry
-            (HasRoomBy (key_hash H.BuildHasher H.Hasher.Hasher E.Key.hash_input self.old) E.key_of self.old
+            (HasRoomBy (hash_in H.hash_of self.old) E.key_of self.old
             (E.key_of entry) → ⊥) result self.new }
     {
         match self.relocate(bucket) {
@@ -118,12 +117,12 @@ where
         entry: E,
         most: usize,
     ) -> Result<Place, E>
-        requires new { IsNewIn E.Key.eq E.key_of (key_hash H.BuildHasher H.Hasher.Hasher E.Key.hash_input self.old) self.old
+        requires new { IsNewIn E.Key.eq E.key_of (hash_in H.hash_of self.old) self.old
             bucket hash (E.key_of entry) }
         requires not_waiting { waits_at (waiting_of self.old) bucket ≡ false }
         requires most { most ≤ 2 }
         ensures { InsertsThenRelocates E.Key.eq E.key_of self.old bucket entry entry (pending_targets self.old) most most
-            (HasRoomBy (key_hash H.BuildHasher H.Hasher.Hasher E.Key.hash_input self.old) E.key_of self.old
+            (HasRoomBy (hash_in H.hash_of self.old) E.key_of self.old
             (E.key_of entry) → ⊥) result self.new }
     {
         match self.insert_in(bucket, hash, entry) {
@@ -139,11 +138,11 @@ where
     /// and not wait. Fails if the bucket is full and the overflow list can't grow; then `entry` is handed back.
     #[inline(always)]
     pub fn insert_in(&mut self, bucket: usize, hash: u64, entry: E) -> Result<Place, E>
-        requires new { IsNewIn E.Key.eq E.key_of (key_hash H.BuildHasher H.Hasher.Hasher E.Key.hash_input self.old) self.old
+        requires new { IsNewIn E.Key.eq E.key_of (hash_in H.hash_of self.old) self.old
             bucket hash (E.key_of entry) }
         requires not_waiting { waits_at (waiting_of self.old) bucket ≡ false }
         ensures { InsertsIn E.Key.eq E.key_of self.old bucket entry entry
-            (HasRoomBy (key_hash H.BuildHasher H.Hasher.Hasher E.Key.hash_input self.old) E.key_of self.old
+            (HasRoomBy (hash_in H.hash_of self.old) E.key_of self.old
             (E.key_of entry) → ⊥) result self.new }
     {
         if self.draining.left_overflow > 0 {

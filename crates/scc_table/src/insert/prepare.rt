@@ -1,6 +1,6 @@
 //! The preparation of an insertion.
 ghost use Rattle.scc_buckets.specs.Bounded.{IsListed};
-ghost use Rattle.scc_common.specs.Contents.{bucket_count, key_hash, lists_of, notes_of, settings_of, waiting_of, IsMarked, IsNoteUp, IsUniqueBy, note_of};
+ghost use Rattle.scc_common.specs.Contents.{bucket_count, hash_in, lists_of, notes_of, settings_of, waiting_of, IsMarked, IsNoteUp, IsUniqueBy, note_of};
 ghost use Rattle.scc_common.specs.Routing.{bucket_number};
 ghost use Rattle.scc_common.specs.Steps.{IsUnchanged, Prepares};
 ghost use Rattle.scc_table.specs.Bounded.{GrowsBelow, IsPreparedBelow};
@@ -8,13 +8,12 @@ ghost use Rattle.scc_table.specs.Marks.{MarksPreparation};
 ghost use Rattle.std.specs.Prelude.{◌≡◌, ◌≢◌, ◌<◌, ◌≤◌, ◌^◌, ◌⊎◌, [], false, true, replicate, OnOk, OnErr};
 
 use crate::Table;
-use scc_common::Keyed;
+use scc_common::{Hashes, Keyed};
 use std::alloc::AllocError;
-use std::hash::{BuildHasher, Hash};
 
-impl<E: Keyed, H: BuildHasher> Table<E, H>
+impl<E: Keyed, H: Hashes<E::Key>> Table<E, H>
 where
-    E::Key: Eq + Hash,
+    E::Key: Eq,
 {
     /// Prepares an insertion of a new key with the hash `hash`: makes the first array, or doubles the array as
     /// `bucket_for_new` does; then every bucket of the new array waits. A growth whose memory is refused is noted and
@@ -22,19 +21,19 @@ where
     /// changes.
     pub fn prepare(&mut self, hash: u64, most: usize) -> Result<(), AllocError>
         requires most { most ≤ 2 ^ 63 }
-        ensures ok { OnOk result (most ≡ 2 ^ 63 → Prepares (key_hash H.BuildHasher H.Hasher.Hasher E.Key.hash_input
+        ensures ok { OnOk result (most ≡ 2 ^ 63 → Prepares (hash_in H.hash_of
             self.old) E.key_of self.old hash self.new) }
         ensures ready { OnOk result (IsPreparedBelow most (bucket_number (settings_of self.new).skipped
             (bucket_count self.new) hash) self.new) }
-        ensures grows { OnOk result (IsListed (λ e. key_hash H.BuildHasher H.Hasher.Hasher E.Key.hash_input self.old
-            (E.key_of e)) self.old → GrowsBelow (λ e. key_hash H.BuildHasher H.Hasher.Hasher E.Key.hash_input self.old
+        ensures grows { OnOk result (IsListed (λ e. hash_in H.hash_of self.old
+            (E.key_of e)) self.old → GrowsBelow (λ e. hash_in H.hash_of self.old
             (E.key_of e)) most (bucket_number (settings_of self.old).skipped (bucket_count self.old) hash) self.old
             self.new) }
-        ensures listed { IsListed (λ e. key_hash H.BuildHasher H.Hasher.Hasher E.Key.hash_input self.old (E.key_of e)) self.old
-            → IsListed (λ e. key_hash H.BuildHasher H.Hasher.Hasher E.Key.hash_input self.new (E.key_of e)) self.new }
+        ensures listed { IsListed (λ e. hash_in H.hash_of self.old (E.key_of e)) self.old
+            → IsListed (λ e. hash_in H.hash_of self.new (E.key_of e)) self.new }
         ensures err { OnErr result (bucket_count self.old ≡ 0) }
         ensures same { OnErr result (self.new ≡ self.old) }
-        ensures marks { most ≡ 2 ^ 63 → MarksPreparation (key_hash H.BuildHasher H.Hasher.Hasher E.Key.hash_input self.old)
+        ensures marks { most ≡ 2 ^ 63 → MarksPreparation (hash_in H.hash_of self.old)
             E.key_of self.old hash self.new }
         ensures marked { IsMarked self.new → IsMarked self.old ⊎ IsNoteUp self.new }
         ensures first { bucket_count self.old ≡ 0 → waiting_of self.new ≡ [] }
@@ -71,8 +70,8 @@ where
         ensures settings { settings_of self.new ≡ settings_of self.old }
         ensures waiting { waiting_of self.new ≡ waiting_of self.old }
         ensures noted { notes_of self.new ≡ (note_of self.old, false) }
-        ensures listed { IsListed (λ e. key_hash H.BuildHasher H.Hasher.Hasher E.Key.hash_input self.old (E.key_of e)) self.old
-            → IsListed (λ e. key_hash H.BuildHasher H.Hasher.Hasher E.Key.hash_input self.new (E.key_of e)) self.new }
+        ensures listed { IsListed (λ e. hash_in H.hash_of self.old (E.key_of e)) self.old
+            → IsListed (λ e. hash_in H.hash_of self.new (E.key_of e)) self.new }
         ensures unique { IsUniqueBy E.Key.eq E.key_of self.new }
     {
         let refused = self.is_resize_refused();

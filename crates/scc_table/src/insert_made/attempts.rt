@@ -1,6 +1,6 @@
 //! The insertion of an entry that is made of its parts, from the check for a growth down to the bucket.
 ghost use Rattle.scc_buckets.specs.Insertions.{IsNewIn};
-ghost use Rattle.scc_common.specs.Contents.{entries, bucket_count, key_hash, pending_of, waiting_of};
+ghost use Rattle.scc_common.specs.Contents.{entries, bucket_count, hash_in, pending_of, waiting_of};
 ghost use Rattle.scc_table.specs.Insertions.{InsertsAndRelocates, InsertsThenRelocates};
 ghost use Rattle.scc_table.specs.MadeInsertions.{InsertsMade, InsertsMadeFirst, InsertsMadeFull, InsertsMadeNoted};
 ghost use Rattle.scc_table.specs.Puts.{InsertsIn};
@@ -11,23 +11,22 @@ ghost use Rattle.std.specs.Prelude.{◌≡◌, ◌<◌, ◌≤◌, false, None};
 use crate::Table;
 use scc_buckets::Place;
 use scc_buckets::sizes::MOST_BUCKETS;
-use scc_common::{Keyed, Made};
+use scc_common::{Hashes, Keyed, Made};
 use scc_draining::{fresh_waiting, has_no_room};
-use std::hash::{BuildHasher, Hash};
 
-impl<E: Keyed + Made, H: BuildHasher> Table<E, H>
+impl<E: Keyed + Made, H: Hashes<E::Key>> Table<E, H>
 where
-    E::Key: Eq + Hash,
+    E::Key: Eq,
 {
     /// Inserts an entry made of `parts`, whose key is new, and returns its place. The array grows as for `insert_new`.
     /// After the entry is made, the call can't fail. Fails if memory for the first array or to relocate the bucket of
     /// `hash` is refused, if the bucket is full and the overflow list can't grow, or if the entry can't be made; then
     /// `parts` are handed back, and each list stays.
     pub fn insert_made(&mut self, hash: u64, parts: E::Parts) -> Result<Place, E::Parts>
-        requires hashed { hash ≡ key_hash H.BuildHasher H.Hasher.Hasher E.Key.hash_input self.old
+        requires hashed { hash ≡ hash_in H.hash_of self.old
             (E.key_of (E.made_of parts)) }
         requires absent { position (λ e. E.Key.eq (E.key_of (E.made_of parts)) (E.key_of e)) (entries self.old) ≡ None }
-        ensures { InsertsMade E.Key.eq E.key_of (key_hash H.BuildHasher H.Hasher.Hasher E.Key.hash_input self.old)
+        ensures { InsertsMade E.Key.eq E.key_of (hash_in H.hash_of self.old)
             self.old hash (E.made_of parts) parts result self.new }
     {
         if self.bucket_count() == 0 {
@@ -47,7 +46,7 @@ where
     #[cold]
     fn insert_made_first(&mut self, hash: u64, parts: E::Parts) -> Result<Place, E::Parts>
         requires none { bucket_count self.old ≡ 0 }
-        requires hashed { hash ≡ key_hash H.BuildHasher H.Hasher.Hasher E.Key.hash_input self.old
+        requires hashed { hash ≡ hash_in H.hash_of self.old
             (E.key_of (E.made_of parts)) }
         requires absent { position (λ e. E.Key.eq (E.key_of (E.made_of parts)) (E.key_of e)) (entries self.old) ≡ None }
         ensures { InsertsMadeFirst E.Key.eq E.key_of self.old (E.made_of parts) parts result self.new }
@@ -67,10 +66,10 @@ where
         hash: u64,
         parts: E::Parts,
     ) -> Result<Place, E::Parts>
-        requires new { IsNewIn E.Key.eq E.key_of (key_hash H.BuildHasher H.Hasher.Hasher E.Key.hash_input self.old) self.old
+        requires new { IsNewIn E.Key.eq E.key_of (hash_in H.hash_of self.old) self.old
             bucket hash (E.key_of (E.made_of parts)) }
         requires pending { pending_of self.old ≡ 0 }
-        ensures { InsertsMadeFull E.Key.eq E.key_of (key_hash H.BuildHasher H.Hasher.Hasher E.Key.hash_input self.old)
+        ensures { InsertsMadeFull E.Key.eq E.key_of (hash_in H.hash_of self.old)
             self.old hash (E.made_of parts) parts result self.new }
     {
         let count = self.bucket_count();
@@ -99,7 +98,7 @@ where
         hash: u64,
         parts: E::Parts,
     ) -> Result<Place, E::Parts>
-        requires { IsNewIn E.Key.eq E.key_of (key_hash H.BuildHasher H.Hasher.Hasher E.Key.hash_input self.old) self.old
+        requires { IsNewIn E.Key.eq E.key_of (hash_in H.hash_of self.old) self.old
             bucket hash (E.key_of (E.made_of parts)) }
         ensures { InsertsMadeNoted E.Key.eq E.key_of self.old bucket (E.made_of parts) parts result
             self.new }
@@ -118,7 +117,7 @@ where
         hash: u64,
         parts: E::Parts,
     ) -> Result<Place, E::Parts>
-        requires { IsNewIn E.Key.eq E.key_of (key_hash H.BuildHasher H.Hasher.Hasher E.Key.hash_input self.old) self.old
+        requires { IsNewIn E.Key.eq E.key_of (hash_in H.hash_of self.old) self.old
             bucket hash (E.key_of (E.made_of parts)) }
         ensures { InsertsAndRelocates E.Key.eq E.key_of self.old bucket (E.made_of parts) parts (Unit {0}) result
             self.new }
@@ -137,7 +136,7 @@ where
         hash: u64,
         parts: E::Parts,
     ) -> Result<Place, E::Parts>
-        requires new { IsNewIn E.Key.eq E.key_of (key_hash H.BuildHasher H.Hasher.Hasher E.Key.hash_input self.old) self.old
+        requires new { IsNewIn E.Key.eq E.key_of (hash_in H.hash_of self.old) self.old
             bucket hash (E.key_of (E.made_of parts)) }
         requires waits { IsWaiting self.old bucket }
         ensures { InsertsAndRelocates E.Key.eq E.key_of self.old bucket (E.made_of parts) parts (Unit {0}) result
@@ -159,7 +158,7 @@ where
         parts: E::Parts,
         most: usize,
     ) -> Result<Place, E::Parts>
-        requires new { IsNewIn E.Key.eq E.key_of (key_hash H.BuildHasher H.Hasher.Hasher E.Key.hash_input self.old) self.old
+        requires new { IsNewIn E.Key.eq E.key_of (hash_in H.hash_of self.old) self.old
             bucket hash (E.key_of (E.made_of parts)) }
         requires not_waiting { waits_at (waiting_of self.old) bucket ≡ false }
         requires most { most ≤ 2 }
@@ -185,7 +184,7 @@ where
         hash: u64,
         parts: E::Parts,
     ) -> Result<Place, E::Parts>
-        requires new { IsNewIn E.Key.eq E.key_of (key_hash H.BuildHasher H.Hasher.Hasher E.Key.hash_input self.old) self.old
+        requires new { IsNewIn E.Key.eq E.key_of (hash_in H.hash_of self.old) self.old
             bucket hash (E.key_of (E.made_of parts)) }
         requires not_waiting { waits_at (waiting_of self.old) bucket ≡ false }
         ensures { InsertsIn E.Key.eq E.key_of self.old bucket (E.made_of parts) parts (Unit {0}) result

@@ -2,7 +2,7 @@
 ghost use Rattle.scc_array.specs.Shelf.{empty_shelf};
 ghost use Rattle.scc_buckets.specs.Pour.{destined_for};
 ghost use Rattle.scc_buckets.specs.Insertions.{IsNewIn};
-ghost use Rattle.scc_common.specs.Contents.{entries, bucket_count, key_hash, list_of, pending_of, settings_of, waiting_of};
+ghost use Rattle.scc_common.specs.Contents.{entries, bucket_count, hash_in, list_of, pending_of, settings_of, waiting_of};
 ghost use Rattle.scc_common.specs.Routing.{bucket_number};
 ghost use Rattle.scc_common.specs.Sizes.{IsBucketCount};
 ghost use Rattle.scc_table.specs.Growths.{DoublesAround, InsertsGrown};
@@ -14,13 +14,12 @@ ghost use Rattle.std.specs.Prelude.{◌≡◌, ◌<◌, ◌*◌, ◌^◌, false,
 use crate::Table;
 use scc_array::Array;
 use scc_buckets::Place;
-use scc_common::{Keyed, Made};
+use scc_common::{Hashes, Keyed, Made};
 use scc_draining::count_destined;
-use std::hash::{BuildHasher, Hash};
 
-impl<E: Keyed, H: BuildHasher> Table<E, H>
+impl<E: Keyed, H: Hashes<E::Key>> Table<E, H>
 where
-    E::Key: Eq + Hash,
+    E::Key: Eq,
 {
     /// Returns whether the bucket of `hash` would hold 32 entries or more after a doubling. `bucket` must be the bucket
     /// of `hash` in the current array, and not wait.
@@ -30,7 +29,7 @@ where
         requires not_waiting { waits_at (waiting_of self.now) bucket ≡ false }
         requires below { 32 * bucket_count self.now < 2 ^ 63 }
         ensures { result ≡ false → length (destined_for
-            (λ e. key_hash H.BuildHasher H.Hasher.Hasher E.Key.hash_input self.now (E.key_of e))
+            (λ e. hash_in H.hash_of self.now (E.key_of e))
             (settings_of self.now).skipped (2 * bucket_count self.now)
             (bucket_number (settings_of self.now).skipped (2 * bucket_count self.now) hash) (entries self.now)) < 32 }
     {
@@ -54,12 +53,12 @@ where
         requires within { place.bucket < bucket_count self.old }
         requires slot { place.slot < length (list_of self.old place.bucket) }
         requires hashed { (e : E) → slice_get (list_of self.old place.bucket) place.slot ≡ Some e
-            → hash ≡ key_hash H.BuildHasher H.Hasher.Hasher E.Key.hash_input self.old (E.key_of e) }
+            → hash ≡ hash_in H.hash_of self.old (E.key_of e) }
         requires pending { pending_of self.old ≡ 0 }
         requires below { 32 * bucket_count self.old < 2 ^ 63 }
         requires empty { fresh ≡ replicate (2 * bucket_count self.old) empty_shelf }
         requires flags { flags.items ≡ replicate (2 * bucket_count self.old) true }
-        ensures { DoublesAround E.Key.eq E.key_of (key_hash H.BuildHasher H.Hasher.Hasher E.Key.hash_input self.old)
+        ensures { DoublesAround E.Key.eq E.key_of (hash_in H.hash_of self.old)
             self.old place hash result self.new }
     {
         let count = 2 * self.bucket_count();
@@ -95,12 +94,12 @@ where
         requires more { bucket_count self.old < count }
         requires empty { fresh ≡ replicate count empty_shelf }
         requires flags { flags.items ≡ replicate count true }
-        requires room { length (destined_for (λ e. key_hash H.BuildHasher H.Hasher.Hasher E.Key.hash_input self.old
+        requires room { length (destined_for (λ e. hash_in H.hash_of self.old
             (E.key_of e)) (settings_of self.old).skipped count
             (bucket_number (settings_of self.old).skipped count hash) (entries self.old)) < 32 }
-        requires hashed { hash ≡ key_hash H.BuildHasher H.Hasher.Hasher E.Key.hash_input self.old (E.key_of entry) }
+        requires hashed { hash ≡ hash_in H.hash_of self.old (E.key_of entry) }
         requires absent { position (λ e. E.Key.eq (E.key_of entry) (E.key_of e)) (entries self.old) ≡ None }
-        ensures { InsertsGrown E.Key.eq E.key_of (key_hash H.BuildHasher H.Hasher.Hasher E.Key.hash_input self.old)
+        ensures { InsertsGrown E.Key.eq E.key_of (hash_in H.hash_of self.old)
             self.old count hash entry result self.new }
     {
         self.install(count, fresh, flags);
@@ -113,9 +112,9 @@ where
     }
 }
 
-impl<E: Keyed + Made, H: BuildHasher> Table<E, H>
+impl<E: Keyed + Made, H: Hashes<E::Key>> Table<E, H>
 where
-    E::Key: Eq + Hash,
+    E::Key: Eq,
 {
     /// As `insert_grown`, with an entry made of `parts` before the installation. If the entry can't be made, `parts`
     /// are handed back, the growth is noted as refused, and nothing else changes.
@@ -133,14 +132,14 @@ where
         requires more { bucket_count self.old < count }
         requires empty { fresh ≡ replicate count empty_shelf }
         requires flags { flags.items ≡ replicate count true }
-        requires room { length (destined_for (λ e. key_hash H.BuildHasher H.Hasher.Hasher E.Key.hash_input self.old
+        requires room { length (destined_for (λ e. hash_in H.hash_of self.old
             (E.key_of e)) (settings_of self.old).skipped count
             (bucket_number (settings_of self.old).skipped count hash) (entries self.old)) < 32 }
-        requires hashed { hash ≡ key_hash H.BuildHasher H.Hasher.Hasher E.Key.hash_input self.old
+        requires hashed { hash ≡ hash_in H.hash_of self.old
             (E.key_of (E.made_of parts)) }
         requires absent { position (λ e. E.Key.eq (E.key_of (E.made_of parts)) (E.key_of e)) (entries self.old) ≡ None }
         ensures { InsertsMadeGrown E.Key.eq E.key_of
-            (key_hash H.BuildHasher H.Hasher.Hasher E.Key.hash_input self.old) self.old count hash
+            (hash_in H.hash_of self.old) self.old count hash
             (E.made_of parts) parts result self.new }
     {
         match E::make(self.current.allocator(), parts) {
@@ -165,14 +164,14 @@ where
         hash: u64,
         parts: E::Parts,
     ) -> Result<Place, E::Parts>
-        requires new { IsNewIn E.Key.eq E.key_of (key_hash H.BuildHasher H.Hasher.Hasher E.Key.hash_input self.old) self.old
+        requires new { IsNewIn E.Key.eq E.key_of (hash_in H.hash_of self.old) self.old
             bucket hash (E.key_of (E.made_of parts)) }
         requires pending { pending_of self.old ≡ 0 }
         requires below { 32 * bucket_count self.old < 2 ^ 63 }
         requires empty { fresh ≡ replicate (2 * bucket_count self.old) empty_shelf }
         requires flags { flags.items ≡ replicate (2 * bucket_count self.old) true }
         ensures { InsertsMadeCrowded E.Key.eq E.key_of
-            (key_hash H.BuildHasher H.Hasher.Hasher E.Key.hash_input self.old) self.old hash (E.made_of parts)
+            (hash_in H.hash_of self.old) self.old hash (E.made_of parts)
             parts result self.new }
     {
         match self.insert_made_in(bucket, hash, parts) {

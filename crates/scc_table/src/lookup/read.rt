@@ -1,5 +1,5 @@
 //! Reads: the entry at a place, sizes, settings, and the bucket of a key.
-ghost use Rattle.scc_common.specs.Contents.{entries, bucket_count, bucket_of, key_hash, list_of, minimum_of, settings_of, HasRoomBy, IsRouted, IsUniqueBy};
+ghost use Rattle.scc_common.specs.Contents.{entries, bucket_count, bucket_of, hash_in, list_of, minimum_of, settings_of, HasRoomBy, IsRouted, IsUniqueBy};
 ghost use Rattle.scc_common.specs.Routing.{bucket_number};
 ghost use Rattle.scc_table.specs.Places.{IsPlace, index_of};
 ghost use Rattle.scc_table.specs.TwoArrays.{IsWaiting};
@@ -7,13 +7,12 @@ ghost use Rattle.std.specs.Prelude.{◌≡◌, ◌≤◌, ◌<◌, ◌^◌, ◌�
 
 use crate::Table;
 use scc_buckets::Place;
-use scc_common::{Keyed, SharedVersion, Version};
+use scc_common::{Hashes, Keyed, SharedVersion, Version};
 use scc_draining::{Relocation, sources};
-use std::hash::{BuildHasher, Hash};
 
-impl<E: Keyed, H: BuildHasher> Table<E, H>
+impl<E: Keyed, H: Hashes<E::Key>> Table<E, H>
 where
-    E::Key: Eq + Hash,
+    E::Key: Eq,
 {
     /// Returns the number of entries.
     #[inline(always)]
@@ -43,14 +42,14 @@ where
     /// Returns the hash of `key` under the hasher of the table.
     #[inline(always)]
     pub fn hash(&self, key: &E::Key) -> u64
-        ensures { result ≡ key_hash H.BuildHasher H.Hasher.Hasher E.Key.hash_input self.now key.now }
+        ensures { result ≡ hash_in H.hash_of self.now key.now }
     {
         self.current.hash(key)
     }
 
     /// Returns the number of the bucket of `key`, 0 if there is no array.
     pub fn bucket_index(&self, key: &E::Key) -> usize
-        ensures { result ≡ bucket_of (key_hash H.BuildHasher H.Hasher.Hasher E.Key.hash_input self.now) self.now
+        ensures { result ≡ bucket_of (hash_in H.hash_of self.now) self.now
             key.now }
     {
         self.current.bucket_index(key)
@@ -61,7 +60,7 @@ where
     pub fn bucket_at(&self, hash: u64) -> usize
         ensures value { result ≡ bucket_number (settings_of self.now).skipped (bucket_count self.now) hash }
         ensures within { 0 < bucket_count self.now → result < bucket_count self.now }
-        ensures routed { IsRouted (λ e. key_hash H.BuildHasher H.Hasher.Hasher E.Key.hash_input self.now (E.key_of e))
+        ensures routed { IsRouted (λ e. hash_in H.hash_of self.now (E.key_of e))
             self.now }
         ensures unique { IsUniqueBy E.Key.eq E.key_of self.now }
     {
@@ -74,7 +73,7 @@ where
     pub fn list_len(&self, bucket: usize) -> usize
         requires { bucket < bucket_count self.now }
         ensures len { result ≡ length (list_of self.now bucket) }
-        ensures routed { IsRouted (λ e. key_hash H.BuildHasher H.Hasher.Hasher E.Key.hash_input self.now (E.key_of e))
+        ensures routed { IsRouted (λ e. hash_in H.hash_of self.now (E.key_of e))
             self.now }
     {
         if self.is_waiting(bucket) {
@@ -88,7 +87,7 @@ where
     fn waiting_len(&self, bucket: usize) -> usize
         requires { IsWaiting self.now bucket }
         ensures len { result ≡ length (list_of self.now bucket) }
-        ensures routed { IsRouted (λ e. key_hash H.BuildHasher H.Hasher.Hasher E.Key.hash_input self.now (E.key_of e))
+        ensures routed { IsRouted (λ e. hash_in H.hash_of self.now (E.key_of e))
             self.now }
     {
         let count = self.current.bucket_count();
@@ -106,7 +105,7 @@ where
     /// Returns whether there is an array and the bucket of `key` holds fewer than 32 entries. Then its bucket needs no
     /// memory for an insertion of `key`.
     pub fn has_room(&self, key: &E::Key) -> bool
-        ensures { IsTrue result ↔ HasRoomBy (key_hash H.BuildHasher H.Hasher.Hasher E.Key.hash_input self.now)
+        ensures { IsTrue result ↔ HasRoomBy (hash_in H.hash_of self.now)
             E.key_of self.now key.now }
     {
         if self.bucket_count() == 0 {
@@ -126,7 +125,7 @@ where
     }
 }
 
-impl<K: Eq + Hash, V, H: BuildHasher> Table<(K, V), H> {
+impl<K: Eq, V, H: Hashes<K>> Table<(K, V), H> {
     /// Returns the key and the value at `place`.
     #[inline(always)]
     pub fn pair_at(&self, place: Place) -> (&K, &V)
@@ -138,7 +137,7 @@ impl<K: Eq + Hash, V, H: BuildHasher> Table<(K, V), H> {
     }
 }
 
-impl<K: Eq + Hash, V, H: BuildHasher> Table<SharedVersion<K, V>, H> {
+impl<K: Eq, V, H: Hashes<K>> Table<SharedVersion<K, V>, H> {
     /// Returns the version at `place`.
     #[inline(always)]
     pub fn version_at(&self, place: Place) -> &Version<K, V>

@@ -1,5 +1,5 @@
 //! The search for a key: its place, or the entry itself, also by a hint.
-ghost use Rattle.scc_common.specs.Contents.{entries, key_hash, pending_of, IsRouted, IsUniqueBy};
+ghost use Rattle.scc_common.specs.Contents.{entries, hash_in, pending_of, IsRouted, IsUniqueBy};
 ghost use Rattle.scc_table.specs.Places.{IsFoundAt};
 ghost use Rattle.std.specs.List.{position, find};
 ghost use Rattle.std.specs.Option.{option_copied};
@@ -7,23 +7,22 @@ ghost use Rattle.std.specs.Prelude.{◌≡◌, ◌<◌, ◌≤◌, ◌^◌, None
 
 use crate::Table;
 use scc_buckets::Place;
-use scc_common::Keyed;
-use std::hash::{BuildHasher, Hash};
+use scc_common::{Hashes, Keyed};
 
 /// A number that no bucket of an array has.
 pub(crate) const NOWHERE: usize = 1 << 60;
 
-impl<E: Keyed, H: BuildHasher> Table<E, H>
+impl<E: Keyed, H: Hashes<E::Key>> Table<E, H>
 where
-    E::Key: Eq + Hash,
+    E::Key: Eq,
 {
     /// Returns the place of the entry whose key equals `key`, or `None`. `hash` must be the hash of `key`.
     #[inline(always)]
     pub fn search(&self, hash: u64, key: &E::Key) -> Option<Place>
-        requires { hash ≡ key_hash H.BuildHasher H.Hasher.Hasher E.Key.hash_input self.now key.now }
+        requires { hash ≡ hash_in H.hash_of self.now key.now }
         ensures place { MatchOption result (position (λ e. E.Key.eq key.now (E.key_of e)) (entries self.now) ≡ None)
             (IsFoundAt (λ e. E.Key.eq key.now (E.key_of e)) self.now) }
-        ensures routed { IsRouted (λ e. key_hash H.BuildHasher H.Hasher.Hasher E.Key.hash_input self.now (E.key_of e))
+        ensures routed { IsRouted (λ e. hash_in H.hash_of self.now (E.key_of e))
             self.now }
         ensures unique { IsUniqueBy E.Key.eq E.key_of self.now }
     {
@@ -44,11 +43,11 @@ where
     #[cold]
     pub(crate) fn search_both(&self, hash: u64, key: &E::Key) -> Place
         requires pending { 0 < pending_of self.now }
-        requires hashed { hash ≡ key_hash H.BuildHasher H.Hasher.Hasher E.Key.hash_input self.now key.now }
+        requires hashed { hash ≡ hash_in H.hash_of self.now key.now }
         ensures found { result.bucket < 2 ^ 60 → IsFoundAt (λ e. E.Key.eq key.now (E.key_of e)) self.now result }
         ensures missed { 2 ^ 60 ≤ result.bucket → position (λ e. E.Key.eq key.now (E.key_of e)) (entries self.now)
             ≡ None }
-        ensures routed { IsRouted (λ e. key_hash H.BuildHasher H.Hasher.Hasher E.Key.hash_input self.now (E.key_of e))
+        ensures routed { IsRouted (λ e. hash_in H.hash_of self.now (E.key_of e))
             self.now }
     {
         let nowhere = Place {
@@ -75,7 +74,7 @@ where
     /// Returns the entry whose key equals `key`, or `None`. `hash` must be the hash of `key`.
     #[inline(always)]
     pub fn find(&self, hash: u64, key: &E::Key) -> Option<&E>
-        requires { hash ≡ key_hash H.BuildHasher H.Hasher.Hasher E.Key.hash_input self.now key.now }
+        requires { hash ≡ hash_in H.hash_of self.now key.now }
         ensures { option_copied result ≡ find (λ e. E.Key.eq key.now (E.key_of e)) (entries self.now) }
     {
         if self.draining.pending == 0 {
@@ -88,7 +87,7 @@ where
     #[cold]
     pub(crate) fn find_both(&self, hash: u64, key: &E::Key) -> Option<&E>
         requires pending { 0 < pending_of self.now }
-        requires hashed { hash ≡ key_hash H.BuildHasher H.Hasher.Hasher E.Key.hash_input self.now key.now }
+        requires hashed { hash ≡ hash_in H.hash_of self.now key.now }
         ensures { option_copied result ≡ find (λ e. E.Key.eq key.now (E.key_of e)) (entries self.now) }
     {
         let bucket = self.current.bucket_at(hash);

@@ -1,6 +1,6 @@
 //! Writes to the entries of two arrays. No write changes a place, and none allocates.
 ghost use Rattle.scc_array.specs.ShelfWrites.{put_whole};
-ghost use Rattle.scc_common.specs.Contents.{entries, key_hash, IsUniqueBy};
+ghost use Rattle.scc_common.specs.Contents.{entries, hash_in, IsUniqueBy};
 ghost use Rattle.scc_table.specs.LendsTable.{lends_value};
 ghost use Rattle.scc_table.specs.Places.{IsPlace, index_of, with_write_at};
 ghost use Rattle.scc_table.specs.Updates.{UpdatesFirst};
@@ -11,12 +11,11 @@ ghost use Rattle.std.specs.Prelude.{◌≡◌, Some, true, slice_get};
 use crate::Table;
 use crate::lookup::search::NOWHERE;
 use scc_buckets::Place;
-use scc_common::{Keyed, Valued};
-use std::hash::{BuildHasher, Hash};
+use scc_common::{Hashes, Keyed, Valued};
 
-impl<E: Keyed, H: BuildHasher> Table<E, H>
+impl<E: Keyed, H: Hashes<E::Key>> Table<E, H>
 where
-    E::Key: Eq + Hash,
+    E::Key: Eq,
 {
     /// Replaces the entry at `place` by `entry`, and returns the old entry. The two keys must be equal.
     pub fn replace_at(&mut self, place: Place, entry: E) -> E
@@ -37,16 +36,16 @@ where
     }
 }
 
-impl<E: Valued, H: BuildHasher> Table<E, H>
+impl<E: Valued, H: Hashes<E::Key>> Table<E, H>
 where
-    E::Key: Eq + Hash,
+    E::Key: Eq,
 {
     /// Returns the value of the entry at `place`, to write to.
     #[inline(always)]
     pub fn value_mut_at(&mut self, place: Place) -> &mut E::Value
         requires { IsPlace self.old place }
-        ensures* writes_back { sem 𝓛 (lends_value E.row H.row E.Key.row H.Hasher.row E.Value.row E.Keyed E.Key.Hash
-            H.BuildHasher H.Hasher.Hasher E.with_value self.entry place result) }
+        ensures* writes_back { sem 𝓛 (lends_value E.row H.row E.Key.row E.Value.row E.Keyed E.Key.PartialEq H.Hashes
+            E.with_value self.entry place result) }
         ensures value { (e : E) × (slice_get (entries self.old) (index_of self.old place) ≡ Some e)
             × (result.now ≡ E.value_of e) }
         ensures unique { IsUniqueBy E.Key.eq E.Keyed.key_of self.old }
@@ -58,8 +57,8 @@ where
     #[inline(always)]
     pub fn parts_mut_at(&mut self, place: Place) -> (&E::Key, &mut E::Value)
         requires { IsPlace self.old place }
-        ensures* writes_back { sem 𝓛 (lends_value E.row H.row E.Key.row H.Hasher.row E.Value.row E.Keyed E.Key.Hash
-            H.BuildHasher H.Hasher.Hasher E.with_value self.entry place result.1) }
+        ensures* writes_back { sem 𝓛 (lends_value E.row H.row E.Key.row E.Value.row E.Keyed E.Key.PartialEq H.Hashes
+            E.with_value self.entry place result.1) }
         ensures parts { (e : E) × (slice_get (entries self.old) (index_of self.old place) ≡ Some e)
             × (result.0.now ≡ E.Keyed.key_of e) × (result.1.now ≡ E.value_of e) }
         ensures unique { IsUniqueBy E.Key.eq E.Keyed.key_of self.old }
@@ -102,7 +101,7 @@ where
         key: &E::Key,
         u: U,
     ) -> Option<R>
-        requires hashed { hash ≡ key_hash H.BuildHasher H.Hasher.Hasher E.Key.hash_input self.old key.now }
+        requires hashed { hash ≡ hash_in H.hash_of self.old key.now }
         requires takes { (e : E) (a : Bor E.Key) (b : MutBor E.Value)
             → find (λ e. E.Key.eq key.now (E.Keyed.key_of e)) (entries self.old) ≡ Some e → a.now ≡ E.Keyed.key_of e
             → b.now ≡ E.value_of e → U.pre u a b }

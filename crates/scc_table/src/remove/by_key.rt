@@ -1,5 +1,5 @@
 //! Removals after which the array may shrink. The order of the other entries may change.
-ghost use Rattle.scc_common.specs.Contents.{bucket_count, key_hash, owed_of, pending_of, settings_of, waiting_of, IsRouted, IsUniqueBy};
+ghost use Rattle.scc_common.specs.Contents.{bucket_count, hash_in, owed_of, pending_of, settings_of, waiting_of, IsRouted, IsUniqueBy};
 ghost use Rattle.scc_common.specs.Routing.{bucket_number};
 ghost use Rattle.scc_table.specs.Places.{IsPlace};
 ghost use Rattle.scc_table.specs.Removals.{RemovesAt, RemovesFirst, SwapTakesFirst};
@@ -9,12 +9,11 @@ ghost use Rattle.std.specs.Prelude.{◌≡◌, ◌<◌, length, []};
 use crate::Table;
 use crate::lookup::search::NOWHERE;
 use scc_buckets::Place;
-use scc_common::Keyed;
-use std::hash::{BuildHasher, Hash};
+use scc_common::{Hashes, Keyed};
 
-impl<E: Keyed, H: BuildHasher> Table<E, H>
+impl<E: Keyed, H: Hashes<E::Key>> Table<E, H>
 where
-    E::Key: Eq + Hash,
+    E::Key: Eq,
 {
     /// Takes the entry at `place` out, and returns it. The places of the other entries may change. The array may shrink
     /// if few entries are left; then every bucket of the new array waits. If no shrink is due, the waiting buckets
@@ -32,7 +31,7 @@ where
     /// entry. `hash` must be the hash of `key`. If no bucket waits, the entry is looked for once.
     #[inline(always)]
     pub fn remove(&mut self, hash: u64, key: &E::Key) -> Option<E>
-        requires { hash ≡ key_hash H.BuildHasher H.Hasher.Hasher E.Key.hash_input self.old key.now }
+        requires { hash ≡ hash_in H.hash_of self.old key.now }
         ensures step { RemovesFirst E.Key.eq E.key_of (λ e. E.Key.eq key.now (E.key_of e)) self.old self.new result }
         ensures unique { IsUniqueBy E.Key.eq E.key_of self.old }
     {
@@ -52,7 +51,7 @@ where
     #[inline(always)]
     fn take_from_current(&mut self, hash: u64, key: &E::Key) -> Option<E>
         requires not_waiting { waiting_of self.old ≡ [] }
-        requires hashed { hash ≡ key_hash H.BuildHasher H.Hasher.Hasher E.Key.hash_input self.old key.now }
+        requires hashed { hash ≡ hash_in H.hash_of self.old key.now }
         ensures { SwapTakesFirst E.Key.eq E.key_of (λ e. E.Key.eq key.now (E.key_of e)) self.old self.new result }
     {
         self.current.take_first(hash, key)
@@ -62,7 +61,7 @@ where
     #[cold]
     fn remove_from_both(&mut self, hash: u64, key: &E::Key) -> Option<E>
         requires pending { 0 < pending_of self.old }
-        requires hashed { hash ≡ key_hash H.BuildHasher H.Hasher.Hasher E.Key.hash_input self.old key.now }
+        requires hashed { hash ≡ hash_in H.hash_of self.old key.now }
         ensures { RemovesFirst E.Key.eq E.key_of (λ e. E.Key.eq key.now (E.key_of e)) self.old self.new result }
     {
         match self.take_from_both(hash, key) {
@@ -79,7 +78,7 @@ where
     #[inline(always)]
     fn take_from_both(&mut self, hash: u64, key: &E::Key) -> Option<E>
         requires pending { 0 < pending_of self.old }
-        requires hashed { hash ≡ key_hash H.BuildHasher H.Hasher.Hasher E.Key.hash_input self.old key.now }
+        requires hashed { hash ≡ hash_in H.hash_of self.old key.now }
         ensures { SwapTakesFirst E.Key.eq E.key_of (λ e. E.Key.eq key.now (E.key_of e)) self.old self.new result }
     {
         let bucket = self.bucket_at(hash);
@@ -96,7 +95,7 @@ where
     #[inline(always)]
     fn take_at_place(&mut self, hash: u64, key: &E::Key) -> Option<E>
         requires pending { 0 < pending_of self.old }
-        requires hashed { hash ≡ key_hash H.BuildHasher H.Hasher.Hasher E.Key.hash_input self.old key.now }
+        requires hashed { hash ≡ hash_in H.hash_of self.old key.now }
         ensures { SwapTakesFirst E.Key.eq E.key_of (λ e. E.Key.eq key.now (E.key_of e)) self.old self.new result }
     {
         let place = self.search_both(hash, key);
@@ -113,9 +112,9 @@ where
         requires waiting { IsWaiting self.old (bucket_number (settings_of self.old).skipped (bucket_count self.old)
             hash) }
         requires shrunk { bucket_count self.old < length (owed_of self.old) }
-        requires routed { IsRouted (λ e. key_hash H.BuildHasher H.Hasher.Hasher E.Key.hash_input self.old (E.key_of
+        requires routed { IsRouted (λ e. hash_in H.hash_of self.old (E.key_of
             e)) self.old }
-        requires hashed { hash ≡ key_hash H.BuildHasher H.Hasher.Hasher E.Key.hash_input self.old key.now }
+        requires hashed { hash ≡ hash_in H.hash_of self.old key.now }
         ensures { SwapTakesFirst E.Key.eq E.key_of (λ e. E.Key.eq key.now (E.key_of e)) self.old self.new result }
     {
         self.draining.take(self.current.router(), hash, key)

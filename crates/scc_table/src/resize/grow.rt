@@ -1,6 +1,6 @@
 //! The first array, and growths for a new key.
 ghost use Rattle.scc_buckets.specs.Bounded.{IsListed};
-ghost use Rattle.scc_common.specs.Contents.{bucket_count, key_hash, pending_of, settings_of};
+ghost use Rattle.scc_common.specs.Contents.{bucket_count, hash_in, pending_of, settings_of};
 ghost use Rattle.scc_common.specs.Routing.{bucket_number};
 ghost use Rattle.scc_table.specs.Bounded.{DoublesBelow, GrowsBelow};
 ghost use Rattle.scc_table.specs.Growths.{FindsBucketForNew, GrowsHalfFull};
@@ -9,13 +9,12 @@ ghost use Rattle.std.specs.Prelude.{◌≡◌, ◌<◌, ◌≤◌, ◌^◌};
 ghost use Rattle.std.specs.Result.{OnOk};
 
 use crate::Table;
-use scc_common::Keyed;
+use scc_common::{Hashes, Keyed};
 use std::alloc::AllocError;
-use std::hash::{BuildHasher, Hash};
 
-impl<E: Keyed, H: BuildHasher> Table<E, H>
+impl<E: Keyed, H: Hashes<E::Key>> Table<E, H>
 where
-    E::Key: Eq + Hash,
+    E::Key: Eq,
 {
     /// Returns the bucket of `hash`, for an insertion of a new key. Makes the first array if there is none. Doubles the
     /// array if no bucket waits, the bucket holds 32 entries or more, and the table has at least half as many entries
@@ -25,13 +24,13 @@ where
     pub fn bucket_for_new(&mut self, hash: u64, most: usize) -> Result<usize, AllocError>
         requires most { most ≤ 2 ^ 63 }
         ensures finds { FindsBucketForNew E.Key.eq E.key_of
-            (key_hash H.BuildHasher H.Hasher.Hasher E.Key.hash_input self.old) most self.old hash result self.new }
-        ensures grows { OnOk result (IsListed (λ e. key_hash H.BuildHasher H.Hasher.Hasher E.Key.hash_input self.old
-            (E.key_of e)) self.old → GrowsBelow (λ e. key_hash H.BuildHasher H.Hasher.Hasher E.Key.hash_input self.old
+            (hash_in H.hash_of self.old) most self.old hash result self.new }
+        ensures grows { OnOk result (IsListed (λ e. hash_in H.hash_of self.old
+            (E.key_of e)) self.old → GrowsBelow (λ e. hash_in H.hash_of self.old
             (E.key_of e)) most (bucket_number (settings_of self.old).skipped (bucket_count self.old) hash) self.old
             self.new) }
-        ensures listed { IsListed (λ e. key_hash H.BuildHasher H.Hasher.Hasher E.Key.hash_input self.old (E.key_of e)) self.old
-            → IsListed (λ e. key_hash H.BuildHasher H.Hasher.Hasher E.Key.hash_input self.new (E.key_of e)) self.new }
+        ensures listed { IsListed (λ e. hash_in H.hash_of self.old (E.key_of e)) self.old
+            → IsListed (λ e. hash_in H.hash_of self.new (E.key_of e)) self.new }
     {
         if self.bucket_count() == 0 {
             self.install_first()?;
@@ -57,12 +56,12 @@ where
         requires not_waiting { pending_of self.old ≡ 0 }
         requires most { most ≤ 2 ^ 63 }
         ensures grows { GrowsHalfFull E.Key.eq E.key_of
-            (key_hash H.BuildHasher H.Hasher.Hasher E.Key.hash_input self.old) most self.old self.new }
-        ensures doubles { IsListed (λ e. key_hash H.BuildHasher H.Hasher.Hasher E.Key.hash_input self.old (E.key_of e)) self.old
-            → DoublesBelow (λ e. key_hash H.BuildHasher H.Hasher.Hasher E.Key.hash_input self.old (E.key_of e)) most self.old
+            (hash_in H.hash_of self.old) most self.old self.new }
+        ensures doubles { IsListed (λ e. hash_in H.hash_of self.old (E.key_of e)) self.old
+            → DoublesBelow (λ e. hash_in H.hash_of self.old (E.key_of e)) most self.old
             self.new }
-        ensures listed { IsListed (λ e. key_hash H.BuildHasher H.Hasher.Hasher E.Key.hash_input self.old (E.key_of e)) self.old
-            → IsListed (λ e. key_hash H.BuildHasher H.Hasher.Hasher E.Key.hash_input self.new (E.key_of e)) self.new }
+        ensures listed { IsListed (λ e. hash_in H.hash_of self.old (E.key_of e)) self.old
+            → IsListed (λ e. hash_in H.hash_of self.new (E.key_of e)) self.new }
     {
         let count = self.bucket_count();
         let length = self.len();
@@ -83,7 +82,7 @@ where
     pub(crate) fn install_first(&mut self) -> Result<(), AllocError>
         requires { bucket_count self.old ≡ 0 }
         ensures { InstallsFirst E.Key.eq E.key_of
-            (λ e. key_hash H.BuildHasher H.Hasher.Hasher E.Key.hash_input self.old (E.key_of e)) self.old result
+            (λ e. hash_in H.hash_of self.old (E.key_of e)) self.old result
             self.new }
     {
         self.current.install_first()?;

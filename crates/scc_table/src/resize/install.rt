@@ -1,20 +1,19 @@
 //! Installs a new array in the place of the current one, which becomes the old array.
 ghost use Rattle.scc_array.specs.Shelf.{empty_shelf};
-ghost use Rattle.scc_common.specs.Contents.{bucket_count, key_hash, pending_of};
+ghost use Rattle.scc_common.specs.Contents.{bucket_count, hash_in, pending_of};
 ghost use Rattle.scc_common.specs.Sizes.{IsBucketCount};
 ghost use Rattle.scc_table.specs.Installations.{Installs, Notes, ResizesArray, InstallsFresh, InstallsRelocating};
 ghost use Rattle.std.specs.Prelude.{◌≡◌, ◌≢◌, ◌<◌, true, false, replicate};
 
 use crate::Table;
 use scc_array::Array;
-use scc_common::Keyed;
+use scc_common::{Hashes, Keyed};
 use scc_draining::{fresh_waiting, move_target};
 use std::alloc::AllocError;
-use std::hash::{BuildHasher, Hash};
 
-impl<E: Keyed, H: BuildHasher> Table<E, H>
+impl<E: Keyed, H: Hashes<E::Key>> Table<E, H>
 where
-    E::Key: Eq + Hash,
+    E::Key: Eq,
 {
     /// Moves the table to an array of `count` buckets: relocates all waiting buckets, and installs the new array, whose
     /// buckets all wait. Fails if memory is refused; then each list stays, and the buckets that were relocated stay
@@ -24,7 +23,7 @@ where
         requires some { 0 < bucket_count self.old }
         requires other { count ≢ bucket_count self.old }
         ensures { ResizesArray E.Key.eq E.key_of
-            (λ e. key_hash H.BuildHasher H.Hasher.Hasher E.Key.hash_input self.old (E.key_of e)) count
+            (λ e. hash_in H.hash_of self.old (E.key_of e)) count
             self.old result self.new }
     {
         match self.finish() {
@@ -44,7 +43,7 @@ where
         requires some { 0 < bucket_count self.old }
         requires other { count ≢ bucket_count self.old }
         ensures { InstallsFresh E.Key.eq E.key_of
-            (λ e. key_hash H.BuildHasher H.Hasher.Hasher E.Key.hash_input self.old (E.key_of e)) count
+            (λ e. hash_in H.hash_of self.old (E.key_of e)) count
             self.old result self.new }
     {
         match fresh_waiting(self.current.allocator(), count) {
@@ -82,7 +81,7 @@ where
         requires other { count ≢ bucket_count self.old }
         requires empty { fresh ≡ replicate count empty_shelf }
         requires flags { flags.items ≡ replicate count true }
-        ensures { Installs (λ e. key_hash H.BuildHasher H.Hasher.Hasher E.Key.hash_input self.old (E.key_of e))
+        ensures { Installs (λ e. hash_in H.hash_of self.old (E.key_of e))
             count self.old self.new }
     {
         let (old, left, left_overflow) = self.current.install(fresh, 0, 0);
@@ -112,7 +111,7 @@ where
         requires empty { fresh ≡ replicate count empty_shelf }
         requires flags { flags.items ≡ replicate count true }
         ensures { InstallsRelocating E.Key.eq E.key_of
-            (λ e. key_hash H.BuildHasher H.Hasher.Hasher E.Key.hash_input self.old (E.key_of e)) count
+            (λ e. hash_in H.hash_of self.old (E.key_of e)) count
             bucket self.old result self.new }
     {
         let (mut old, left, overflow) = self.current.install(fresh, 0, 0);

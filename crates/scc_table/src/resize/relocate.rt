@@ -1,6 +1,6 @@
 //! Relocations: waiting buckets get their entries out of the old array.
 ghost use Rattle.scc_buckets.specs.Bounded.{IsBounded, IsListed};
-ghost use Rattle.scc_common.specs.Contents.{entries, key_hash, list_of, pending_of, waiting_of, IsRouted, IsUniqueBy};
+ghost use Rattle.scc_common.specs.Contents.{entries, hash_in, list_of, pending_of, waiting_of, IsRouted, IsUniqueBy};
 ghost use Rattle.scc_table.specs.Relocates.{AreShort};
 ghost use Rattle.scc_table.specs.Relocations.{RelocatesUpTo, RelocatesAll, TriesSecond};
 ghost use Rattle.scc_table.specs.TwoArrays.{IsWaiting, IsFirstWaiting, IsLoneWaiting, IsRelocated, IsSecondWaiting, pending_targets, waits_at};
@@ -9,14 +9,13 @@ ghost use Rattle.std.specs.Prelude.{◌≡◌, ◌==◌, ◌<◌, ◌+◌, false
 
 use crate::Table;
 use scc_array::Array;
-use scc_common::Keyed;
+use scc_common::{Hashes, Keyed};
 use scc_draining::move_target;
 use std::alloc::AllocError;
-use std::hash::{BuildHasher, Hash};
 
-impl<E: Keyed, H: BuildHasher> Table<E, H>
+impl<E: Keyed, H: Hashes<E::Key>> Table<E, H>
 where
-    E::Key: Eq + Hash,
+    E::Key: Eq,
 {
     /// Relocates the first waiting buckets, `most` of them, which is at most two. A bucket whose memory is refused
     /// counts, and still waits.
@@ -65,12 +64,12 @@ where
         ensures err { OnErr result (self.new ≡ self.old) }
         ensures refused { OnErr result (32 < length (list_of self.old bucket)) }
         ensures bounded { IsBounded self.old → length (list_of self.old bucket) ≤ 32 → IsBounded self.new }
-        ensures listed { IsListed (λ e. key_hash H.BuildHasher H.Hasher.Hasher E.Key.hash_input self.old (E.key_of e)) self.old
-            → IsListed (λ e. key_hash H.BuildHasher H.Hasher.Hasher E.Key.hash_input self.new (E.key_of e)) self.new }
+        ensures listed { IsListed (λ e. hash_in H.hash_of self.old (E.key_of e)) self.old
+            → IsListed (λ e. hash_in H.hash_of self.new (E.key_of e)) self.new }
         ensures not_waiting { OnOk result (waits_at (waiting_of self.new) bucket ≡ false) }
         ensures targets { OnOk result
             (pending_targets self.new ≡ filter (λ t. not (t == bucket)) (pending_targets self.old)) }
-        ensures routed { IsRouted (λ e. key_hash H.BuildHasher H.Hasher.Hasher E.Key.hash_input self.old (E.key_of e))
+        ensures routed { IsRouted (λ e. hash_in H.hash_of self.old (E.key_of e))
             self.old }
         ensures unique { IsUniqueBy E.Key.eq E.key_of self.new }
     {

@@ -6,8 +6,7 @@ ghost use Rattle.std.specs.Prelude.{◌≡◌, ◌≤◌, ◌<◌, ◌+◌, ◌^
 
 use crate::Table;
 use scc_buckets::sizes::{GREATEST_CAPACITY, buckets_for};
-use scc_common::Keyed;
-use std::hash::{BuildHasher, Hash};
+use scc_common::{Hashes, Keyed};
 use std::marker::Model;
 
 /// A token for slots reserved in a container. `release` of this container gives the slots back. A token that is dropped
@@ -36,9 +35,9 @@ impl Reservation {
     }
 }
 
-impl<E: Keyed, H: BuildHasher> Table<E, H>
+impl<E: Keyed, H: Hashes<E::Key>> Table<E, H>
 where
-    E::Key: Eq + Hash,
+    E::Key: Eq,
 {
     /// Raises the minimum by `additional` slots, as `raise_minimum` does, and returns a token for them, or `None` if
     /// the minimum can't be raised.

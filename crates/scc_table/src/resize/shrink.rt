@@ -6,12 +6,11 @@ ghost use Rattle.std.specs.Prelude.{◌≤◌, ◌*◌, length};
 
 use crate::Table;
 use scc_buckets::sizes::buckets_for;
-use scc_common::Keyed;
-use std::hash::{BuildHasher, Hash};
+use scc_common::{Hashes, Keyed};
 
-impl<E: Keyed, H: BuildHasher> Table<E, H>
+impl<E: Keyed, H: Hashes<E::Key>> Table<E, H>
 where
-    E::Key: Eq + Hash,
+    E::Key: Eq,
 {
     /// Shrinks the array if the table has at most an eighth as many entries as slots and a smaller array has enough
     /// slots; then every bucket of the new array waits. The array stays if memory is refused. If a shrink is due, takes

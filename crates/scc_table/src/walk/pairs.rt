@@ -4,10 +4,9 @@ ghost use Rattle.scc_common.specs.Walks.{CalledOn, CallableWhile, Walks};
 ghost use Rattle.std.specs.Prelude.{true};
 
 use crate::Table;
-use scc_common::SharedVersion;
-use std::hash::{BuildHasher, Hash};
+use scc_common::{Hashes, SharedVersion};
 
-impl<K: Eq + Hash, V, H: BuildHasher> Table<(K, V), H> {
+impl<K: Eq, V, H: Hashes<K>> Table<(K, V), H> {
     /// Calls `f` on all pairs in the order of the table, until it returns false. Returns false if it stopped.
     pub fn walk<F: FnMut(&K, &V) -> bool>(&self, f: F) -> bool
         requires { CallableWhile F.FnMut true f (entries self.now) }
@@ -36,7 +35,7 @@ impl<K: Eq + Hash, V, H: BuildHasher> Table<(K, V), H> {
     }
 }
 
-impl<K: Eq + Hash, V, H: BuildHasher> Table<SharedVersion<K, V>, H> {
+impl<K: Eq, V, H: Hashes<K>> Table<SharedVersion<K, V>, H> {
     /// Calls `f` on all pairs in the order of the table, until it returns false. Returns false if it stopped.
     pub fn walk<F: FnMut(&K, &V) -> bool>(&self, f: F) -> bool
         requires { CallableWhile F.FnMut true f (entries self.now) }

@@ -8,13 +8,12 @@ ghost use Rattle.std.specs.Prelude.{◌≡◌, ◌≤◌, ◌<◌, ◌^◌, ◌+
 
 use crate::Table;
 use scc_buckets::Place;
-use scc_common::Keyed;
+use scc_common::{Hashes, Keyed};
 use scc_draining::{Relocation, end_past, sources};
-use std::hash::{BuildHasher, Hash};
 
-impl<E: Keyed, H: BuildHasher> Table<E, H>
+impl<E: Keyed, H: Hashes<E::Key>> Table<E, H>
 where
-    E::Key: Eq + Hash,
+    E::Key: Eq,
 {
     /// Returns the place of the first entry, or `None` if the table is empty.
     pub fn first_place(&self) -> Option<Place>

@@ -1,4 +1,4 @@
-use Rattle.scc_common.specs.Hashing.{hash_of}
+use Rattle.scc_common.specs.Contents.{hash_in}
 use Rattle.scc_buckets.proofs.Bounds.{routed-view}
 use Rattle.scc_buckets.proofs.Views.{entries-view, settings-view, spilled-view}
 use Rattle.scc_buckets.proofs.Buckets.allocator.Goals as goal
@@ -12,5 +12,5 @@ returns-clause-unique g c = rw (entries-view c.self.inside.buckets _ c.args.self
 
 pub returns-clause-routed : goal.returns-clause-routed
 returns-clause-routed g c =
-    rw (settings-view c.self.inside.buckets _ c.args.self.now c.self.view_is)
-    (routed-view (λ e. hash_of g.H.BuildHasher g.H.Hasher.Hasher c.self.inside.router.hasher (g.E.Key.Hash.hash_input (g.E.Keyed.key_of e))) _ _ c.self.inside.buckets _ c.args.self.now c.self.view_is c.self.invariant.table)
+    rw (settings-view c.self.inside.buckets _ c.args.self.now c.self.view_is, hash_in)
+    (routed-view (λ e. g.H.Hashes.hash_of c.self.inside.router.hasher (g.E.Keyed.key_of e)) _ _ c.self.inside.buckets _ c.args.self.now c.self.view_is c.self.invariant.table)

@@ -1,4 +1,3 @@
-use Rattle.scc_common.specs.Hashing.{hash_of}
 use Rattle.scc_array.specs.Shelves.{shelf_of}
 use Rattle.scc_buckets.proofs.Arrays.{shelf-at}
 use Rattle.scc_buckets.proofs.Inserts.{bucket-bound}
@@ -11,4 +10,4 @@ returns-clause-all g c = entries-view c.self.inside.buckets _ c.args.self.now c.
 pub returns-clause-few : goal.returns-clause-few
 returns-clause-few g c = λ i l.
     let bs = c.self.inside.buckets in
-    bucket-bound (λ e. hash_of g.H.BuildHasher g.H.Hasher.Hasher c.self.inside.router.hasher (g.E.Key.Hash.hash_input (g.E.Keyed.key_of e))) c.self.inside.router.skipped c.self.inside.length c.self.inside.overflowing i bs (shelf_of bs i) c.self.invariant.table l (shelf-at bs i l)
+    bucket-bound (λ e. g.H.Hashes.hash_of c.self.inside.router.hasher (g.E.Keyed.key_of e)) c.self.inside.router.skipped c.self.inside.length c.self.inside.overflowing i bs (shelf_of bs i) c.self.invariant.table l (shelf-at bs i l)

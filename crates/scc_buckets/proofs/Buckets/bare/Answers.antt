@@ -1,6 +1,5 @@
 use Rattle.std.proofs.Common.{refl, arith, inl, []}
 use Rattle.scc_common.specs.Contents.{entries, bucket_count, notes_of, settings_of, waiting_of}
-use Rattle.scc_common.specs.Hashing.{hash_of}
 use Rattle.scc_buckets.proofs.Bounds.{bounded-fresh, listed-view}
 use Rattle.scc_buckets.proofs.MakingLemmas.{kept-none, none-empty, table-empty}
 use Rattle.scc_buckets.proofs.Buckets.bare.Goals as goal
@@ -13,7 +12,7 @@ unfolding entries bucket_count settings_of notes_of waiting_of
 returns g c =
     record {
       entries = (rw c.none.ensures refl);
-      listed = (rw c.none.ensures ((listed-view _ 0 0 [] _ _ refl (table-empty (λ e. hash_of g.H.BuildHasher g.H.Hasher.Hasher c.args.router.hasher (g.E.Key.Hash.hash_input (g.E.Keyed.key_of e))) c.args.router.skipped [] none-empty (inl refl)) (bounded-fresh _ [] _ none-empty))));
+      listed = (rw c.none.ensures ((listed-view _ 0 0 [] _ _ refl (table-empty (λ e. g.H.Hashes.hash_of c.args.router.hasher (g.E.Keyed.key_of e)) c.args.router.skipped [] none-empty (inl refl)) (bounded-fresh _ [] _ none-empty))));
       buckets = (rw c.none.ensures refl);
       settings = refl;
       noted = refl;

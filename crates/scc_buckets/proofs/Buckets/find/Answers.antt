@@ -1,6 +1,6 @@
+use Rattle.scc_common.specs.Contents.{hash_in}
 use Rattle.std.proofs.Common.{◌≡◌, ◌∙◌, sym, ap, rules, length, refl}
 use Rattle.std.specs.List.{find}
-use Rattle.scc_common.specs.Hashing.{hash_of}
 use Rattle.scc_buckets.proofs.FindingLemmas.{HashOf, has_tag, no-entries}
 use Rattle.scc_buckets.proofs.Finds.{find-own}
 use Rattle.scc_buckets.proofs.Views.{entries-view, settings-view}
@@ -17,10 +17,10 @@ pub find-requires-clause-tagged : goal.find-requires-clause-tagged
 find-requires-clause-tagged g c =
     let bs = c.self.inside.buckets in
     let i = c.bucket-bucket.result in
-    let hash = λ (e : g.row.E.Denot). hash_of g.H.BuildHasher g.H.Hasher.Hasher c.self.inside.router.hasher (g.E.Key.Hash.hash_input (g.E.Keyed.key_of e)) in
-    let hashed = rw (settings-view bs _ c.args.self.now c.self.view_is) at c.requires in
+    let hash = λ (e : g.row.E.Denot). g.H.Hashes.hash_of c.self.inside.router.hasher (g.E.Keyed.key_of e) in
+    let hashed = rw (settings-view bs _ c.args.self.now c.self.view_is, hash_in) at c.requires in
     rw c.tag.ensures (has_tag _ hash c.args.hash c.self.inside.router.skipped (length bs) i (shelf_of bs i)
-    (record { same = λ e w. sym (hashed ∙ ap (hash_of g.H.BuildHasher g.H.Hasher.Hasher c.self.inside.router.hasher) (g.met.E.Key.Hash.respects_eq c.args.key.now (g.E.Keyed.key_of e) w)) })
+    (record { same = λ e w. sym (hashed ∙ g.met.H.Hashes.respects_eq c.self.inside.router.hasher c.args.key.now (g.E.Keyed.key_of e) w) })
     (c.self.invariant.table.own i (shelf_of bs i) (search rules) (shelf-at bs i (search rules))))
 
 pub returns : goal.returns
@@ -28,7 +28,7 @@ returns g c =
     let bs = c.self.inside.buckets in
     let i = c.bucket-bucket.result in
     let p = λ (e : g.row.E.Denot). g.E.Key.PartialEq.eq c.args.key.now (g.E.Keyed.key_of e) in
-    let hash = λ (e : g.row.E.Denot). hash_of g.H.BuildHasher g.H.Hasher.Hasher c.self.inside.router.hasher (g.E.Key.Hash.hash_input (g.E.Keyed.key_of e)) in
-    let hashed = rw (settings-view bs _ c.args.self.now c.self.view_is) at c.requires in
-    let same : HashOf p hash c.args.hash = record { same = λ e w. sym (hashed ∙ ap (hash_of g.H.BuildHasher g.H.Hasher.Hasher c.self.inside.router.hasher) (g.met.E.Key.Hash.respects_eq c.args.key.now (g.E.Keyed.key_of e) w)) } in
+    let hash = λ (e : g.row.E.Denot). g.H.Hashes.hash_of c.self.inside.router.hasher (g.E.Keyed.key_of e) in
+    let hashed = rw (settings-view bs _ c.args.self.now c.self.view_is, hash_in) at c.requires in
+    let same : HashOf p hash c.args.hash = record { same = λ e w. sym (hashed ∙ g.met.H.Hashes.respects_eq c.self.inside.router.hasher c.args.key.now (g.E.Keyed.key_of e) w) } in
     c.find.ensures ∙ sym (ap (find p) (entries-view bs _ c.args.self.now c.self.view_is) ∙ find-own p hash c.args.hash same c.self.inside.router.skipped bs (λ j l. c.self.invariant.table.own j (shelf_of bs j) l (shelf-at bs j l)) i (search rules) (search rules))

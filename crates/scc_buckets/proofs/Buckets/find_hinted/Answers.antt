@@ -1,9 +1,9 @@
+use Rattle.scc_common.specs.Contents.{hash_in}
 use Rattle.std.proofs.Common.{◌≡◌, ◌∙◌, length, sym, ap, rules}
 use Rattle.std.specs.List.{find}
 use Rattle.scc_array.proofs.Hinted.{passing-flat}
 use Rattle.scc_array.specs.Shelf.{shelf_entries, empty_shelf, HasTag}
 use Rattle.scc_array.specs.Shelves.{shelf_of}
-use Rattle.scc_common.specs.Hashing.{hash_of}
 use Rattle.scc_buckets.proofs.Arrays.{shelf-at}
 use Rattle.scc_buckets.proofs.FindingLemmas.{HashOf, has_tag, no-entries}
 use Rattle.scc_buckets.proofs.Finds.{find-own}
@@ -30,8 +30,8 @@ returns-in-None g c = λ hinted.
     let bs = c.self.inside.buckets in
     let i = c.bucket-bucket.result in
     let p = λ (e : g.row.E.Denot). g.E.Key.PartialEq.eq c.args.key.now (g.E.Keyed.key_of e) in
-    let hash = λ (e : g.row.E.Denot). hash_of g.H.BuildHasher g.H.Hasher.Hasher c.self.inside.router.hasher (g.E.Key.Hash.hash_input (g.E.Keyed.key_of e)) in
-    let hashed = rw (settings-view bs _ c.args.self.now c.self.view_is) at hinted in
-    let same : HashOf p hash c.args.hint = record { same = λ e w. sym (hashed ∙ ap (hash_of g.H.BuildHasher g.H.Hasher.Hasher c.self.inside.router.hasher) (g.met.E.Key.Hash.respects_eq c.args.key.now (g.E.Keyed.key_of e) w)) } in
+    let hash = λ (e : g.row.E.Denot). g.H.Hashes.hash_of c.self.inside.router.hasher (g.E.Keyed.key_of e) in
+    let hashed = rw (settings-view bs _ c.args.self.now c.self.view_is, hash_in) at hinted in
+    let same : HashOf p hash c.args.hint = record { same = λ e w. sym (hashed ∙ g.met.H.Hashes.respects_eq c.self.inside.router.hasher c.args.key.now (g.E.Keyed.key_of e) w) } in
     let tagged : HasTag p c.tag.result (shelf_of bs i) = rw c.tag.ensures (has_tag p hash c.args.hint c.self.inside.router.skipped (length bs) i (shelf_of bs i) same (c.self.invariant.table.own i (shelf_of bs i) (search rules) (shelf-at bs i (search rules)))) in
     ap (find p) (entries-view bs _ c.args.self.now c.self.view_is) ∙ find-own p hash c.args.hint same c.self.inside.router.skipped bs (λ j l. c.self.invariant.table.own j (shelf_of bs j) l (shelf-at bs j l)) i (search rules) (search rules) ∙ c.in-None.ensures tagged

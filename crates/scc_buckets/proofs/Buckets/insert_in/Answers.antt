@@ -1,8 +1,7 @@
 use Rattle.std.proofs.Common.{◌≡◌, ◌+◌, ◌-◌, ◌^◌, ◌<◌, ◌≤◌, ◌∙◌, sym, ap, rules, arith, length, refl, set, length-append, length-set}
-use Rattle.scc_common.specs.Hashing.{hash_of}
 use Rattle.scc_common.specs.Routing.{bucket_number, tag_of}
 use Rattle.scc_array.specs.Shelf.{Shelf, with_entry}
-use Rattle.scc_common.specs.Contents.{entries}
+use Rattle.scc_common.specs.Contents.{entries, hash_in}
 use Rattle.scc_buckets.proofs.Inserts.{inserted-at, inserted-table, inserted-holds, overflow-after, overflow-full, refused-unchanged, refused-entries, refused-table, unique-inserted, table-bound, bucket-bound, read-again}
 use native.Mathlib.Decide.{dec_lt}
 use Rattle.scc_buckets.proofs.Counting.{count-in_bucket}
@@ -34,11 +33,11 @@ insert-requires-clause-few g c =
     let i = c.args.bucket in
     let count = count-view bs _ c.args.self.now c.self.view_is in
     let l : i < length bs = rw count at c.requires.within in
-    bucket-bound (λ e. hash_of g.H.BuildHasher g.H.Hasher.Hasher c.self.inside.router.hasher (g.E.Key.Hash.hash_input (g.E.Keyed.key_of e))) t.router.skipped t.length t.overflowing i bs (shelf_of c.self.inside.buckets c.args.bucket) c.self.invariant.table l (shelf-at c.self.inside.buckets c.args.bucket l)
+    bucket-bound (λ e. g.H.Hashes.hash_of c.self.inside.router.hasher (g.E.Keyed.key_of e)) t.router.skipped t.length t.overflowing i bs (shelf_of c.self.inside.buckets c.args.bucket) c.self.invariant.table l (shelf-at c.self.inside.buckets c.args.bucket l)
 
 pub overflow_add-self : goal.overflow_add-self
 overflow_add-self g c =
-    record { fits = let m = table-bound (λ e. hash_of g.H.BuildHasher g.H.Hasher.Hasher c.self.inside.router.hasher (g.E.Key.Hash.hash_input (g.E.Keyed.key_of e))) c.self.inside.router.skipped c.self.inside.length c.self.inside.overflowing c.self.inside.buckets c.self.invariant.table in omega arith }
+    record { fits = let m = table-bound (λ e. g.H.Hashes.hash_of c.self.inside.router.hasher (g.E.Keyed.key_of e)) c.self.inside.router.skipped c.self.inside.length c.self.inside.overflowing c.self.inside.buckets c.self.invariant.table in omega arith }
 
 pub invariant_of-self : goal.invariant_of-self
 invariant_of-self g c =
@@ -48,8 +47,8 @@ invariant_of-self g c =
     let count = count-view bs _ c.args.self.now c.self.view_is in
     let l : i < length bs = rw count at c.requires.within in
     let b = (shelf_of c.self.inside.buckets c.args.bucket) in
-    let hashed = rw (settings-view bs _ c.args.self.now c.self.view_is) at c.requires.hashed in
-    let routed : i ≡ bucket_number t.router.skipped (length bs) (hash_of g.H.BuildHasher g.H.Hasher.Hasher t.router.hasher (g.E.Key.Hash.hash_input (g.E.Keyed.key_of c.args.entry))) =
+    let hashed = rw (settings-view bs _ c.args.self.now c.self.view_is, hash_in) at c.requires.hashed in
+    let routed : i ≡ bucket_number t.router.skipped (length bs) (g.H.Hashes.hash_of t.router.hasher (g.E.Keyed.key_of c.args.entry)) =
     let at = rw (settings-view bs _ c.args.self.now c.self.view_is, count) at c.requires.routed in at ∙ ap (bucket_number t.router.skipped (length bs)) hashed in
     let stored = (put-is c.self.inside.buckets c.args.bucket l c.insert.new.self _ c.in-Ok.ensures.ok.1) ∙ ap (λ x. let r : Shelf g.row.E.Denot = record (with_entry b c.args.entry x) { room = (shelf_of c.insert.new.self c.args.bucket).room } in r) (c.tag.ensures ∙ ap tag_of hashed) in
     let low : c.in-Ok.slot < 32 → c.one_if.result ≡ 0 = search rules in
@@ -61,15 +60,15 @@ invariant_of-self g c =
           elim c.else-is_full.branch [
             | else-is_full-via-else-is_full w ↦
                 let same : (shelf_of c.self.inside.buckets c.args.bucket) ≡ b = read-again bs i (shelf_of c.self.inside.buckets c.args.bucket) b l (shelf-at c.self.inside.buckets c.args.bucket l) (shelf-at c.self.inside.buckets c.args.bucket l) in
-                let full : 32 ≤ length (shelf_of c.self.inside.buckets c.args.bucket).slots = rw same (overflow-full (λ e. hash_of g.H.BuildHasher g.H.Hasher.Hasher c.self.inside.router.hasher (g.E.Key.Hash.hash_input (g.E.Keyed.key_of e))) t.router.skipped t.length t.overflowing i bs c.self.invariant.table _ c.args.self.now c.self.view_is b l (shelf-at c.self.inside.buckets c.args.bucket l) (shelf_of c.insert.new.self c.args.bucket) c.args.entry c.in-Ok.slot stored c.in-Ok.ensures.ok.0 (omega arith)) in
+                let full : 32 ≤ length (shelf_of c.self.inside.buckets c.args.bucket).slots = rw same (overflow-full (λ e. g.H.Hashes.hash_of c.self.inside.router.hasher (g.E.Keyed.key_of e)) t.router.skipped t.length t.overflowing i bs c.self.invariant.table _ c.args.self.now c.self.view_is b l (shelf-at c.self.inside.buckets c.args.bucket l) (shelf_of c.insert.new.self c.args.bucket) c.args.entry c.in-Ok.slot stored c.in-Ok.ensures.ok.0 (omega arith)) in
                 absurd (search rules)
             | else-is_full-via-then-is_full+else-overflow_room-eq0 w ↦ let less : t.overflowing < 2 ^ 62 - 1 = search rules in omega arith
           ]
     ] in
     rw (put-own c.self.inside.buckets c.args.bucket l c.insert.new.self _ c.in-Ok.ensures.ok.1) record {
-      table = inserted-table (λ e. hash_of g.H.BuildHasher g.H.Hasher.Hasher c.self.inside.router.hasher (g.E.Key.Hash.hash_input (g.E.Keyed.key_of e))) t.router.skipped t.length t.overflowing i bs c.self.invariant.table _ c.args.self.now c.self.view_is b l (shelf-at c.self.inside.buckets c.args.bucket l) (shelf_of c.insert.new.self c.args.bucket) c.args.entry c.in-Ok.slot stored c.in-Ok.ensures.ok.0 (t.overflowing + c.one_if.result) routed (overflow-after (λ e. hash_of g.H.BuildHasher g.H.Hasher.Hasher c.self.inside.router.hasher (g.E.Key.Hash.hash_input (g.E.Keyed.key_of e))) t.router.skipped t.length t.overflowing i bs c.self.invariant.table _ c.args.self.now c.self.view_is b l (shelf-at c.self.inside.buckets c.args.bucket l) (shelf_of c.insert.new.self c.args.bucket) c.args.entry c.in-Ok.slot stored c.in-Ok.ensures.ok.0 c.one_if.result low high) few;
+      table = inserted-table (λ e. g.H.Hashes.hash_of c.self.inside.router.hasher (g.E.Keyed.key_of e)) t.router.skipped t.length t.overflowing i bs c.self.invariant.table _ c.args.self.now c.self.view_is b l (shelf-at c.self.inside.buckets c.args.bucket l) (shelf_of c.insert.new.self c.args.bucket) c.args.entry c.in-Ok.slot stored c.in-Ok.ensures.ok.0 (t.overflowing + c.one_if.result) routed (overflow-after (λ e. g.H.Hashes.hash_of c.self.inside.router.hasher (g.E.Keyed.key_of e)) t.router.skipped t.length t.overflowing i bs c.self.invariant.table _ c.args.self.now c.self.view_is b l (shelf-at c.self.inside.buckets c.args.bucket l) (shelf_of c.insert.new.self c.args.bucket) c.args.entry c.in-Ok.slot stored c.in-Ok.ensures.ok.0 c.one_if.result low high) few;
       small_minimum = c.self.invariant.small_minimum;
-      unique = let u = unique-inserted g.met.E.Key.Eq.laws g.E.Keyed.key_of c.args.entry (entries c.args.self.now) _ (rw (entries-view bs _ c.args.self.now c.self.view_is) c.self.invariant.unique) c.requires.absent (inserted-holds (λ e. hash_of g.H.BuildHasher g.H.Hasher.Hasher c.self.inside.router.hasher (g.E.Key.Hash.hash_input (g.E.Keyed.key_of e))) t.router.skipped t.length t.overflowing i bs c.self.invariant.table _ c.args.self.now c.self.view_is b l (shelf-at c.self.inside.buckets c.args.bucket l) (shelf_of c.insert.new.self c.args.bucket) c.args.entry c.in-Ok.slot stored c.in-Ok.ensures.ok.0).same in rw (entries-view (set bs i (shelf_of c.insert.new.self c.args.bucket)) _ _ refl) at u;
+      unique = let u = unique-inserted g.met.E.Key.Eq.laws g.E.Keyed.key_of c.args.entry (entries c.args.self.now) _ (rw (entries-view bs _ c.args.self.now c.self.view_is) c.self.invariant.unique) c.requires.absent (inserted-holds (λ e. g.H.Hashes.hash_of c.self.inside.router.hasher (g.E.Keyed.key_of e)) t.router.skipped t.length t.overflowing i bs c.self.invariant.table _ c.args.self.now c.self.view_is b l (shelf-at c.self.inside.buckets c.args.bucket l) (shelf_of c.insert.new.self c.args.bucket) c.args.entry c.in-Ok.slot stored c.in-Ok.ensures.ok.0).same in rw (entries-view (set bs i (shelf_of c.insert.new.self c.args.bucket)) _ _ refl) at u;
     }
 
 pub invariant_of-self-in-Err : goal.invariant_of-self-in-Err
@@ -80,13 +79,13 @@ invariant_of-self-in-Err g c =
     let count = count-view bs _ c.args.self.now c.self.view_is in
     let l : i < length bs = rw count at c.requires.within in
     let b = (shelf_of c.self.inside.buckets c.args.bucket) in
-    let hashed = rw (settings-view bs _ c.args.self.now c.self.view_is) at c.requires.hashed in
-    let routed : i ≡ bucket_number t.router.skipped (length bs) (hash_of g.H.BuildHasher g.H.Hasher.Hasher t.router.hasher (g.E.Key.Hash.hash_input (g.E.Keyed.key_of c.args.entry))) =
+    let hashed = rw (settings-view bs _ c.args.self.now c.self.view_is, hash_in) at c.requires.hashed in
+    let routed : i ≡ bucket_number t.router.skipped (length bs) (g.H.Hashes.hash_of t.router.hasher (g.E.Keyed.key_of c.args.entry)) =
     let at = rw (settings-view bs _ c.args.self.now c.self.view_is, count) at c.requires.routed in at ∙ ap (bucket_number t.router.skipped (length bs)) hashed in
     rw (put-own c.self.inside.buckets c.args.bucket l c.insert.new.self _ c.in-Err.ensures.err.1) record {
-      table = refused-table (λ e. hash_of g.H.BuildHasher g.H.Hasher.Hasher c.self.inside.router.hasher (g.E.Key.Hash.hash_input (g.E.Keyed.key_of e))) t.router.skipped t.length t.overflowing i bs c.self.invariant.table _ c.args.self.now c.self.view_is b l (shelf-at c.self.inside.buckets c.args.bucket l) (shelf_of c.insert.new.self c.args.bucket) (put-is c.self.inside.buckets c.args.bucket l c.insert.new.self _ c.in-Err.ensures.err.1);
+      table = refused-table (λ e. g.H.Hashes.hash_of c.self.inside.router.hasher (g.E.Keyed.key_of e)) t.router.skipped t.length t.overflowing i bs c.self.invariant.table _ c.args.self.now c.self.view_is b l (shelf-at c.self.inside.buckets c.args.bucket l) (shelf_of c.insert.new.self c.args.bucket) (put-is c.self.inside.buckets c.args.bucket l c.insert.new.self _ c.in-Err.ensures.err.1);
       small_minimum = c.self.invariant.small_minimum;
-      unique = rw (refused-entries (λ e. hash_of g.H.BuildHasher g.H.Hasher.Hasher c.self.inside.router.hasher (g.E.Key.Hash.hash_input (g.E.Keyed.key_of e))) t.router.skipped t.length t.overflowing i bs c.self.invariant.table _ c.args.self.now c.self.view_is b l (shelf-at c.self.inside.buckets c.args.bucket l) (shelf_of c.insert.new.self c.args.bucket) (put-is c.self.inside.buckets c.args.bucket l c.insert.new.self _ c.in-Err.ensures.err.1)) c.self.invariant.unique;
+      unique = rw (refused-entries (λ e. g.H.Hashes.hash_of c.self.inside.router.hasher (g.E.Keyed.key_of e)) t.router.skipped t.length t.overflowing i bs c.self.invariant.table _ c.args.self.now c.self.view_is b l (shelf-at c.self.inside.buckets c.args.bucket l) (shelf_of c.insert.new.self c.args.bucket) (put-is c.self.inside.buckets c.args.bucket l c.insert.new.self _ c.in-Err.ensures.err.1)) c.self.invariant.unique;
     }
 
 pub returns-then-overflow_room-eq0 : goal.returns-then-overflow_room-eq0
@@ -102,12 +101,12 @@ returns-then-overflow_room-eq0 g c =
           let i = c.args.bucket in
           let count = count-view bs _ c.args.self.now c.self.view_is in
           let l : i < length bs = rw count at c.requires.within in
-          let hashed = rw (settings-view bs _ c.args.self.now c.self.view_is) at c.requires.hashed in
-          let routed : i ≡ bucket_number t.router.skipped (length bs) (hash_of g.H.BuildHasher g.H.Hasher.Hasher t.router.hasher (g.E.Key.Hash.hash_input (g.E.Keyed.key_of c.args.entry))) =
+          let hashed = rw (settings-view bs _ c.args.self.now c.self.view_is, hash_in) at c.requires.hashed in
+          let routed : i ≡ bucket_number t.router.skipped (length bs) (g.H.Hashes.hash_of t.router.hasher (g.E.Keyed.key_of c.args.entry)) =
           let at = rw (settings-view bs _ c.args.self.now c.self.view_is, count) at c.requires.routed in at ∙ ap (bucket_number t.router.skipped (length bs)) hashed in
-          let held = count-in_bucket (λ e. hash_of g.H.BuildHasher g.H.Hasher.Hasher c.self.inside.router.hasher (g.E.Key.Hash.hash_input (g.E.Keyed.key_of e))) t.router.skipped t.length t.overflowing i bs (shelf_of c.self.inside.buckets c.args.bucket) c.self.invariant.table l (shelf-at c.self.inside.buckets c.args.bucket l) in
+          let held = count-in_bucket (λ e. g.H.Hashes.hash_of c.self.inside.router.hasher (g.E.Keyed.key_of e)) t.router.skipped t.length t.overflowing i bs (shelf_of c.self.inside.buckets c.args.bucket) c.self.invariant.table l (shelf-at c.self.inside.buckets c.args.bucket l) in
           let full : 32 ≤ length (shelf_of c.self.inside.buckets c.args.bucket).slots = search rules in
-          rw (entries-view bs _ c.args.self.now c.self.view_is, count, settings-view bs _ c.args.self.now c.self.view_is, ← routed, held) (λ room. absurd (omega (arith, room.1, length-append (shelf_of c.self.inside.buckets c.args.bucket).slots (shelf_of c.self.inside.buckets c.args.bucket).overflow))));
+          rw (entries-view bs _ c.args.self.now c.self.view_is, count, settings-view bs _ c.args.self.now c.self.view_is, ← routed, held, hash_in) (λ room. absurd (omega (arith, room.1, length-append (shelf_of c.self.inside.buckets c.args.bucket).slots (shelf_of c.self.inside.buckets c.args.bucket).overflow))));
       buckets = (search rules);
       refused = (search rules);
       few = (rw (spilled-view c.self.inside.buckets _ c.args.self.now c.self.view_is, ← c.self.invariant.table.spilled) c.self.invariant.table.few);
@@ -122,12 +121,12 @@ returns-in-Ok g c =
     let count = count-view bs _ c.args.self.now c.self.view_is in
     let l : i < length bs = rw count at c.requires.within in
     let b = (shelf_of c.self.inside.buckets c.args.bucket) in
-    let hashed = rw (settings-view bs _ c.args.self.now c.self.view_is) at c.requires.hashed in
-    let routed : i ≡ bucket_number t.router.skipped (length bs) (hash_of g.H.BuildHasher g.H.Hasher.Hasher t.router.hasher (g.E.Key.Hash.hash_input (g.E.Keyed.key_of c.args.entry))) =
+    let hashed = rw (settings-view bs _ c.args.self.now c.self.view_is, hash_in) at c.requires.hashed in
+    let routed : i ≡ bucket_number t.router.skipped (length bs) (g.H.Hashes.hash_of t.router.hasher (g.E.Keyed.key_of c.args.entry)) =
     let at = rw (settings-view bs _ c.args.self.now c.self.view_is, count) at c.requires.routed in at ∙ ap (bucket_number t.router.skipped (length bs)) hashed in
     let stored = (put-is c.self.inside.buckets c.args.bucket l c.insert.new.self _ c.in-Ok.ensures.ok.1) ∙ ap (λ x. let r : Shelf g.row.E.Denot = record (with_entry b c.args.entry x) { room = (shelf_of c.insert.new.self c.args.bucket).room } in r) (c.tag.ensures ∙ ap tag_of hashed) in
     record {
-      ok = (rw (put-own c.self.inside.buckets c.args.bucket l c.insert.new.self _ c.in-Ok.ensures.ok.1) (inserted-at (λ e. hash_of g.H.BuildHasher g.H.Hasher.Hasher c.self.inside.router.hasher (g.E.Key.Hash.hash_input (g.E.Keyed.key_of e))) t.router.skipped t.length t.overflowing i bs c.self.invariant.table _ c.args.self.now c.self.view_is b l (shelf-at c.self.inside.buckets c.args.bucket l) (shelf_of c.insert.new.self c.args.bucket) c.args.entry c.in-Ok.slot stored c.in-Ok.ensures.ok.0));
+      ok = (rw (put-own c.self.inside.buckets c.args.bucket l c.insert.new.self _ c.in-Ok.ensures.ok.1) (inserted-at (λ e. g.H.Hashes.hash_of c.self.inside.router.hasher (g.E.Keyed.key_of e)) t.router.skipped t.length t.overflowing i bs c.self.invariant.table _ c.args.self.now c.self.view_is b l (shelf-at c.self.inside.buckets c.args.bucket l) (shelf_of c.insert.new.self c.args.bucket) c.args.entry c.in-Ok.slot stored c.in-Ok.ensures.ok.0));
       exact = (rw (put-own c.self.inside.buckets c.args.bucket l c.insert.new.self _ c.in-Ok.ensures.ok.1) (put-in-list bs _ c.args.self.now c.self.view_is i b l (shelf-at c.self.inside.buckets c.args.bucket l) (shelf_of c.insert.new.self c.args.bucket) c.args.entry _ c.in-Ok.slot (c.self.invariant.table.own i b l (shelf-at c.self.inside.buckets c.args.bucket l)).within (put-is c.self.inside.buckets c.args.bucket l c.insert.new.self _ c.in-Ok.ensures.ok.1) c.in-Ok.ensures.ok.0));
       err = (search rules);
       stays = (search rules);
@@ -135,7 +134,7 @@ returns-in-Ok g c =
       buckets = (count-view c.insert.new.self _ _ refl ∙ ap length c.in-Ok.ensures.ok.1 ∙ length-set bs c.args.bucket _ ∙ sym (count-view bs _ c.args.self.now c.self.view_is));
       refused = (refused-view _ _ _ refl ∙ sym (refused-view c.self.inside.buckets _ c.args.self.now c.self.view_is));
       few = (let t = (invariant_of-self g c).table in rw (spilled-view c.insert.new.self _ _ refl, ← t.spilled) t.few);
-      unique = (rw (put-own c.self.inside.buckets c.args.bucket l c.insert.new.self _ c.in-Ok.ensures.ok.1) (unique-inserted g.met.E.Key.Eq.laws g.E.Keyed.key_of c.args.entry (entries c.args.self.now) _ (rw (entries-view bs _ c.args.self.now c.self.view_is) c.self.invariant.unique) c.requires.absent (inserted-holds (λ e. hash_of g.H.BuildHasher g.H.Hasher.Hasher c.self.inside.router.hasher (g.E.Key.Hash.hash_input (g.E.Keyed.key_of e))) t.router.skipped t.length t.overflowing i bs c.self.invariant.table _ c.args.self.now c.self.view_is b l (shelf-at c.self.inside.buckets c.args.bucket l) (shelf_of c.insert.new.self c.args.bucket) c.args.entry c.in-Ok.slot stored c.in-Ok.ensures.ok.0).same));
+      unique = (rw (put-own c.self.inside.buckets c.args.bucket l c.insert.new.self _ c.in-Ok.ensures.ok.1) (unique-inserted g.met.E.Key.Eq.laws g.E.Keyed.key_of c.args.entry (entries c.args.self.now) _ (rw (entries-view bs _ c.args.self.now c.self.view_is) c.self.invariant.unique) c.requires.absent (inserted-holds (λ e. g.H.Hashes.hash_of c.self.inside.router.hasher (g.E.Keyed.key_of e)) t.router.skipped t.length t.overflowing i bs c.self.invariant.table _ c.args.self.now c.self.view_is b l (shelf-at c.self.inside.buckets c.args.bucket l) (shelf_of c.insert.new.self c.args.bucket) c.args.entry c.in-Ok.slot stored c.in-Ok.ensures.ok.0).same));
     }
 
 pub returns-in-Err : goal.returns-in-Err
@@ -146,19 +145,19 @@ returns-in-Err g c =
     let count = count-view bs _ c.args.self.now c.self.view_is in
     let l : i < length bs = rw count at c.requires.within in
     let b = (shelf_of c.self.inside.buckets c.args.bucket) in
-    let hashed = rw (settings-view bs _ c.args.self.now c.self.view_is) at c.requires.hashed in
-    let routed : i ≡ bucket_number t.router.skipped (length bs) (hash_of g.H.BuildHasher g.H.Hasher.Hasher t.router.hasher (g.E.Key.Hash.hash_input (g.E.Keyed.key_of c.args.entry))) =
+    let hashed = rw (settings-view bs _ c.args.self.now c.self.view_is, hash_in) at c.requires.hashed in
+    let routed : i ≡ bucket_number t.router.skipped (length bs) (g.H.Hashes.hash_of t.router.hasher (g.E.Keyed.key_of c.args.entry)) =
     let at = rw (settings-view bs _ c.args.self.now c.self.view_is, count) at c.requires.routed in at ∙ ap (bucket_number t.router.skipped (length bs)) hashed in
     record {
       ok = (search rules);
       exact = (search rules);
-      err = (rw (put-own c.self.inside.buckets c.args.bucket l c.insert.new.self _ c.in-Err.ensures.err.1) ((c.in-Err.ensures.err.0, refused-unchanged (λ e. hash_of g.H.BuildHasher g.H.Hasher.Hasher c.self.inside.router.hasher (g.E.Key.Hash.hash_input (g.E.Keyed.key_of e))) t.router.skipped t.length t.overflowing i bs c.self.invariant.table _ c.args.self.now c.self.view_is b l (shelf-at c.self.inside.buckets c.args.bucket l) (shelf_of c.insert.new.self c.args.bucket) (put-is c.self.inside.buckets c.args.bucket l c.insert.new.self _ c.in-Err.ensures.err.1))));
+      err = (rw (put-own c.self.inside.buckets c.args.bucket l c.insert.new.self _ c.in-Err.ensures.err.1) ((c.in-Err.ensures.err.0, refused-unchanged (λ e. g.H.Hashes.hash_of c.self.inside.router.hasher (g.E.Keyed.key_of e)) t.router.skipped t.length t.overflowing i bs c.self.invariant.table _ c.args.self.now c.self.view_is b l (shelf-at c.self.inside.buckets c.args.bucket l) (shelf_of c.insert.new.self c.args.bucket) (put-is c.self.inside.buckets c.args.bucket l c.insert.new.self _ c.in-Err.ensures.err.1))));
       stays = (rw (put-own c.self.inside.buckets c.args.bucket l c.insert.new.self _ c.in-Err.ensures.err.1) (same-in-lists bs _ c.args.self.now c.self.view_is c.args.bucket (shelf_of bs c.args.bucket) l (shelf-at bs c.args.bucket l) (shelf_of c.insert.new.self c.args.bucket) (put-is c.self.inside.buckets c.args.bucket l c.insert.new.self _ c.in-Err.ensures.err.1)));
       full = (
-          let held = count-in_bucket (λ e. hash_of g.H.BuildHasher g.H.Hasher.Hasher c.self.inside.router.hasher (g.E.Key.Hash.hash_input (g.E.Keyed.key_of e))) t.router.skipped t.length t.overflowing i bs b c.self.invariant.table l (shelf-at c.self.inside.buckets c.args.bucket l) in
-          rw (entries-view bs _ c.args.self.now c.self.view_is, count, settings-view bs _ c.args.self.now c.self.view_is, ← routed, held) (λ room. absurd (omega (arith, room.1, c.in-Err.ensures.err.2, length-append b.slots b.overflow))));
+          let held = count-in_bucket (λ e. g.H.Hashes.hash_of c.self.inside.router.hasher (g.E.Keyed.key_of e)) t.router.skipped t.length t.overflowing i bs b c.self.invariant.table l (shelf-at c.self.inside.buckets c.args.bucket l) in
+          rw (entries-view bs _ c.args.self.now c.self.view_is, count, settings-view bs _ c.args.self.now c.self.view_is, ← routed, held, hash_in) (λ room. absurd (omega (arith, room.1, c.in-Err.ensures.err.2, length-append b.slots b.overflow))));
       buckets = (count-view c.insert.new.self _ _ refl ∙ ap length c.in-Err.ensures.err.1 ∙ length-set bs c.args.bucket _ ∙ sym (count-view bs _ c.args.self.now c.self.view_is));
       refused = (refused-view _ _ _ refl ∙ sym (refused-view c.self.inside.buckets _ c.args.self.now c.self.view_is));
       few = (let t = (invariant_of-self-in-Err g c).table in rw (spilled-view c.insert.new.self _ _ refl, ← t.spilled) t.few);
-      unique = (rw (put-own c.self.inside.buckets c.args.bucket l c.insert.new.self _ c.in-Err.ensures.err.1) (rw ((refused-unchanged (λ e. hash_of g.H.BuildHasher g.H.Hasher.Hasher c.self.inside.router.hasher (g.E.Key.Hash.hash_input (g.E.Keyed.key_of e))) t.router.skipped t.length t.overflowing i bs c.self.invariant.table _ c.args.self.now c.self.view_is b l (shelf-at c.self.inside.buckets c.args.bucket l) (shelf_of c.insert.new.self c.args.bucket) (put-is c.self.inside.buckets c.args.bucket l c.insert.new.self _ c.in-Err.ensures.err.1)).exact, entries-view bs _ c.args.self.now c.self.view_is) c.self.invariant.unique));
+      unique = (rw (put-own c.self.inside.buckets c.args.bucket l c.insert.new.self _ c.in-Err.ensures.err.1) (rw ((refused-unchanged (λ e. g.H.Hashes.hash_of c.self.inside.router.hasher (g.E.Keyed.key_of e)) t.router.skipped t.length t.overflowing i bs c.self.invariant.table _ c.args.self.now c.self.view_is b l (shelf-at c.self.inside.buckets c.args.bucket l) (shelf_of c.insert.new.self c.args.bucket) (put-is c.self.inside.buckets c.args.bucket l c.insert.new.self _ c.in-Err.ensures.err.1)).exact, entries-view bs _ c.args.self.now c.self.view_is) c.self.invariant.unique));
     }

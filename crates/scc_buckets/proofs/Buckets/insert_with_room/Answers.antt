@@ -1,8 +1,7 @@
 use Rattle.std.proofs.Common.{◌≡◌, ℕ, ◌<◌, ◌+◌, ◌∙◌, sym, ap, rules, arith, length, refl, set, length-append}
 use Rattle.scc_array.specs.Shelf.{with_slot}
 use Rattle.scc_array.specs.Shelves.{shelf_of}
-use Rattle.scc_common.specs.Contents.{entries}
-use Rattle.scc_common.specs.Hashing.{hash_of}
+use Rattle.scc_common.specs.Contents.{entries, hash_in}
 use Rattle.scc_common.specs.Routing.{bucket_number, tag_of}
 use Rattle.scc_buckets.proofs.Arrays.{shelf-at, put-is, put-own}
 use Rattle.scc_buckets.proofs.Bounds.{listed-view, slots-are, slot-entry, stored-slot}
@@ -27,19 +26,19 @@ insert_reserved-slot-requires-clause-room g c =
 
 pub overflow_add-self : goal.overflow_add-self
 overflow_add-self g c =
-    record { fits = let m = table-bound (λ e. hash_of g.H.BuildHasher g.H.Hasher.Hasher c.self.inside.router.hasher (g.E.Key.Hash.hash_input (g.E.Keyed.key_of e))) c.self.inside.router.skipped c.self.inside.length c.self.inside.overflowing c.self.inside.buckets c.self.invariant.table in omega arith }
+    record { fits = let m = table-bound (λ e. g.H.Hashes.hash_of c.self.inside.router.hasher (g.E.Keyed.key_of e)) c.self.inside.router.skipped c.self.inside.length c.self.inside.overflowing c.self.inside.buckets c.self.invariant.table in omega arith }
 
 pub invariant_of-self : goal.invariant_of-self
 invariant_of-self g c =
     let t = c.self.inside in
     let bs = t.buckets in
     let i = c.args.bucket in
-    let f : g.row.E.Denot → ℕ = λ e. hash_of g.H.BuildHasher g.H.Hasher.Hasher t.router.hasher (g.E.Key.Hash.hash_input (g.E.Keyed.key_of e)) in
+    let f : g.row.E.Denot → ℕ = λ e. g.H.Hashes.hash_of t.router.hasher (g.E.Keyed.key_of e) in
     let count = count-view bs _ c.args.self.now c.self.view_is in
     let l : i < length bs = rw count at c.requires.new.within in
     let b = shelf_of bs i in
     let at = shelf-at bs i l in
-    let hashed = rw (settings-view bs _ c.args.self.now c.self.view_is) at c.requires.new.hashed in
+    let hashed = rw (settings-view bs _ c.args.self.now c.self.view_is, hash_in) at c.requires.new.hashed in
     let routed : i ≡ bucket_number t.router.skipped (length bs) (f c.args.entry) =
     let r = rw (settings-view bs _ c.args.self.now c.self.view_is, count) at c.requires.new.routed in r ∙ ap (bucket_number t.router.skipped (length bs)) hashed in
     let short : length b.slots < 32 = let here = ap length (list-view bs _ c.args.self.now c.self.view_is i b l at) in omega (arith, here, length-append b.slots b.overflow, c.requires.short) in
@@ -59,11 +58,11 @@ returns-clause-inserts g c =
     let t = c.self.inside in
     let bs = t.buckets in
     let i = c.args.bucket in
-    let f : g.row.E.Denot → ℕ = λ e. hash_of g.H.BuildHasher g.H.Hasher.Hasher t.router.hasher (g.E.Key.Hash.hash_input (g.E.Keyed.key_of e)) in
+    let f : g.row.E.Denot → ℕ = λ e. g.H.Hashes.hash_of t.router.hasher (g.E.Keyed.key_of e) in
     let l : i < length bs = rw (count-view bs _ c.args.self.now c.self.view_is) at c.requires.new.within in
     let b = shelf_of bs i in
     let at = shelf-at bs i l in
-    let hashed = rw (settings-view bs _ c.args.self.now c.self.view_is) at c.requires.new.hashed in
+    let hashed = rw (settings-view bs _ c.args.self.now c.self.view_is, hash_in) at c.requires.new.hashed in
     let short : length b.slots < 32 = let here = ap length (list-view bs _ c.args.self.now c.self.view_is i b l at) in omega (arith, here, length-append b.slots b.overflow, c.requires.short) in
     let put = c.insert_reserved-slot.ensures.value in
     let d = shelf_of c.insert_reserved-slot.new.self i in
@@ -79,5 +78,5 @@ returns-clause-inserts g c =
 pub returns-clause-listed : goal.returns-clause-listed
 returns-clause-listed g c =
     λ bounded.
-    rw (settings-view c.insert_reserved-slot.new.self _ _ refl)
-    (listed-view (λ e. hash_of g.H.BuildHasher g.H.Hasher.Hasher c.self.inside.router.hasher (g.E.Key.Hash.hash_input (g.E.Keyed.key_of e))) _ _ c.insert_reserved-slot.new.self _ _ refl (invariant_of-self g c).table bounded)
+    rw (settings-view c.insert_reserved-slot.new.self _ _ refl, hash_in)
+    (listed-view (λ e. g.H.Hashes.hash_of c.self.inside.router.hasher (g.E.Keyed.key_of e)) _ _ c.insert_reserved-slot.new.self _ _ refl (invariant_of-self g c).table bounded)

@@ -1,7 +1,7 @@
+use Rattle.scc_common.specs.Contents.{hash_in}
 use Rattle.std.proofs.Common.{refl, sym, ◌∙◌, ap, subst, map, List}
 use Rattle.std.specs.List.{flat_map, IsDistinct}
 use Rattle.scc_array.specs.Shelf.{Shelf, shelf_entries}
-use Rattle.scc_common.specs.Hashing.{hash_of}
 use Rattle.scc_buckets.specs.Tables.{IsBuckets, overflow_in}
 use Rattle.scc_buckets.proofs.Views.{settings-view, refused-view, spilled-view, lists-view, waiting-view, owed-view}
 use Rattle.scc_buckets.proofs.Buckets.install.Goals as goal
@@ -12,8 +12,8 @@ invariant_of-self g c =
     let at = settings-view c.self.inside.buckets _ c.args.self.now c.self.view_is in
     record {
       table =
-          subst (λ (bs : List (Shelf g.row.E.Denot)). IsBuckets (λ e. hash_of g.H.BuildHasher g.H.Hasher.Hasher c.self.inside.router.hasher (g.E.Key.Hash.hash_input (g.E.Keyed.key_of e))) c.self.inside.router.skipped bs c.args.count c.args.overflowing) now
-          (rw at at c.requires.table);
+          subst (λ (bs : List (Shelf g.row.E.Denot)). IsBuckets (λ e. g.H.Hashes.hash_of c.self.inside.router.hasher (g.E.Keyed.key_of e)) c.self.inside.router.skipped bs c.args.count c.args.overflowing) now
+          (rw (at, hash_in) at c.requires.table);
       small_minimum = c.self.invariant.small_minimum;
       unique = subst (λ (bs : List (Shelf g.row.E.Denot)). IsDistinct g.E.Key.PartialEq.eq (map g.E.Keyed.key_of (flat_map shelf_entries bs))) now c.requires.unique;
     }
@@ -30,6 +30,6 @@ returns g c =
       were = (lists-view c.self.inside.buckets _ c.args.self.now c.self.view_is ∙ ap (map shelf_entries) (sym c.replace-own.ensures.value));
       table = (
           let at = settings-view c.self.inside.buckets _ c.args.self.now c.self.view_is in
-          rw (at, c.replace-own.ensures.value) c.self.invariant.table);
+          rw (at, c.replace-own.ensures.value, hash_in) c.self.invariant.table);
       overflowing = (c.self.invariant.table.spilled ∙ sym (spilled-view c.self.inside.buckets _ c.args.self.now c.self.view_is));
     }

@@ -1,5 +1,4 @@
 use Rattle.std.proofs.Common.{◌<◌, length, refl, ap, ◌∙◌, rules}
-use Rattle.scc_common.specs.Hashing.{hash_of}
 use Rattle.scc_buckets.proofs.Spots.{place-get}
 use Rattle.scc_buckets.proofs.Views.{count-view, list-view}
 use Rattle.scc_buckets.proofs.WritingTables.{written-table, written-view, written-unique}
@@ -36,9 +35,9 @@ invariant_of-self-lent g c = λ w.
     let x = c.parts_mut_at.ensures.parts in
     let same = g.met.E.Valued.value_keeps_key x.0 w in
     record {
-      table = written-table g.E.Valued.with_value (λ e. hash_of g.H.BuildHasher g.H.Hasher.Hasher c.self.inside.router.hasher (g.E.Key.Hash.hash_input (g.E.Keyed.key_of e))) t.router.skipped t.length t.overflowing c.args.place bs c.self.invariant.table _ c.args.self.now c.self.view_is b l (shelf-at c.self.inside.buckets c.args.place.bucket l) x.0 x.1 w (ap (λ k. hash_of g.H.BuildHasher g.H.Hasher.Hasher t.router.hasher (g.E.Key.Hash.hash_input k)) same);
+      table = written-table g.E.Valued.with_value (λ e. g.H.Hashes.hash_of c.self.inside.router.hasher (g.E.Keyed.key_of e)) t.router.skipped t.length t.overflowing c.args.place bs c.self.invariant.table _ c.args.self.now c.self.view_is b l (shelf-at c.self.inside.buckets c.args.place.bucket l) x.0 x.1 w (ap (λ k. g.H.Hashes.hash_of t.router.hasher k) same);
       small_minimum = c.self.invariant.small_minimum;
-      unique = written-unique g.E.Valued.with_value (λ e. hash_of g.H.BuildHasher g.H.Hasher.Hasher c.self.inside.router.hasher (g.E.Key.Hash.hash_input (g.E.Keyed.key_of e))) t.router.skipped t.length t.overflowing c.args.place bs c.self.invariant.table _ c.args.self.now c.self.view_is b l (shelf-at c.self.inside.buckets c.args.place.bucket l) x.0 x.1 w c.requires (rw here x.1) g.met.E.Key.Eq.laws g.E.Keyed.key_of (ap (λ k. g.E.Key.PartialEq.eq k (g.E.Keyed.key_of x.0)) same ∙ g.met.E.Key.Eq.laws.refl (g.E.Keyed.key_of x.0)) c.self.invariant.unique;
+      unique = written-unique g.E.Valued.with_value (λ e. g.H.Hashes.hash_of c.self.inside.router.hasher (g.E.Keyed.key_of e)) t.router.skipped t.length t.overflowing c.args.place bs c.self.invariant.table _ c.args.self.now c.self.view_is b l (shelf-at c.self.inside.buckets c.args.place.bucket l) x.0 x.1 w c.requires (rw here x.1) g.met.E.Key.Eq.laws g.E.Keyed.key_of (ap (λ k. g.E.Key.PartialEq.eq k (g.E.Keyed.key_of x.0)) same ∙ g.met.E.Key.Eq.laws.refl (g.E.Keyed.key_of x.0)) c.self.invariant.unique;
     }
 
 pub returns : goal.returns
@@ -50,4 +49,4 @@ returns g c =
     let b = (shelf_of c.self.inside.buckets c.args.place.bucket) in
     let here = list-view bs _ c.args.self.now c.self.view_is c.args.place.bucket b l (shelf-at c.self.inside.buckets c.args.place.bucket l) in
     let x = c.parts_mut_at.ensures.parts in
-    ((refl, λ w. written-view g.E.Valued.with_value (λ e. hash_of g.H.BuildHasher g.H.Hasher.Hasher c.self.inside.router.hasher (g.E.Key.Hash.hash_input (g.E.Keyed.key_of e))) t.router.skipped t.length t.overflowing c.args.place bs c.self.invariant.table _ c.args.self.now c.self.view_is b l (shelf-at c.self.inside.buckets c.args.place.bucket l) x.0 x.1 w), record { writes_back = tt; parts = (x.0, place-get c.args.self.now c.args.place c.requires x.0 (rw here x.1), c.parts_mut_at.ensures.parts.2, c.parts_mut_at.ensures.parts.3) })
+    ((refl, λ w. written-view g.E.Valued.with_value (λ e. g.H.Hashes.hash_of c.self.inside.router.hasher (g.E.Keyed.key_of e)) t.router.skipped t.length t.overflowing c.args.place bs c.self.invariant.table _ c.args.self.now c.self.view_is b l (shelf-at c.self.inside.buckets c.args.place.bucket l) x.0 x.1 w), record { writes_back = tt; parts = (x.0, place-get c.args.self.now c.args.place c.requires x.0 (rw here x.1), c.parts_mut_at.ensures.parts.2, c.parts_mut_at.ensures.parts.3) })

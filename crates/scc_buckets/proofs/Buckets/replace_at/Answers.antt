@@ -1,6 +1,5 @@
 use Rattle.std.proofs.Common.{◌<◌, length, ap, rules}
 use Rattle.scc_array.specs.ShelfWrites.{put_whole}
-use Rattle.scc_common.specs.Hashing.{hash_of}
 use Rattle.scc_buckets.proofs.Spots.{place-get}
 use Rattle.scc_buckets.proofs.Views.{count-view, list-view}
 use Rattle.scc_buckets.proofs.WritingTables.{written-table, written-view, written-unique}
@@ -38,9 +37,9 @@ invariant_of-self g c =
     let got = place-get c.args.self.now c.args.place c.requires.within c.replace_at.result (rw here x) in
     let equal = c.requires.same c.replace_at.result got in
     rw c.replace_at.ensures.new record {
-      table = written-table put_whole (λ e. hash_of g.H.BuildHasher g.H.Hasher.Hasher c.self.inside.router.hasher (g.E.Key.Hash.hash_input (g.E.Keyed.key_of e))) t.router.skipped t.length t.overflowing c.args.place bs c.self.invariant.table _ c.args.self.now c.self.view_is b l (shelf-at c.self.inside.buckets c.args.place.bucket l) c.replace_at.result x c.args.entry (ap (hash_of g.H.BuildHasher g.H.Hasher.Hasher t.router.hasher) (g.met.E.Key.Hash.respects_eq (g.E.Keyed.key_of c.args.entry) (g.E.Keyed.key_of c.replace_at.result) equal));
+      table = written-table put_whole (λ e. g.H.Hashes.hash_of c.self.inside.router.hasher (g.E.Keyed.key_of e)) t.router.skipped t.length t.overflowing c.args.place bs c.self.invariant.table _ c.args.self.now c.self.view_is b l (shelf-at c.self.inside.buckets c.args.place.bucket l) c.replace_at.result x c.args.entry (g.met.H.Hashes.respects_eq t.router.hasher (g.E.Keyed.key_of c.args.entry) (g.E.Keyed.key_of c.replace_at.result) equal);
       small_minimum = c.self.invariant.small_minimum;
-      unique = written-unique put_whole (λ e. hash_of g.H.BuildHasher g.H.Hasher.Hasher c.self.inside.router.hasher (g.E.Key.Hash.hash_input (g.E.Keyed.key_of e))) t.router.skipped t.length t.overflowing c.args.place bs c.self.invariant.table _ c.args.self.now c.self.view_is b l (shelf-at c.self.inside.buckets c.args.place.bucket l) c.replace_at.result x c.args.entry c.requires.within (rw here x) g.met.E.Key.Eq.laws g.E.Keyed.key_of equal c.self.invariant.unique;
+      unique = written-unique put_whole (λ e. g.H.Hashes.hash_of c.self.inside.router.hasher (g.E.Keyed.key_of e)) t.router.skipped t.length t.overflowing c.args.place bs c.self.invariant.table _ c.args.self.now c.self.view_is b l (shelf-at c.self.inside.buckets c.args.place.bucket l) c.replace_at.result x c.args.entry c.requires.within (rw here x) g.met.E.Key.Eq.laws g.E.Keyed.key_of equal c.self.invariant.unique;
     }
 
 pub returns-clause-old : goal.returns-clause-old
@@ -63,4 +62,4 @@ returns-clause-new g c =
     let b = (shelf_of c.self.inside.buckets c.args.place.bucket) in
     let here = list-view bs _ c.args.self.now c.self.view_is c.args.place.bucket b l (shelf-at c.self.inside.buckets c.args.place.bucket l) in
     let x = c.replace_at.ensures.old in
-    rw c.replace_at.ensures.new (written-view put_whole (λ e. hash_of g.H.BuildHasher g.H.Hasher.Hasher c.self.inside.router.hasher (g.E.Key.Hash.hash_input (g.E.Keyed.key_of e))) t.router.skipped t.length t.overflowing c.args.place bs c.self.invariant.table _ c.args.self.now c.self.view_is b l (shelf-at c.self.inside.buckets c.args.place.bucket l) c.replace_at.result x c.args.entry)
+    rw c.replace_at.ensures.new (written-view put_whole (λ e. g.H.Hashes.hash_of c.self.inside.router.hasher (g.E.Keyed.key_of e)) t.router.skipped t.length t.overflowing c.args.place bs c.self.invariant.table _ c.args.self.now c.self.view_is b l (shelf-at c.self.inside.buckets c.args.place.bucket l) c.replace_at.result x c.args.entry)

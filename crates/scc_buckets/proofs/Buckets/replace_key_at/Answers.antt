@@ -38,9 +38,9 @@ invariant_of-self g c =
     let equal = c.requires.same x.0 got in
     let new = g.met.E.Valued.key_is x.0 c.args.key in
     rw c.replace_key_at.ensures.new record {
-      table = written-table g.E.Valued.with_key (λ e. hash_of g.H.BuildHasher g.H.Hasher.Hasher c.self.inside.router.hasher (g.E.Key.Hash.hash_input (g.E.Keyed.key_of e))) t.router.skipped t.length t.overflowing c.args.place bs c.self.invariant.table _ c.args.self.now c.self.view_is b l (shelf-at c.self.inside.buckets c.args.place.bucket l) x.0 x.1 c.args.key (ap (hash_of g.H.BuildHasher g.H.Hasher.Hasher t.router.hasher) (ap g.E.Key.Hash.hash_input new ∙ g.met.E.Key.Hash.respects_eq c.args.key (g.E.Keyed.key_of x.0) equal));
+      table = written-table g.E.Valued.with_key (λ e. g.H.Hashes.hash_of c.self.inside.router.hasher (g.E.Keyed.key_of e)) t.router.skipped t.length t.overflowing c.args.place bs c.self.invariant.table _ c.args.self.now c.self.view_is b l (shelf-at c.self.inside.buckets c.args.place.bucket l) x.0 x.1 c.args.key (ap (g.H.Hashes.hash_of t.router.hasher) new ∙ g.met.H.Hashes.respects_eq t.router.hasher c.args.key (g.E.Keyed.key_of x.0) equal);
       small_minimum = c.self.invariant.small_minimum;
-      unique = written-unique g.E.Valued.with_key (λ e. hash_of g.H.BuildHasher g.H.Hasher.Hasher c.self.inside.router.hasher (g.E.Key.Hash.hash_input (g.E.Keyed.key_of e))) t.router.skipped t.length t.overflowing c.args.place bs c.self.invariant.table _ c.args.self.now c.self.view_is b l (shelf-at c.self.inside.buckets c.args.place.bucket l) x.0 x.1 c.args.key c.requires.within (rw here x.1) g.met.E.Key.Eq.laws g.E.Keyed.key_of (ap (λ k. g.E.Key.PartialEq.eq k (g.E.Keyed.key_of x.0)) new ∙ equal) c.self.invariant.unique;
+      unique = written-unique g.E.Valued.with_key (λ e. g.H.Hashes.hash_of c.self.inside.router.hasher (g.E.Keyed.key_of e)) t.router.skipped t.length t.overflowing c.args.place bs c.self.invariant.table _ c.args.self.now c.self.view_is b l (shelf-at c.self.inside.buckets c.args.place.bucket l) x.0 x.1 c.args.key c.requires.within (rw here x.1) g.met.E.Key.Eq.laws g.E.Keyed.key_of (ap (λ k. g.E.Key.PartialEq.eq k (g.E.Keyed.key_of x.0)) new ∙ equal) c.self.invariant.unique;
     }
 
 pub returns-clause-old : goal.returns-clause-old
@@ -63,4 +63,4 @@ returns-clause-new g c =
     let b = (shelf_of c.self.inside.buckets c.args.place.bucket) in
     let here = list-view bs _ c.args.self.now c.self.view_is c.args.place.bucket b l (shelf-at c.self.inside.buckets c.args.place.bucket l) in
     let x = c.replace_key_at.ensures.old in
-    rw c.replace_key_at.ensures.new (written-view g.E.Valued.with_key (λ e. hash_of g.H.BuildHasher g.H.Hasher.Hasher c.self.inside.router.hasher (g.E.Key.Hash.hash_input (g.E.Keyed.key_of e))) t.router.skipped t.length t.overflowing c.args.place bs c.self.invariant.table _ c.args.self.now c.self.view_is b l (shelf-at c.self.inside.buckets c.args.place.bucket l) x.0 x.1 c.args.key)
+    rw c.replace_key_at.ensures.new (written-view g.E.Valued.with_key (λ e. g.H.Hashes.hash_of c.self.inside.router.hasher (g.E.Keyed.key_of e)) t.router.skipped t.length t.overflowing c.args.place bs c.self.invariant.table _ c.args.self.now c.self.view_is b l (shelf-at c.self.inside.buckets c.args.place.bucket l) x.0 x.1 c.args.key)

@@ -1,5 +1,4 @@
 use Rattle.std.proofs.Common.{refl, sym, ◌∙◌, ◌≡◌, ◌<◌, ◌≤◌, ap, rules, arith, length}
-use Rattle.scc_common.specs.Hashing.{hash_of}
 use Rattle.scc_array.specs.Shelf.{shelf_entries, without_slot}
 use Rattle.scc_buckets.proofs.Inserts.{read-again}
 use Rattle.scc_buckets.proofs.Removes.{at-least-one}
@@ -55,7 +54,7 @@ overflow_sub-self g c =
     let l : c.args.place.bucket < length bs = rw count at c.requires.bucket in
     let b = (shelf_of c.self.inside.buckets c.args.place.bucket) in
     let lk : c.args.place.slot < length (shelf_entries b) = rw (list-view bs _ c.args.self.now c.self.view_is c.args.place.bucket b l (shelf-at c.self.inside.buckets c.args.place.bucket l)) at c.requires.slot in
-    at-least-one (λ e. hash_of g.H.BuildHasher g.H.Hasher.Hasher c.self.inside.router.hasher (g.E.Key.Hash.hash_input (g.E.Keyed.key_of e))) t.router.skipped t.length t.overflowing c.args.place bs c.self.invariant.table _ c.args.self.now c.self.view_is b l (shelf-at c.self.inside.buckets c.args.place.bucket l) lk (without_slot b c.args.place.slot) refl
+    at-least-one (λ e. g.H.Hashes.hash_of c.self.inside.router.hasher (g.E.Keyed.key_of e)) t.router.skipped t.length t.overflowing c.args.place bs c.self.invariant.table _ c.args.self.now c.self.view_is b l (shelf-at c.self.inside.buckets c.args.place.bucket l) lk (without_slot b c.args.place.slot) refl
 
 pub overflow_sub-self-2 : goal.overflow_sub-self-2
 overflow_sub-self-2 g c =
@@ -69,7 +68,7 @@ overflow_sub-self-2 g c =
     let slots : length (shelf_of c.self.inside.buckets c.args.place.bucket).slots ≡ length b.slots = ap (λ x. length x.slots) same in
     let lower : c.args.place.slot < length b.slots → c.one_if.result ≡ 0 = λ q. let r : c.args.place.slot < length (shelf_of c.self.inside.buckets c.args.place.bucket).slots = omega arith in search rules in
     let upper : length b.slots ≤ c.args.place.slot → c.one_if.result ≡ 1 = λ q. let r : length (shelf_of c.self.inside.buckets c.args.place.bucket).slots ≤ c.args.place.slot = omega arith in search rules in
-    (swapped-table (λ e. hash_of g.H.BuildHasher g.H.Hasher.Hasher c.self.inside.router.hasher (g.E.Key.Hash.hash_input (g.E.Keyed.key_of e))) t.router.skipped t.length t.overflowing c.args.place bs c.self.invariant.table _ c.args.self.now c.self.view_is b l (shelf-at c.self.inside.buckets c.args.place.bucket l) lk c.swap_remove_at-entry.result (shelf_of c.swap_remove_at-entry.new.self c.args.place.bucket) (put-is c.self.inside.buckets c.args.place.bucket l c.swap_remove_at-entry.new.self _ c.swap_remove_at-entry.ensures.others) c.one_if.result lower upper).1
+    (swapped-table (λ e. g.H.Hashes.hash_of c.self.inside.router.hasher (g.E.Keyed.key_of e)) t.router.skipped t.length t.overflowing c.args.place bs c.self.invariant.table _ c.args.self.now c.self.view_is b l (shelf-at c.self.inside.buckets c.args.place.bucket l) lk c.swap_remove_at-entry.result (shelf_of c.swap_remove_at-entry.new.self c.args.place.bucket) (put-is c.self.inside.buckets c.args.place.bucket l c.swap_remove_at-entry.new.self _ c.swap_remove_at-entry.ensures.others) c.one_if.result lower upper).1
 
 pub invariant_of-self : goal.invariant_of-self
 invariant_of-self g c =
@@ -86,9 +85,9 @@ invariant_of-self g c =
     let got = place-get c.args.self.now c.args.place c.requires c.swap_remove_at-entry.result
     (rw (list-view bs _ c.args.self.now c.self.view_is c.args.place.bucket b l (shelf-at c.self.inside.buckets c.args.place.bucket l)) c.swap_remove_at-entry.ensures.entry) in
     rw (put-own c.self.inside.buckets c.args.place.bucket l c.swap_remove_at-entry.new.self _ c.swap_remove_at-entry.ensures.others) record {
-      table = (swapped-table (λ e. hash_of g.H.BuildHasher g.H.Hasher.Hasher c.self.inside.router.hasher (g.E.Key.Hash.hash_input (g.E.Keyed.key_of e))) t.router.skipped t.length t.overflowing c.args.place bs c.self.invariant.table _ c.args.self.now c.self.view_is b l (shelf-at c.self.inside.buckets c.args.place.bucket l) lk c.swap_remove_at-entry.result (shelf_of c.swap_remove_at-entry.new.self c.args.place.bucket) (put-is c.self.inside.buckets c.args.place.bucket l c.swap_remove_at-entry.new.self _ c.swap_remove_at-entry.ensures.others) c.one_if.result lower upper).0;
+      table = (swapped-table (λ e. g.H.Hashes.hash_of c.self.inside.router.hasher (g.E.Keyed.key_of e)) t.router.skipped t.length t.overflowing c.args.place bs c.self.invariant.table _ c.args.self.now c.self.view_is b l (shelf-at c.self.inside.buckets c.args.place.bucket l) lk c.swap_remove_at-entry.result (shelf_of c.swap_remove_at-entry.new.self c.args.place.bucket) (put-is c.self.inside.buckets c.args.place.bucket l c.swap_remove_at-entry.new.self _ c.swap_remove_at-entry.ensures.others) c.one_if.result lower upper).0;
       small_minimum = c.self.invariant.small_minimum;
-      unique = swapped-unique-flat (λ e. hash_of g.H.BuildHasher g.H.Hasher.Hasher c.self.inside.router.hasher (g.E.Key.Hash.hash_input (g.E.Keyed.key_of e))) t.router.skipped t.length t.overflowing c.args.place bs c.self.invariant.table _ c.args.self.now c.self.view_is b l (shelf-at c.self.inside.buckets c.args.place.bucket l) lk c.swap_remove_at-entry.result (shelf_of c.swap_remove_at-entry.new.self c.args.place.bucket) (put-is c.self.inside.buckets c.args.place.bucket l c.swap_remove_at-entry.new.self _ c.swap_remove_at-entry.ensures.others) g.met.E.Key.Eq.laws g.E.Keyed.key_of c.swap_remove_at-entry.result got c.self.invariant.unique;
+      unique = swapped-unique-flat (λ e. g.H.Hashes.hash_of c.self.inside.router.hasher (g.E.Keyed.key_of e)) t.router.skipped t.length t.overflowing c.args.place bs c.self.invariant.table _ c.args.self.now c.self.view_is b l (shelf-at c.self.inside.buckets c.args.place.bucket l) lk c.swap_remove_at-entry.result (shelf_of c.swap_remove_at-entry.new.self c.args.place.bucket) (put-is c.self.inside.buckets c.args.place.bucket l c.swap_remove_at-entry.new.self _ c.swap_remove_at-entry.ensures.others) g.met.E.Key.Eq.laws g.E.Keyed.key_of c.swap_remove_at-entry.result got c.self.invariant.unique;
     }
 
 pub returns : goal.returns
@@ -103,10 +102,10 @@ returns g c =
     (rw (list-view bs _ c.args.self.now c.self.view_is c.args.place.bucket b l (shelf-at c.self.inside.buckets c.args.place.bucket l)) c.swap_remove_at-entry.ensures.entry) in
     record {
       entry = got;
-      others = (rw (put-own c.self.inside.buckets c.args.place.bucket l c.swap_remove_at-entry.new.self _ c.swap_remove_at-entry.ensures.others) (swapped-holds (λ e. hash_of g.H.BuildHasher g.H.Hasher.Hasher c.self.inside.router.hasher (g.E.Key.Hash.hash_input (g.E.Keyed.key_of e))) t.router.skipped t.length t.overflowing c.args.place bs c.self.invariant.table _ c.args.self.now c.self.view_is b l (shelf-at c.self.inside.buckets c.args.place.bucket l) lk c.swap_remove_at-entry.result (shelf_of c.swap_remove_at-entry.new.self c.args.place.bucket) (put-is c.self.inside.buckets c.args.place.bucket l c.swap_remove_at-entry.new.self _ c.swap_remove_at-entry.ensures.others)));
+      others = (rw (put-own c.self.inside.buckets c.args.place.bucket l c.swap_remove_at-entry.new.self _ c.swap_remove_at-entry.ensures.others) (swapped-holds (λ e. g.H.Hashes.hash_of c.self.inside.router.hasher (g.E.Keyed.key_of e)) t.router.skipped t.length t.overflowing c.args.place bs c.self.invariant.table _ c.args.self.now c.self.view_is b l (shelf-at c.self.inside.buckets c.args.place.bucket l) lk c.swap_remove_at-entry.result (shelf_of c.swap_remove_at-entry.new.self c.args.place.bucket) (put-is c.self.inside.buckets c.args.place.bucket l c.swap_remove_at-entry.new.self _ c.swap_remove_at-entry.ensures.others)));
       exact = (rw (put-own c.self.inside.buckets c.args.place.bucket l c.swap_remove_at-entry.new.self _ c.swap_remove_at-entry.ensures.others) (swapped-out-of-list bs _ c.args.self.now c.self.view_is c.args.place.bucket b l (shelf-at c.self.inside.buckets c.args.place.bucket l) (shelf_of c.swap_remove_at-entry.new.self c.args.place.bucket) c.args.place.slot c.swap_remove_at-entry.result lk (put-is c.self.inside.buckets c.args.place.bucket l c.swap_remove_at-entry.new.self _ c.swap_remove_at-entry.ensures.others)));
-      buckets = (rw (put-own c.self.inside.buckets c.args.place.bucket l c.swap_remove_at-entry.new.self _ c.swap_remove_at-entry.ensures.others) (swapped-count (λ e. hash_of g.H.BuildHasher g.H.Hasher.Hasher c.self.inside.router.hasher (g.E.Key.Hash.hash_input (g.E.Keyed.key_of e))) t.router.skipped t.length t.overflowing c.args.place bs c.self.invariant.table _ c.args.self.now c.self.view_is b l (shelf-at c.self.inside.buckets c.args.place.bucket l) lk c.swap_remove_at-entry.result (shelf_of c.swap_remove_at-entry.new.self c.args.place.bucket) (put-is c.self.inside.buckets c.args.place.bucket l c.swap_remove_at-entry.new.self _ c.swap_remove_at-entry.ensures.others)));
+      buckets = (rw (put-own c.self.inside.buckets c.args.place.bucket l c.swap_remove_at-entry.new.self _ c.swap_remove_at-entry.ensures.others) (swapped-count (λ e. g.H.Hashes.hash_of c.self.inside.router.hasher (g.E.Keyed.key_of e)) t.router.skipped t.length t.overflowing c.args.place bs c.self.invariant.table _ c.args.self.now c.self.view_is b l (shelf-at c.self.inside.buckets c.args.place.bucket l) lk c.swap_remove_at-entry.result (shelf_of c.swap_remove_at-entry.new.self c.args.place.bucket) (put-is c.self.inside.buckets c.args.place.bucket l c.swap_remove_at-entry.new.self _ c.swap_remove_at-entry.ensures.others)));
       noted = (refused-view _ _ _ refl ∙ sym (refused-view c.self.inside.buckets _ c.args.self.now c.self.view_is));
-      settings = (rw (put-own c.self.inside.buckets c.args.place.bucket l c.swap_remove_at-entry.new.self _ c.swap_remove_at-entry.ensures.others) (swapped-settings (λ e. hash_of g.H.BuildHasher g.H.Hasher.Hasher c.self.inside.router.hasher (g.E.Key.Hash.hash_input (g.E.Keyed.key_of e))) t.router.skipped t.length t.overflowing c.args.place bs c.self.invariant.table _ c.args.self.now c.self.view_is b l (shelf-at c.self.inside.buckets c.args.place.bucket l) lk c.swap_remove_at-entry.result (shelf_of c.swap_remove_at-entry.new.self c.args.place.bucket) (put-is c.self.inside.buckets c.args.place.bucket l c.swap_remove_at-entry.new.self _ c.swap_remove_at-entry.ensures.others)));
-      unique = (rw (put-own c.self.inside.buckets c.args.place.bucket l c.swap_remove_at-entry.new.self _ c.swap_remove_at-entry.ensures.others) (swapped-unique (λ e. hash_of g.H.BuildHasher g.H.Hasher.Hasher c.self.inside.router.hasher (g.E.Key.Hash.hash_input (g.E.Keyed.key_of e))) t.router.skipped t.length t.overflowing c.args.place bs c.self.invariant.table _ c.args.self.now c.self.view_is b l (shelf-at c.self.inside.buckets c.args.place.bucket l) lk c.swap_remove_at-entry.result (shelf_of c.swap_remove_at-entry.new.self c.args.place.bucket) (put-is c.self.inside.buckets c.args.place.bucket l c.swap_remove_at-entry.new.self _ c.swap_remove_at-entry.ensures.others) g.met.E.Key.Eq.laws g.E.Keyed.key_of c.swap_remove_at-entry.result got c.self.invariant.unique));
+      settings = (rw (put-own c.self.inside.buckets c.args.place.bucket l c.swap_remove_at-entry.new.self _ c.swap_remove_at-entry.ensures.others) (swapped-settings (λ e. g.H.Hashes.hash_of c.self.inside.router.hasher (g.E.Keyed.key_of e)) t.router.skipped t.length t.overflowing c.args.place bs c.self.invariant.table _ c.args.self.now c.self.view_is b l (shelf-at c.self.inside.buckets c.args.place.bucket l) lk c.swap_remove_at-entry.result (shelf_of c.swap_remove_at-entry.new.self c.args.place.bucket) (put-is c.self.inside.buckets c.args.place.bucket l c.swap_remove_at-entry.new.self _ c.swap_remove_at-entry.ensures.others)));
+      unique = (rw (put-own c.self.inside.buckets c.args.place.bucket l c.swap_remove_at-entry.new.self _ c.swap_remove_at-entry.ensures.others) (swapped-unique (λ e. g.H.Hashes.hash_of c.self.inside.router.hasher (g.E.Keyed.key_of e)) t.router.skipped t.length t.overflowing c.args.place bs c.self.invariant.table _ c.args.self.now c.self.view_is b l (shelf-at c.self.inside.buckets c.args.place.bucket l) lk c.swap_remove_at-entry.result (shelf_of c.swap_remove_at-entry.new.self c.args.place.bucket) (put-is c.self.inside.buckets c.args.place.bucket l c.swap_remove_at-entry.new.self _ c.swap_remove_at-entry.ensures.others) g.met.E.Key.Eq.laws g.E.Keyed.key_of c.swap_remove_at-entry.result got c.self.invariant.unique));
     }

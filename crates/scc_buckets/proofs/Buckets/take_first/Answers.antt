@@ -1,9 +1,9 @@
+use Rattle.scc_common.specs.Contents.{hash_in}
 use Rattle.std.proofs.Common.{◌≡◌, ◌∙◌, ◌≤◌, List, [], None, sym, ap, subst, rules, length, refl}
 use Rattle.std.specs.List.{position}
 use Rattle.scc_array.specs.Shelves.{shelf_of}
 use Rattle.scc_array.specs.Shelf.{Shelf, shelf_entries}
 use Rattle.scc_array.specs.Takes.{IsTakenOut}
-use Rattle.scc_common.specs.Hashing.{hash_of}
 use Rattle.scc_buckets.proofs.Arrays.{shelf-at}
 use Rattle.scc_buckets.proofs.FindingLemmas.{HashOf, has_tag, no-entries}
 use Rattle.scc_buckets.proofs.TakenFirst.{missed-all, missed-places, taken-near, taken-far, taken-unique, taken-first}
@@ -22,9 +22,9 @@ take_in_slots-requires-clause-tagged g c =
     let bs = t.buckets in
     let i = c.bucket-bucket.result in
     let p = λ (x : g.row.E.Denot). g.E.Key.PartialEq.eq c.args.key.now (g.E.Keyed.key_of x) in
-    let hash = λ (x : g.row.E.Denot). hash_of g.H.BuildHasher g.H.Hasher.Hasher t.router.hasher (g.E.Key.Hash.hash_input (g.E.Keyed.key_of x)) in
-    let hashed = rw (settings-view bs _ c.args.self.now c.self.view_is) at c.requires in
-    let same : HashOf p hash c.args.hash = record { same = λ x w. sym (hashed ∙ ap (hash_of g.H.BuildHasher g.H.Hasher.Hasher t.router.hasher) (g.met.E.Key.Hash.respects_eq c.args.key.now (g.E.Keyed.key_of x) w)) } in
+    let hash = λ (x : g.row.E.Denot). g.H.Hashes.hash_of t.router.hasher (g.E.Keyed.key_of x) in
+    let hashed = rw (settings-view bs _ c.args.self.now c.self.view_is, hash_in) at c.requires in
+    let same : HashOf p hash c.args.hash = record { same = λ x w. sym (hashed ∙ g.met.H.Hashes.respects_eq t.router.hasher c.args.key.now (g.E.Keyed.key_of x) w) } in
     rw c.tag.ensures (has_tag _ hash c.args.hash t.router.skipped (length bs) i (shelf_of bs i) same (c.self.invariant.table.own i (shelf_of bs i) (search rules) (shelf-at bs i (search rules))))
 
 pub invariant_of-self : goal.invariant_of-self
@@ -33,9 +33,9 @@ invariant_of-self g c =
     let bs = t.buckets in
     let i = c.bucket-bucket.result in
     let p = λ (x : g.row.E.Denot). g.E.Key.PartialEq.eq c.args.key.now (g.E.Keyed.key_of x) in
-    let hash = λ (x : g.row.E.Denot). hash_of g.H.BuildHasher g.H.Hasher.Hasher t.router.hasher (g.E.Key.Hash.hash_input (g.E.Keyed.key_of x)) in
-    let hashed = rw (settings-view bs _ c.args.self.now c.self.view_is) at c.requires in
-    let same : HashOf p hash c.args.hash = record { same = λ x w. sym (hashed ∙ ap (hash_of g.H.BuildHasher g.H.Hasher.Hasher t.router.hasher) (g.met.E.Key.Hash.respects_eq c.args.key.now (g.E.Keyed.key_of x) w)) } in
+    let hash = λ (x : g.row.E.Denot). g.H.Hashes.hash_of t.router.hasher (g.E.Keyed.key_of x) in
+    let hashed = rw (settings-view bs _ c.args.self.now c.self.view_is, hash_in) at c.requires in
+    let same : HashOf p hash c.args.hash = record { same = λ x w. sym (hashed ∙ g.met.H.Hashes.respects_eq t.router.hasher c.args.key.now (g.E.Keyed.key_of x) w) } in
     let ds = c.take_in_slots.new.self in
     let took = c.in-Some.ensures in
     let j = took.0 in
@@ -52,9 +52,9 @@ returns-in-Some g c =
     let bs = t.buckets in
     let i = c.bucket-bucket.result in
     let p = λ (x : g.row.E.Denot). g.E.Key.PartialEq.eq c.args.key.now (g.E.Keyed.key_of x) in
-    let hash = λ (x : g.row.E.Denot). hash_of g.H.BuildHasher g.H.Hasher.Hasher t.router.hasher (g.E.Key.Hash.hash_input (g.E.Keyed.key_of x)) in
-    let hashed = rw (settings-view bs _ c.args.self.now c.self.view_is) at c.requires in
-    let same : HashOf p hash c.args.hash = record { same = λ x w. sym (hashed ∙ ap (hash_of g.H.BuildHasher g.H.Hasher.Hasher t.router.hasher) (g.met.E.Key.Hash.respects_eq c.args.key.now (g.E.Keyed.key_of x) w)) } in
+    let hash = λ (x : g.row.E.Denot). g.H.Hashes.hash_of t.router.hasher (g.E.Keyed.key_of x) in
+    let hashed = rw (settings-view bs _ c.args.self.now c.self.view_is, hash_in) at c.requires in
+    let same : HashOf p hash c.args.hash = record { same = λ x w. sym (hashed ∙ g.met.H.Hashes.respects_eq t.router.hasher c.args.key.now (g.E.Keyed.key_of x) w) } in
     let ds = c.take_in_slots.new.self in
     let took = c.in-Some.ensures in
     let j = took.0 in
@@ -67,9 +67,9 @@ returns-then-not-may_overflow g c =
     let bs = t.buckets in
     let i = c.bucket-bucket.result in
     let p = λ (x : g.row.E.Denot). g.E.Key.PartialEq.eq c.args.key.now (g.E.Keyed.key_of x) in
-    let hash = λ (x : g.row.E.Denot). hash_of g.H.BuildHasher g.H.Hasher.Hasher t.router.hasher (g.E.Key.Hash.hash_input (g.E.Keyed.key_of x)) in
-    let hashed = rw (settings-view bs _ c.args.self.now c.self.view_is) at c.requires in
-    let same : HashOf p hash c.args.hash = record { same = λ x w. sym (hashed ∙ ap (hash_of g.H.BuildHasher g.H.Hasher.Hasher t.router.hasher) (g.met.E.Key.Hash.respects_eq c.args.key.now (g.E.Keyed.key_of x) w)) } in
+    let hash = λ (x : g.row.E.Denot). g.H.Hashes.hash_of t.router.hasher (g.E.Keyed.key_of x) in
+    let hashed = rw (settings-view bs _ c.args.self.now c.self.view_is, hash_in) at c.requires in
+    let same : HashOf p hash c.args.hash = record { same = λ x w. sym (hashed ∙ g.met.H.Hashes.respects_eq t.router.hasher c.args.key.now (g.E.Keyed.key_of x) w) } in
     let ds = c.take_in_slots.new.self in
     let stays : ds ≡ bs = c.in-None.ensures.1 in
     let empty : (shelf_of bs i).overflow ≡ [] = subst (λ (z : List (Shelf g.row.E.Denot)). (shelf_of z i).overflow ≡ []) stays (c.may_overflow.ensures c.if-not-may_overflow.true) in
@@ -81,9 +81,9 @@ invariant_of-self-in-Some-take_in_overflow g c =
     let bs = t.buckets in
     let i = c.bucket-bucket.result in
     let p = λ (x : g.row.E.Denot). g.E.Key.PartialEq.eq c.args.key.now (g.E.Keyed.key_of x) in
-    let hash = λ (x : g.row.E.Denot). hash_of g.H.BuildHasher g.H.Hasher.Hasher t.router.hasher (g.E.Key.Hash.hash_input (g.E.Keyed.key_of x)) in
-    let hashed = rw (settings-view bs _ c.args.self.now c.self.view_is) at c.requires in
-    let same : HashOf p hash c.args.hash = record { same = λ x w. sym (hashed ∙ ap (hash_of g.H.BuildHasher g.H.Hasher.Hasher t.router.hasher) (g.met.E.Key.Hash.respects_eq c.args.key.now (g.E.Keyed.key_of x) w)) } in
+    let hash = λ (x : g.row.E.Denot). g.H.Hashes.hash_of t.router.hasher (g.E.Keyed.key_of x) in
+    let hashed = rw (settings-view bs _ c.args.self.now c.self.view_is, hash_in) at c.requires in
+    let same : HashOf p hash c.args.hash = record { same = λ x w. sym (hashed ∙ g.met.H.Hashes.respects_eq t.router.hasher c.args.key.now (g.E.Keyed.key_of x) w) } in
     let ds = c.take_in_overflow.new.self in
     let took = c.in-Some-take_in_overflow.ensures in
     let j = took.0 in
@@ -102,9 +102,9 @@ returns-in-Some-take_in_overflow g c =
     let bs = t.buckets in
     let i = c.bucket-bucket.result in
     let p = λ (x : g.row.E.Denot). g.E.Key.PartialEq.eq c.args.key.now (g.E.Keyed.key_of x) in
-    let hash = λ (x : g.row.E.Denot). hash_of g.H.BuildHasher g.H.Hasher.Hasher t.router.hasher (g.E.Key.Hash.hash_input (g.E.Keyed.key_of x)) in
-    let hashed = rw (settings-view bs _ c.args.self.now c.self.view_is) at c.requires in
-    let same : HashOf p hash c.args.hash = record { same = λ x w. sym (hashed ∙ ap (hash_of g.H.BuildHasher g.H.Hasher.Hasher t.router.hasher) (g.met.E.Key.Hash.respects_eq c.args.key.now (g.E.Keyed.key_of x) w)) } in
+    let hash = λ (x : g.row.E.Denot). g.H.Hashes.hash_of t.router.hasher (g.E.Keyed.key_of x) in
+    let hashed = rw (settings-view bs _ c.args.self.now c.self.view_is, hash_in) at c.requires in
+    let same : HashOf p hash c.args.hash = record { same = λ x w. sym (hashed ∙ g.met.H.Hashes.respects_eq t.router.hasher c.args.key.now (g.E.Keyed.key_of x) w) } in
     let ds = c.take_in_overflow.new.self in
     let took = c.in-Some-take_in_overflow.ensures in
     let j = took.0 in
@@ -119,9 +119,9 @@ returns-in-None-take_in_overflow g c =
     let bs = t.buckets in
     let i = c.bucket-bucket.result in
     let p = λ (x : g.row.E.Denot). g.E.Key.PartialEq.eq c.args.key.now (g.E.Keyed.key_of x) in
-    let hash = λ (x : g.row.E.Denot). hash_of g.H.BuildHasher g.H.Hasher.Hasher t.router.hasher (g.E.Key.Hash.hash_input (g.E.Keyed.key_of x)) in
-    let hashed = rw (settings-view bs _ c.args.self.now c.self.view_is) at c.requires in
-    let same : HashOf p hash c.args.hash = record { same = λ x w. sym (hashed ∙ ap (hash_of g.H.BuildHasher g.H.Hasher.Hasher t.router.hasher) (g.met.E.Key.Hash.respects_eq c.args.key.now (g.E.Keyed.key_of x) w)) } in
+    let hash = λ (x : g.row.E.Denot). g.H.Hashes.hash_of t.router.hasher (g.E.Keyed.key_of x) in
+    let hashed = rw (settings-view bs _ c.args.self.now c.self.view_is, hash_in) at c.requires in
+    let same : HashOf p hash c.args.hash = record { same = λ x w. sym (hashed ∙ g.met.H.Hashes.respects_eq t.router.hasher c.args.key.now (g.E.Keyed.key_of x) w) } in
     let ds = c.take_in_overflow.new.self in
     let stays = c.in-None.ensures.1 in
     let missed : position p (shelf_entries (shelf_of bs i)) ≡ None = subst (λ (z : List (Shelf g.row.E.Denot)). position p (shelf_entries (shelf_of z i)) ≡ None) stays c.in-None-take_in_overflow.ensures.0 in

@@ -1,5 +1,4 @@
 use Rattle.std.proofs.Common.{rules, refl, arith, inr, length}
-use Rattle.scc_common.specs.Hashing.{hash_of}
 use Rattle.scc_common.specs.Sizes.{IsLawful}
 use Rattle.scc_common.specs.Contents.{notes_of, settings_of, waiting_of}
 use Rattle.scc_buckets.proofs.Bounds.{bounded-fresh, listed-view}
@@ -19,7 +18,7 @@ returns-in-Ok g c =
       listed = (
           let bs = c.in-Ok.buckets in
           let lawful : IsLawful (length bs) = inr (rw c.in-Ok.ensures.count c.buckets_for-count.ensures.array) in
-          rw c.new-in-Ok.ensures (listed-view _ 0 0 bs _ _ refl (table-empty (λ e. hash_of g.H.BuildHasher g.H.Hasher.Hasher c.args.hasher (g.E.Key.Hash.hash_input (g.E.Keyed.key_of e))) c.args.skipped bs c.in-Ok.ensures.empty lawful) (bounded-fresh _ bs _ c.in-Ok.ensures.empty)));
+          rw c.new-in-Ok.ensures (listed-view _ 0 0 bs _ _ refl (table-empty (λ e. g.H.Hashes.hash_of c.args.hasher (g.E.Keyed.key_of e)) c.args.skipped bs c.in-Ok.ensures.empty lawful) (bounded-fresh _ bs _ c.in-Ok.ensures.empty)));
       none = (search rules);
       size = (λ _. rw (count-view c.in-Ok.buckets _ _ refl, c.in-Ok.ensures.count) c.buckets_for-count.ensures.size);
       settings = (rw (c.new-in-Ok.ensures, count-view c.in-Ok.buckets _ _ refl, c.in-Ok.ensures.count) refl);

@@ -1,6 +1,6 @@
 use Rattle.std.proofs.Common.{◌^◌, ◌<◌, ◌∙◌, sym, arith, rules}
 use Rattle.std.proofs.lemmas.Result.{on_ok_weaker, on_err_weaker}
-use Rattle.scc_common.specs.Contents.{bucket_count, key_hash, settings_of}
+use Rattle.scc_common.specs.Contents.{bucket_count, hash_in, settings_of}
 use Rattle.scc_buckets.specs.Tables.{overflow_in}
 use Rattle.scc_draining.specs.Moves.{IsDrainable}
 use Rattle.scc_draining.proofs.Counted.{short-counted}
@@ -12,7 +12,7 @@ pub count_coming-coming-requires-clause-drainable : goal.count_coming-coming-req
 count_coming-coming-requires-clause-drainable g c =
     let cur = c.args.current.now in
     let olds = c.args.old.now in
-    let hash = λ (e : g.row.E.Denot). key_hash g.H.BuildHasher g.H.Hasher.Hasher g.E.Key.Hash.hash_input cur (g.E.Keyed.key_of e) in
+    let hash = λ (e : g.row.E.Denot). hash_in g.H.Hashes.hash_of cur (g.E.Keyed.key_of e) in
     let first = c.sources-first.result.0 in
     let end = c.sources-first.result.1 in
     let last = rw c.len-before.ensures.count at c.sources-first.ensures.within in
@@ -32,7 +32,7 @@ pub move_in-requires-clause-drainable : goal.move_in-requires-clause-drainable
 move_in-requires-clause-drainable g c =
     let cur = c.args.current.now in
     let olds = c.args.old.now in
-    let hash = λ (e : g.row.E.Denot). key_hash g.H.BuildHasher g.H.Hasher.Hasher g.E.Key.Hash.hash_input cur (g.E.Keyed.key_of e) in
+    let hash = λ (e : g.row.E.Denot). hash_in g.H.Hashes.hash_of cur (g.E.Keyed.key_of e) in
     let first = c.sources-first.result.0 in
     let end = c.sources-first.result.1 in
     let last = rw c.len-before.ensures.count at c.sources-first.ensures.within in
@@ -62,7 +62,7 @@ sources-first-requires-clause-multiples g c = rw (c.len-before.ensures.count, c.
 
 pub count_coming-coming-requires-clause-most : goal.count_coming-coming-requires-clause-most
 count_coming-coming-requires-clause-most g c =
-    let hash = λ (e : g.row.E.Denot). key_hash g.H.BuildHasher g.H.Hasher.Hasher g.E.Key.Hash.hash_input c.args.current.now (g.E.Keyed.key_of e) in
+    let hash = λ (e : g.row.E.Denot). hash_in g.H.Hashes.hash_of c.args.current.now (g.E.Keyed.key_of e) in
     let low : overflow_in c.args.old.now < 2 ^ 62 = omega (arith, c.requires.spilled, c.requires.aside) in
     let m = most-entry_count hash (settings_of c.args.current.now).skipped c.args.old.now c.requires.sized c.requires.own low in
     omega arith

@@ -9,4 +9,4 @@ returns-clause-count g c =
     c.bucket_count.ensures.count ∙ sym (count-together _ c.self.inside.current c.self.inside.draining.waiting.items c.self.inside.draining.array c.self.invariant.arrays.flags) ∙ ap bucket_count c.self.view_is
 
 pub returns-clause-routed : goal.returns-clause-routed
-returns-clause-routed g c = routed-seen g.H.BuildHasher g.H.Hasher.Hasher g.E.Key.Hash.hash_input g.E.Keyed.key_of c.self.invariant c.self.view_is c.bucket_count.ensures.routed
+returns-clause-routed g c = routed-seen g.H.Hashes.hash_of g.E.Keyed.key_of c.self.invariant c.self.view_is c.bucket_count.ensures.routed

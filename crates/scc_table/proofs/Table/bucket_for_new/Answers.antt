@@ -1,6 +1,6 @@
 use Rattle.std.proofs.Common.{◌≡◌, ◌==◌, ◌∙◌, ◌<◌, length, sym, ap, arith, rules}
 use Rattle.std.specs.List.{count_by}
-use Rattle.scc_common.specs.Contents.{HasRoomAt, bucket_count, entries, key_hash, list_of, pending_of, settings_of}
+use Rattle.scc_common.specs.Contents.{HasRoomAt, bucket_count, entries, hash_in, list_of, pending_of, settings_of}
 use Rattle.scc_common.specs.Routing.{bucket_number}
 use Rattle.scc_table.proofs.places.OneList.{count-listed}
 use Rattle.scc_table.proofs.relocations.ShortLists.{listed-none}
@@ -11,7 +11,7 @@ pub returns-then-list_len-lt32-clause-finds : goal.returns-then-list_len-lt32-cl
 returns-then-list_len-lt32-clause-finds g c =
     let a = c.args.self.now in
     let i = c.bucket_at-bucket.result in
-    let hk = key_hash g.H.BuildHasher g.H.Hasher.Hasher g.E.Key.Hash.hash_input a in
+    let hk = hash_in g.H.Hashes.hash_of a in
     let n = bucket_number (settings_of a).skipped (bucket_count a) c.args.hash in
     let left : count_by (λ (e : g.row.E.Denot). bucket_number (settings_of a).skipped (bucket_count a) (hk (g.E.Keyed.key_of e)) == n) (entries a) ≡ length (list_of a i) =
     ap (λ m. count_by (λ (e : g.row.E.Denot). bucket_number (settings_of a).skipped (bucket_count a) (hk (g.E.Keyed.key_of e)) == m) (entries a)) (sym c.bucket_at-bucket.ensures.value) ∙ count-listed (λ (e : g.row.E.Denot). hk (g.E.Keyed.key_of e)) a i c.bucket_at-bucket.ensures.routed in
@@ -47,7 +47,7 @@ pub returns-clause-finds : goal.returns-clause-finds
 returns-clause-finds g c =
     let a = c.args.self.now in
     let i = c.bucket_at-bucket.result in
-    let hk = key_hash g.H.BuildHasher g.H.Hasher.Hasher g.E.Key.Hash.hash_input a in
+    let hk = hash_in g.H.Hashes.hash_of a in
     let n = bucket_number (settings_of a).skipped (bucket_count a) c.args.hash in
     let left : count_by (λ (e : g.row.E.Denot). bucket_number (settings_of a).skipped (bucket_count a) (hk (g.E.Keyed.key_of e)) == n) (entries a) ≡ length (list_of a i) =
     ap (λ m. count_by (λ (e : g.row.E.Denot). bucket_number (settings_of a).skipped (bucket_count a) (hk (g.E.Keyed.key_of e)) == m) (entries a)) (sym c.bucket_at-bucket.ensures.value) ∙ count-listed (λ (e : g.row.E.Denot). hk (g.E.Keyed.key_of e)) a i c.bucket_at-bucket.ensures.routed in

@@ -2,8 +2,7 @@ use Rattle.std.proofs.Common.{◌≡◌, ◌∙◌, ℕ, ◌*◌, ◌<◌, inl, 
 use Rattle.std.specs.List.{range_with_len, slice_get}
 use Rattle.std.specs.List.Sorted.{IsPermutation}
 use Rattle.scc_array.proofs.Gets.{get-some}
-use Rattle.scc_common.specs.Contents.{bucket_count, entries, key_hash, list_of, lists_of, settings_of, waiting_of, Settings}
-use Rattle.scc_common.specs.Hashing.{hash_of}
+use Rattle.scc_common.specs.Contents.{bucket_count, entries, hash_in, list_of, lists_of, settings_of, waiting_of, Settings}
 use Rattle.scc_buckets.specs.Pour.{destined_for, IsRegrouped}
 use Rattle.scc_common.specs.Routing.{bucket_number}
 use Rattle.scc_buckets.proofs.PairSplits.{by_answer}
@@ -56,7 +55,7 @@ returns-in-Ok g c =
     let m = c.note.new.self in
     let d = c.relocate_some.new.self in
     let k = c.bucket-bucket.result in
-    let hash = λ (e : g.row.E.Denot). key_hash g.H.BuildHasher g.H.Hasher.Hasher g.E.Key.Hash.hash_input a (g.E.Keyed.key_of e) in
+    let hash = λ (e : g.row.E.Denot). hash_in g.H.Hashes.hash_of a (g.E.Keyed.key_of e) in
     let done = c.in-Ok.ensures in
     let rel = c.relocate_some.ensures in
     let counted : n ≡ bucket_count a = c.bucket_count-count.ensures.count in
@@ -85,7 +84,7 @@ returns-in-Ok g c =
           let list : list_of d k ≡ destined_for hash t (2 * bucket_count a) k (entries a) = reg.each k l ∙ ap (λ z. destined_for hash t z k (entries a)) twice in
           let lists-now = lists-seen _ c.self.inside.current c.self.inside.draining.waiting.items c.self.inside.draining.array a c.self.view_is (not_waiting-flags a c.self.invariant c.self.view_is c.requires.pending) in
           let own : es ≡ list_of c.self.inside.current c.args.place.bucket = list-same c.self.inside.current a lists-now c.args.place.bucket in
-          let hashes = λ (s : Settings g.row.H.Denot). let h : g.row.E.Denot → ℕ = λ e. hash_of g.H.BuildHasher g.H.Hasher.Hasher s.hasher (g.E.Key.Hash.hash_input (g.E.Keyed.key_of e)) in h in
+          let hashes = λ (s : Settings g.row.H.Denot). let h : g.row.E.Denot → ℕ = λ e. g.H.Hashes.hash_of s.hasher (g.E.Keyed.key_of e) in h in
           let few = c.count_destined-slot.ensures ∙ ap (λ xs. length (destined_for (hashes (settings_of c.self.inside.current)) (settings_of c.self.inside.current).skipped (2 * n) k (take c.args.place.slot xs))) (sym own)
           ∙ ap (λ s. length (destined_for (hashes s) (settings_of c.self.inside.current).skipped (2 * n) k (take c.args.place.slot es))) (sym set) in
           let slot : c.count_destined-slot.result ≡ length (destined_for hash t (2 * bucket_count a) k (take c.args.place.slot es)) = few ∙ ap (λ z. length (destined_for hash z (2 * n) k (take c.args.place.slot es))) s ∙ ap (λ z. length (destined_for hash t z k (take c.args.place.slot es))) twice in
@@ -157,7 +156,7 @@ returns-in-Err g c =
           let lists = c.note-in-Err.ensures.lists ∙ ap lists_of same in
           let settings = c.note-in-Err.ensures.settings ∙ ap settings_of same in
           let count = count-same a d lists in
-          let hash = λ (e : g.row.E.Denot). key_hash g.H.BuildHasher g.H.Hasher.Hasher g.E.Key.Hash.hash_input a (g.E.Keyed.key_of e) in
+          let hash = λ (e : g.row.E.Denot). hash_in g.H.Hashes.hash_of a (g.E.Keyed.key_of e) in
           let x = get-some (list_of a c.args.place.bucket) c.args.place.slot c.requires.slot in
           stands-routed hash a d c.bucket_count-count.ensures.routed c.args.place.bucket c.args.place.slot c.args.hash x.0 x.1 (c.requires.hashed x.0 x.1) ∙ ap (λ z. bucket_number (settings_of a).skipped z c.args.hash) (sym count));
       not_waiting = (

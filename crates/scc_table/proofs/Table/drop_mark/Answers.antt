@@ -1,5 +1,4 @@
 use Rattle.std.proofs.Common.{◌∙◌}
-use Rattle.scc_common.specs.Hashing.{hash_of}
 use Rattle.scc_table.proofs.arrays.SameParts.{unchanged-same}
 use Rattle.scc_table.proofs.relocations.ShortLists.{listed-later}
 use Rattle.scc_table.proofs.Table.drop_mark.Goals as goal
@@ -9,4 +8,4 @@ returns-clause-same g c = unchanged-same c.args.self.now c.mark.new.self c.mark.
 
 pub returns-clause-listed : goal.returns-clause-listed
 returns-clause-listed g c = λ h.
-    listed-later (λ s (e : g.row.E.Denot). hash_of g.H.BuildHasher g.H.Hasher.Hasher s.hasher (g.E.Key.Hash.hash_input (g.E.Keyed.key_of e))) c.args.self.now c.mark.new.self c.mark.ensures.lists c.mark.ensures.settings (c.mark.ensures.spilled ∙ h.bounded) h
+    listed-later (λ s (e : g.row.E.Denot). g.H.Hashes.hash_of s.hasher (g.E.Keyed.key_of e)) c.args.self.now c.mark.new.self c.mark.ensures.lists c.mark.ensures.settings (c.mark.ensures.spilled ∙ h.bounded) h

@@ -1,5 +1,5 @@
 use Rattle.std.proofs.Common.{◌≡◌, ◌-◌, Some, slice_get, subst, arith}
-use Rattle.scc_common.specs.Contents.{entries, key_hash}
+use Rattle.scc_common.specs.Contents.{entries, hash_in}
 use Rattle.scc_table.specs.Places.{index_of}
 use Rattle.scc_table.proofs.places.OldSpots.{own-get, old-get}
 use Rattle.scc_table.proofs.arrays.OneBucket.{old-here, own-here}
@@ -12,7 +12,7 @@ entry_in-requires g c =
 pub returns-then-place-count-clause-entry : goal.returns-then-place-count-clause-entry
 returns-then-place-count-clause-entry g c =
     let t = c.self.inside in
-    let hk = key_hash g.H.BuildHasher g.H.Hasher.Hasher g.E.Key.Hash.hash_input t.current in
+    let hk = hash_in g.H.Hashes.hash_of t.current in
     let hash = λ (e : g.row.E.Denot). hk (g.E.Keyed.key_of e) in
     let p = c.args.place in
     let e = c.entry_in.result.now in
@@ -30,7 +30,7 @@ entry_at-requires-clause-slot g c =
 pub returns-clause-entry : goal.returns-clause-entry
 returns-clause-entry g c =
     let t = c.self.inside in
-    let hk = key_hash g.H.BuildHasher g.H.Hasher.Hasher g.E.Key.Hash.hash_input t.current in
+    let hk = hash_in g.H.Hashes.hash_of t.current in
     let hash = λ (e : g.row.E.Denot). hk (g.E.Keyed.key_of e) in
     let p = c.args.place in
     let e = c.entry_at.result.now in

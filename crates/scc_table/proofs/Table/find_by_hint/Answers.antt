@@ -1,7 +1,6 @@
 use Rattle.std.proofs.Common.{◌∙◌, sym, ap, arith}
 use Rattle.std.specs.List.{find}
-use Rattle.scc_common.specs.Contents.{entries, key_hash, pending_of}
-use Rattle.scc_common.specs.Hashing.{hash_of}
+use Rattle.scc_common.specs.Contents.{entries, hash_in, pending_of}
 use Rattle.scc_table.proofs.arrays.JoinedLists.{pending-together}
 use Rattle.scc_table.proofs.arrays.CurrentParts.{settings-seen}
 use Rattle.scc_table.proofs.places.Searches.{entries-not_waiting}
@@ -14,7 +13,7 @@ find_both-requires-clause-pending g c =
     let ws = t.draining.waiting.items in
     let olds = t.draining.array in
     let inv = c.self.invariant in
-    let hk = key_hash g.H.BuildHasher g.H.Hasher.Hasher g.E.Key.Hash.hash_input cur in
+    let hk = hash_in g.H.Hashes.hash_of cur in
     let hash = λ (e : g.row.E.Denot). hk (g.E.Keyed.key_of e) in
     let counted = ap pending_of (sym c.self.view_is) ∙ pending-together hash cur ws olds in
     omega (arith, counted, inv.counted, c.if-self-eq0.false)
@@ -26,7 +25,7 @@ returns-then-self-eq0 g c =
     let ws = t.draining.waiting.items in
     let olds = t.draining.array in
     let inv = c.self.invariant in
-    let hk = key_hash g.H.BuildHasher g.H.Hasher.Hasher g.E.Key.Hash.hash_input cur in
+    let hk = hash_in g.H.Hashes.hash_of cur in
     let hash = λ (e : g.row.E.Denot). hk (g.E.Keyed.key_of e) in
     let passes = λ (e : g.row.E.Denot). g.E.Key.PartialEq.eq c.args.key.now (g.E.Keyed.key_of e) in
     c.find_by_hint.ensures ∙ ap (find passes) (sym (entries-not_waiting hash cur olds ws (inv.none c.if-self-eq0.true))) ∙ ap (λ d. find passes (entries d)) c.self.view_is

@@ -1,5 +1,5 @@
 use Rattle.std.proofs.Common.{◌≡◌, ◌∙◌, ◌<◌, ◌≤◌, [], true, false, length, sym, ap, subst, rules, arith}
-use Rattle.scc_common.specs.Contents.{bucket_count, key_hash, list_of, settings_of}
+use Rattle.scc_common.specs.Contents.{bucket_count, hash_in, list_of, settings_of}
 use Rattle.scc_buckets.specs.Places as spots
 use Rattle.scc_buckets.specs.declared.place.Place.{Place}
 use Rattle.scc_buckets.proofs.Standing.{along, length-zero}
@@ -38,7 +38,7 @@ returns-then-first-len g c =
     let ws = t.draining.waiting.items in
     let olds = t.draining.array in
     let inv = c.self.invariant in
-    let hk = key_hash g.H.BuildHasher g.H.Hasher.Hasher g.E.Key.Hash.hash_input cur in
+    let hk = hash_in g.H.Hashes.hash_of cur in
     let hash = λ (e : g.row.E.Denot). hk (g.E.Keyed.key_of e) in
     let i = c.args.bucket in
     let up = flag-up c.self.invariant _ c.self.view_is (c.is_waiting.ensures.0 c.if-is_waiting.true) in
@@ -69,7 +69,7 @@ returns-then-is_waiting g c =
     let olds = t.draining.array in
     let inv = c.self.invariant in
     let now = c.args.self.now in
-    let hk = key_hash g.H.BuildHasher g.H.Hasher.Hasher g.E.Key.Hash.hash_input cur in
+    let hk = hash_in g.H.Hashes.hash_of cur in
     let hash = λ (e : g.row.E.Denot). hk (g.E.Keyed.key_of e) in
     let i = c.args.bucket in
     let up = flag-up c.self.invariant _ c.self.view_is (c.is_waiting.ensures.0 c.if-is_waiting.true) in
@@ -95,7 +95,7 @@ returns-then-list_len-eq0 g c =
     let ws = t.draining.waiting.items in
     let olds = t.draining.array in
     let inv = c.self.invariant in
-    let hk = key_hash g.H.BuildHasher g.H.Hasher.Hasher g.E.Key.Hash.hash_input cur in
+    let hk = hash_in g.H.Hashes.hash_of cur in
     let hash = λ (e : g.row.E.Denot). hk (g.E.Keyed.key_of e) in
     let count = count-own c.self.invariant c.self.view_is in
     let i = c.args.bucket in
@@ -111,7 +111,7 @@ returns g c =
     let ws = t.draining.waiting.items in
     let olds = t.draining.array in
     let inv = c.self.invariant in
-    let hk = key_hash g.H.BuildHasher g.H.Hasher.Hasher g.E.Key.Hash.hash_input cur in
+    let hk = hash_in g.H.Hashes.hash_of cur in
     let hash = λ (e : g.row.E.Denot). hk (g.E.Keyed.key_of e) in
     let count = count-own c.self.invariant c.self.view_is in
     let i = c.args.bucket in

@@ -1,6 +1,5 @@
 use Rattle.std.proofs.Common.{◌≡◌, ◌∙◌, ◌*◌, ◌≤◌, inl, inr, replicate, length, true, sym, ap, subst, arith, rules}
-use Rattle.scc_common.specs.Contents.{bucket_count, entries, key_hash, settings_of}
-use Rattle.scc_common.specs.Hashing.{hash_of}
+use Rattle.scc_common.specs.Contents.{bucket_count, entries, hash_in, settings_of}
 use Rattle.scc_common.specs.Sizes.{IsBucketCount}
 use Rattle.scc_buckets.specs.Bounded.{IsResized}
 use Rattle.scc_buckets.specs.Pour.{IsRegrouped, destined_for}
@@ -35,7 +34,7 @@ returns-in-Ok-clause-grows g c =
       waiting = (let n = c.in-Ok.ensures.lists.count in λ z. absurd (omega (arith, c.requires.some, c.bucket_count-count.ensures.count)));
       all = (λ ne. c.in-Ok.ensures.waiting ∙ ap (λ n. replicate n true) (sym c.in-Ok.ensures.lists.count));
       lists = (
-          let hash = λ (e : g.row.E.Denot). key_hash g.H.BuildHasher g.H.Hasher.Hasher g.E.Key.Hash.hash_input c.args.self.now (g.E.Keyed.key_of e) in
+          let hash = λ (e : g.row.E.Denot). hash_in g.H.Hashes.hash_of c.args.self.now (g.E.Keyed.key_of e) in
           λ ne. subst (λ n. IsRegrouped hash n c.args.self.now c.install_fresh.new.self) (sym c.in-Ok.ensures.lists.count) c.in-Ok.ensures.lists);
       array = (search rules);
       once = (search rules);
@@ -95,7 +94,7 @@ pub returns-in-Ok-clause-doubles : goal.returns-in-Ok-clause-doubles
 returns-in-Ok-clause-doubles g c =
     let a = c.args.self.now in
     let d = c.install_fresh.new.self in
-    let hash = λ (e : g.row.E.Denot). key_hash g.H.BuildHasher g.H.Hasher.Hasher g.E.Key.Hash.hash_input c.args.self.now (g.E.Keyed.key_of e) in
+    let hash = λ (e : g.row.E.Denot). hash_in g.H.Hashes.hash_of c.args.self.now (g.E.Keyed.key_of e) in
     let r = c.in-Ok.ensures in
     let size : bucket_count d ≡ 2 * bucket_count a = r.lists.count ∙ ap (λ n. 2 * n) c.bucket_count-count.ensures.count in
     let array = double-array c.bucket_count-count.result c.bucket_count-count.ensures.lawful (omega (arith, c.requires.some, c.bucket_count-count.ensures.count)) (omega (arith, c.requires.most)) in
@@ -110,7 +109,7 @@ pub returns-in-Ok-clause-listed : goal.returns-in-Ok-clause-listed
 returns-in-Ok-clause-listed g c =
     let a = c.args.self.now in
     let d = c.install_fresh.new.self in
-    let hash = λ (e : g.row.E.Denot). key_hash g.H.BuildHasher g.H.Hasher.Hasher g.E.Key.Hash.hash_input c.args.self.now (g.E.Keyed.key_of e) in
+    let hash = λ (e : g.row.E.Denot). hash_in g.H.Hashes.hash_of c.args.self.now (g.E.Keyed.key_of e) in
     let r = c.in-Ok.ensures in
     let size : bucket_count d ≡ 2 * bucket_count a = r.lists.count ∙ ap (λ n. 2 * n) c.bucket_count-count.ensures.count in
     let array = double-array c.bucket_count-count.result c.bucket_count-count.ensures.lawful (omega (arith, c.requires.some, c.bucket_count-count.ensures.count)) (omega (arith, c.requires.most)) in
@@ -120,11 +119,11 @@ returns-in-Ok-clause-listed g c =
       lists = subst (λ n. IsRegrouped hash n a d) (sym r.lists.count) r.lists;
       bounded = c.install_fresh.ensures.bounded listed.bounded;
     } in
-    listed-anew (λ s (e : g.row.E.Denot). hash_of g.H.BuildHasher g.H.Hasher.Hasher s.hasher (g.E.Key.Hash.hash_input (g.E.Keyed.key_of e))) a d c.install_fresh.ensures.settings
+    listed-anew (λ s (e : g.row.E.Denot). g.H.Hashes.hash_of s.hasher (g.E.Keyed.key_of e)) a d c.install_fresh.ensures.settings
     (listed-resized hash a d resized (λ i l. subst (λ n. length (destined_for hash (settings_of a).skipped n i (entries a)) ≤ 32) (sym size) (short-doubled hash a listed i)))
 
 pub returns-in-Err-clause-listed : goal.returns-in-Err-clause-listed
-returns-in-Err-clause-listed g c = λ listed. listed-later (λ s (e : g.row.E.Denot). hash_of g.H.BuildHasher g.H.Hasher.Hasher s.hasher (g.E.Key.Hash.hash_input (g.E.Keyed.key_of e))) c.args.self.now c.install_fresh.new.self c.in-Err.ensures.err c.install_fresh.ensures.settings (c.install_fresh.ensures.bounded listed.bounded) listed
+returns-in-Err-clause-listed g c = λ listed. listed-later (λ s (e : g.row.E.Denot). g.H.Hashes.hash_of s.hasher (g.E.Keyed.key_of e)) c.args.self.now c.install_fresh.new.self c.in-Err.ensures.err c.install_fresh.ensures.settings (c.install_fresh.ensures.bounded listed.bounded) listed
 
 pub returns-then-is_marked-clause-listed : goal.returns-then-is_marked-clause-listed
-returns-then-is_marked-clause-listed g c = λ listed. listed-later (λ s (e : g.row.E.Denot). hash_of g.H.BuildHasher g.H.Hasher.Hasher s.hasher (g.E.Key.Hash.hash_input (g.E.Keyed.key_of e))) c.args.self.now c.note.new.self c.note.ensures.lists c.note.ensures.settings (c.note.ensures.spilled ∙ listed.bounded) listed
+returns-then-is_marked-clause-listed g c = λ listed. listed-later (λ s (e : g.row.E.Denot). g.H.Hashes.hash_of s.hasher (g.E.Keyed.key_of e)) c.args.self.now c.note.new.self c.note.ensures.lists c.note.ensures.settings (c.note.ensures.spilled ∙ listed.bounded) listed

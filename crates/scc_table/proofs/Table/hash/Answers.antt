@@ -1,13 +1,12 @@
 use Rattle.std.proofs.Common.{◌∙◌, ap}
-use Rattle.scc_common.specs.Contents.{key_hash}
-use Rattle.scc_common.specs.Hashing.{hash_of}
+use Rattle.scc_common.specs.Contents.{hash_in}
 use Rattle.scc_table.proofs.arrays.CurrentParts.{settings-seen}
 use Rattle.scc_table.proofs.Table.hash.Goals as goal
 
 pub returns : goal.returns
 returns g c =
     let t = c.self.inside in
-    let hk = key_hash g.H.BuildHasher g.H.Hasher.Hasher g.E.Key.Hash.hash_input t.current in
+    let hk = hash_in g.H.Hashes.hash_of t.current in
     let hash = λ (e : g.row.E.Denot). hk (g.E.Keyed.key_of e) in
     let set = settings-seen hash t.current t.draining.waiting.items t.draining.array c.args.self.now c.self.view_is in
-    c.hash.ensures ∙ ap (λ s. hash_of g.H.BuildHasher g.H.Hasher.Hasher s.hasher (g.E.Key.Hash.hash_input c.args.key.now)) set
+    c.hash.ensures ∙ ap (λ s. g.H.Hashes.hash_of s.hasher c.args.key.now) set

@@ -1,8 +1,9 @@
-use Rattle.std.proofs.Common.{◌≡◌, ◌∙◌, ◌-◌, ◌≤◌, length, replicate, true, false, sym, ap, subst, arith, Bool, rules}
+use Rattle.std.proofs.Common.{◌≡◌, ◌∙◌, ◌-◌, ◌≤◌, ◌≢◌, ◌*◌, ℕ, length, replicate, true, false, sym, ap, subst, arith, Bool, rules}
 use Rattle.std.specs.List.{count_by, range_with_len}
-use Rattle.scc_common.specs.Contents.{HasRoomAt, bucket_count, entries, key_hash, settings_of, waiting_of}
+use Rattle.scc_common.specs.Contents.{HasRoomAt, bucket_count, entries, hash_in, minimum_of, settings_of, waiting_of}
 use Rattle.scc_buckets.specs.Pour.{IsRegrouped}
 use Rattle.scc_common.specs.Routing.{bucket_number}
+use Rattle.scc_common.specs.Sizes.{IsArraySize}
 use Rattle.scc_common.specs.Steps.{IsGrowthDue}
 use Rattle.scc_buckets.proofs.Resizes.{absent-permuted, rests-resizes, rests-inserted}
 use Rattle.scc_table.specs.Places.{spot_of}
@@ -33,20 +34,28 @@ returns-in-Ok g c =
     let f = c.insert_and_relocate.new.self in
     let n = bucket_count f in
     let same : n ≡ bucket_count b = c.insert_and_relocate.ensures.buckets in
-    let hash = λ (e : g.row.E.Denot). key_hash g.H.BuildHasher g.H.Hasher.Hasher g.E.Key.Hash.hash_input a (g.E.Keyed.key_of e) in
+    let hash = λ (e : g.row.E.Denot). hash_in g.H.Hashes.hash_of a (g.E.Keyed.key_of e) in
     record {
       ok = (if-ok c.insert_and_relocate.result (λ p i. rests-inserted c.args.self.now c.bucket_for_new.new.self c.insert_and_relocate.new.self c.args.entry (spot_of c.insert_and_relocate.new.self p) c.bucket_for_new.ensures.finds.rests i) c.insert_and_relocate.ensures.ok);
       err = (if-err c.insert_and_relocate.result (λ y p. (p.0, rests-kept a b f p.1 made.rests)) c.insert_and_relocate.ensures.err);
       full = (
           on-err c.insert_and_relocate.result
           (λ none room.
-          let had : HasRoomAt (key_hash g.H.BuildHasher g.H.Hasher.Hasher g.E.Key.Hash.hash_input c.args.self.now) g.E.Keyed.key_of c.args.self.now c.args.hash = rw c.requires.hashed room in
+          let had : HasRoomAt (hash_in g.H.Hashes.hash_of c.args.self.now) g.E.Keyed.key_of c.args.self.now c.args.hash = rw c.requires.hashed room in
           let same = c.bucket_for_new.ensures.finds.still had in
           none (rw same room))
           c.insert_and_relocate.ensures.full);
-      growth = (search rules);
+      growth = (
+          let other = λ (d : bucket_count f ≢ bucket_count a) (e : bucket_count b ≡ bucket_count a). d (same ∙ e) in
+          record {
+            first = λ none d. subst (λ (m : ℕ). IsArraySize (minimum_of a) (32 * m)) (sym same) (made.growth.first none (other d));
+            half = λ l d. made.growth.half l (other d);
+            below = λ l d. made.growth.below l (other d);
+            doubled = λ l d. same ∙ made.growth.doubled l (other d);
+            not_waiting = λ l d. made.growth.not_waiting l (other d);
+          });
       due = (
-          let hk = key_hash g.H.BuildHasher g.H.Hasher.Hasher g.E.Key.Hash.hash_input a in
+          let hk = hash_in g.H.Hashes.hash_of a in
           record {
             doubled = λ due down. c.insert_and_relocate.ensures.buckets ∙ c.bucket_for_new.ensures.finds.due (subst (IsGrowthDue hk g.E.Keyed.key_of a) (sym c.requires.hashed) due) due.below (sym (ap (λ (x : Bool × Bool). x.0) c.insert_and_relocate.ensures.refused) ∙ down);
             raised = λ low up. subst (IsGrowthDue hk g.E.Keyed.key_of a) c.requires.hashed (c.bucket_for_new.ensures.finds.raised low (sym (ap (λ (x : Bool × Bool). x.0) c.insert_and_relocate.ensures.refused) ∙ up)).0;
@@ -69,10 +78,10 @@ returns-in-Ok g c =
           c.insert_and_relocate.ensures.full);
       kept = (
           λ room.
-          let had : HasRoomAt (key_hash g.H.BuildHasher g.H.Hasher.Hasher g.E.Key.Hash.hash_input c.args.self.now) g.E.Keyed.key_of c.args.self.now c.args.hash = rw c.requires.hashed room in
+          let had : HasRoomAt (hash_in g.H.Hashes.hash_of c.args.self.now) g.E.Keyed.key_of c.args.self.now c.args.hash = rw c.requires.hashed room in
           c.insert_and_relocate.ensures.buckets ∙ ap bucket_count (c.bucket_for_new.ensures.finds.still had));
       once = (
-          let hk = key_hash g.H.BuildHasher g.H.Hasher.Hasher g.E.Key.Hash.hash_input a in
+          let hk = hash_in g.H.Hashes.hash_of a in
           λ ready. c.insert_and_relocate.ensures.buckets ∙ once-made hk g.E.Keyed.key_of a b c.args.hash made.growth (λ had. ap bucket_count (made.still had)) (λ some why. made.once some why) (rw (← c.requires.hashed) at ready));
       fewer = (λ some kept i up. let w = made.waiting some (sym same ∙ kept) in rw (sym w) (c.insert_and_relocate.ensures.fewer i up));
       less = (

@@ -1,5 +1,5 @@
 use Rattle.std.proofs.Common.{◌∙◌, ◌≤◌, ℕ, length, sym, ap, subst, arith, rules}
-use Rattle.scc_common.specs.Contents.{HasRoomBy, bucket_count, key_hash, list_of, settings_of}
+use Rattle.scc_common.specs.Contents.{HasRoomBy, bucket_count, hash_in, list_of, settings_of}
 use Rattle.scc_common.specs.Routing.{bucket_number}
 use Rattle.scc_table.specs.TwoArrays.{pending_targets}
 use Rattle.scc_table.proofs.insertions.Places.{long-none, moved-relocated, relocated-fewer, relocated-inserted, relocated-left, relocated-short, room-same}
@@ -8,7 +8,7 @@ use Rattle.scc_table.proofs.insertions.CurrentArray.{new-same}
 use Rattle.scc_table.proofs.Table.insert_after_relocation.Goals as goal
 
 pub insert_then_relocate-requires-clause-new : goal.insert_then_relocate-requires-clause-new
-insert_then_relocate-requires-clause-new g c = new-same c.args.self.now c.relocate.new.self c.in-Ok.ensures.ok.lists c.in-Ok.ensures.ok.settings (hash-same g.H.BuildHasher g.H.Hasher.Hasher g.E.Key.Hash.hash_input c.args.self.now c.relocate.new.self c.in-Ok.ensures.ok.settings) c.requires.new
+insert_then_relocate-requires-clause-new g c = new-same c.args.self.now c.relocate.new.self c.in-Ok.ensures.ok.lists c.in-Ok.ensures.ok.settings (hash-same g.H.Hashes.hash_of c.args.self.now c.relocate.new.self c.in-Ok.ensures.ok.settings) c.requires.new
 
 pub returns-in-Ok : goal.returns-in-Ok
 returns-in-Ok g c =
@@ -19,9 +19,9 @@ returns-in-Ok g c =
       ok = (if-ok c.insert_then_relocate.result (λ p h. relocated-inserted c.args.bucket c.args.self.now c.relocate.new.self c.in-Ok.ensures.ok c.args.entry c.insert_then_relocate.new.self p h) c.insert_then_relocate.ensures.ok);
       err = (if-err c.insert_then_relocate.result (λ e h. (h.0, record { exact = h.1.exact ∙ entries-same a b r.lists; buckets = h.1.buckets ∙ count-same a b r.lists; settings = h.1.settings ∙ r.settings })) c.insert_then_relocate.ensures.err);
       full = (
-          let same = hash-same g.H.BuildHasher g.H.Hasher.Hasher g.E.Key.Hash.hash_input a b r.settings in
+          let same = hash-same g.H.Hashes.hash_of a b r.settings in
           let k = g.E.Keyed.key_of c.args.entry in
-          let ha = key_hash g.H.BuildHasher g.H.Hasher.Hasher g.E.Key.Hash.hash_input a in
+          let ha = hash_in g.H.Hashes.hash_of a in
           on-err c.insert_then_relocate.result
           (λ no room. no (subst (λ (h : g.row.E-Key.Denot → ℕ). HasRoomBy h g.E.Keyed.key_of b k) (sym same) (room-same g.E.Keyed.key_of ha a b r.lists r.settings k room)))
           c.insert_then_relocate.ensures.full);
@@ -43,7 +43,7 @@ returns-in-Err g c =
       err = (search rules);
       full = (
           let a = c.args.self.now in
-          let ha = key_hash g.H.BuildHasher g.H.Hasher.Hasher g.E.Key.Hash.hash_input a in
+          let ha = hash_in g.H.Hashes.hash_of a in
           let k = g.E.Keyed.key_of c.args.entry in
           let at = c.requires.new.routed ∙ ap (bucket_number (settings_of a).skipped (bucket_count a)) c.requires.new.hashed in
           let long : 32 ≤ length (list_of a c.args.bucket) = omega (arith, c.in-Err.ensures.refused) in

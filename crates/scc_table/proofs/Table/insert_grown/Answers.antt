@@ -1,7 +1,7 @@
 use Rattle.std.proofs.Common.{◌≡◌, ◌==◌, ◌∙◌, ◌<◌, ℕ, inr, length, sym, ap, subst, arith, rules}
 use Rattle.std.specs.List.{count_by}
 use Rattle.std.specs.List.Sorted.{IsPermutation}
-use Rattle.scc_common.specs.Contents.{bucket_count, entries, key_hash, list_of, settings_of, waiting_of}
+use Rattle.scc_common.specs.Contents.{bucket_count, entries, hash_in, list_of, settings_of, waiting_of}
 use Rattle.scc_buckets.specs.Pour.{destined_for}
 use Rattle.scc_common.specs.Routing.{bucket_number}
 use Rattle.scc_buckets.proofs.Resizes.{absent-permuted, regrouped-resizes, rests-inserted}
@@ -17,7 +17,7 @@ insert_and_relocate-requires g c =
     let a = c.args.self.now in
     let b = c.install.new.self in
     let d = c.note.new.self in
-    let hash = λ (e : g.row.E.Denot). key_hash g.H.BuildHasher g.H.Hasher.Hasher g.E.Key.Hash.hash_input a (g.E.Keyed.key_of e) in
+    let hash = λ (e : g.row.E.Denot). hash_in g.H.Hashes.hash_of a (g.E.Keyed.key_of e) in
     let reg = regrouped-same hash c.args.count a b d c.note.ensures.lists c.note.ensures.settings c.install.ensures.lists in
     let n = reg.count in
     let perm = subst (λ es. IsPermutation (entries a) es) (sym (entries-same b d c.note.ensures.lists)) c.install.ensures.same in
@@ -33,15 +33,15 @@ unreachable-requires g c =
     let a = c.args.self.now in
     let b = c.install.new.self in
     let d = c.note.new.self in
-    let hash = λ (e : g.row.E.Denot). key_hash g.H.BuildHasher g.H.Hasher.Hasher g.E.Key.Hash.hash_input a (g.E.Keyed.key_of e) in
+    let hash = λ (e : g.row.E.Denot). hash_in g.H.Hashes.hash_of a (g.E.Keyed.key_of e) in
     let reg = regrouped-same hash c.args.count a b d c.note.ensures.lists c.note.ensures.settings c.install.ensures.lists in
     let i = c.bucket_at-bucket.result in
     let at : i ≡ bucket_number (settings_of a).skipped c.args.count c.args.hash = c.bucket_at-bucket.ensures.value ∙ ap (λ s. bucket_number s.skipped (bucket_count d) c.args.hash) reg.settings ∙ ap (λ n. bucket_number (settings_of a).skipped n c.args.hash) reg.count in
     let k = g.E.Keyed.key_of c.args.entry in
-    let hd = key_hash g.H.BuildHasher g.H.Hasher.Hasher g.E.Key.Hash.hash_input d in
+    let hd = hash_in g.H.Hashes.hash_of d in
     let s = (settings_of d).skipped in
     let n = bucket_count d in
-    let outer = hash-same g.H.BuildHasher g.H.Hasher.Hasher g.E.Key.Hash.hash_input a d reg.settings in
+    let outer = hash-same g.H.Hashes.hash_of a d reg.settings in
     let some : 0 < n = omega (arith, c.requires.some, c.requires.more, reg.count) in
     let l : i < c.args.count = omega (arith, c.bucket_at-bucket.ensures.within some, reg.count) in
     let few : length (list_of d i) < 32 = subst (λ z. length z < 32) (sym (reg.each i l)) (subst (λ m. length (destined_for hash (settings_of a).skipped c.args.count m (entries a)) < 32) (sym at) c.requires.room) in
@@ -56,7 +56,7 @@ returns g c =
     let a = c.args.self.now in
     let b = c.install.new.self in
     let d = c.note.new.self in
-    let hash = λ (e : g.row.E.Denot). key_hash g.H.BuildHasher g.H.Hasher.Hasher g.E.Key.Hash.hash_input a (g.E.Keyed.key_of e) in
+    let hash = λ (e : g.row.E.Denot). hash_in g.H.Hashes.hash_of a (g.E.Keyed.key_of e) in
     let reg = regrouped-same hash c.args.count a b d c.note.ensures.lists c.note.ensures.settings c.install.ensures.lists in
     record {
       ok = (

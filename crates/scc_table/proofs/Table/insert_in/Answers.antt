@@ -1,6 +1,6 @@
 use Rattle.std.proofs.Common.{◌≡◌, ◌∙◌, ◌<◌, ◌≤◌, ℕ, ◌+◌, ◌^◌, true, false, inl, inr, length, map, sym, ap, subst, arith, rules}
 use Rattle.std.specs.List.{IsDistinct}
-use Rattle.scc_common.specs.Contents.{entries, HasRoomBy, bucket_count, owed_of, key_hash, list_of, settings_of, overflow_of}
+use Rattle.scc_common.specs.Contents.{entries, HasRoomBy, bucket_count, owed_of, hash_in, list_of, settings_of, overflow_of}
 use Rattle.scc_buckets.specs.OneList.{HasSameLists, IsPutIn}
 use Rattle.scc_common.specs.Routing.{bucket_number}
 use Rattle.scc_draining.specs.Drainings.{draining_of}
@@ -17,9 +17,9 @@ use Rattle.scc_table.proofs.Table.insert_in.Goals.{then-self-gt0+else-has_no_roo
 pub insert_in-requires : goal.insert_in-requires
 insert_in-requires g c =
     let t = c.self.inside in
-    let hash = λ (e : g.row.E.Denot). key_hash g.H.BuildHasher g.H.Hasher.Hasher g.E.Key.Hash.hash_input t.current (g.E.Keyed.key_of e) in
+    let hash = λ (e : g.row.E.Denot). hash_in g.H.Hashes.hash_of t.current (g.E.Keyed.key_of e) in
     let settings = settings-seen hash t.current t.draining.waiting.items t.draining.array c.args.self.now c.self.view_is in
-    new-own c.self.invariant c.self.view_is (hash-same g.H.BuildHasher g.H.Hasher.Hasher g.E.Key.Hash.hash_input t.current c.args.self.now settings) c.requires.new
+    new-own c.self.invariant c.self.view_is (hash-same g.H.Hashes.hash_of t.current c.args.self.now settings) c.requires.new
 
 pub list_len-listed-requires : goal.list_len-listed-requires
 list_len-listed-requires g c =
@@ -39,11 +39,11 @@ returns-then-has_no_room g c =
           let olds = t.draining.array in
           let i = c.args.bucket in
           let inv = c.self.invariant in
-          let hk = key_hash g.H.BuildHasher g.H.Hasher.Hasher g.E.Key.Hash.hash_input cur in
+          let hk = hash_in g.H.Hashes.hash_of cur in
           let hash = λ (e : g.row.E.Denot). hk (g.E.Keyed.key_of e) in
           let view = c.self.view_is in
           let settings = settings-seen hash cur ws olds c.args.self.now view in
-          let outer = hash-same g.H.BuildHasher g.H.Hasher.Hasher g.E.Key.Hash.hash_input cur c.args.self.now settings in
+          let outer = hash-same g.H.Hashes.hash_of cur c.args.self.now settings in
           let within = within-own c.self.invariant c.self.view_is c.requires.new.within in
           let down = flag-down c.self.invariant _ c.self.view_is c.requires.not_waiting in
           let routed = routed-own c.self.invariant _ c.self.view_is c.requires.new.routed in
@@ -65,16 +65,16 @@ invariant_of-self g c =
     let olds = t.draining.array in
     let i = c.args.bucket in
     let inv = c.self.invariant in
-    let hk = key_hash g.H.BuildHasher g.H.Hasher.Hasher g.E.Key.Hash.hash_input cur in
+    let hk = hash_in g.H.Hashes.hash_of cur in
     let hash = λ (e : g.row.E.Denot). hk (g.E.Keyed.key_of e) in
     let view = c.self.view_is in
     let settings = settings-seen hash cur ws olds c.args.self.now view in
-    let outer = hash-same g.H.BuildHasher g.H.Hasher.Hasher g.E.Key.Hash.hash_input cur c.args.self.now settings in
+    let outer = hash-same g.H.Hashes.hash_of cur c.args.self.now settings in
     let within = within-own c.self.invariant c.self.view_is c.requires.new.within in
     let down = flag-down c.self.invariant _ c.self.view_is c.requires.not_waiting in
     let new = c.insert_in.new.self in
     let after : settings_of new ≡ settings_of cur = by-answer c.insert_in.result c.insert_in.ensures.exact c.insert_in.ensures.stays (λ p put. put.settings) (λ z. z.settings) in
-    let inner = hash-same g.H.BuildHasher g.H.Hasher.Hasher g.E.Key.Hash.hash_input cur new after in
+    let inner = hash-same g.H.Hashes.hash_of cur new after in
     let IsAfter = IsTable g.E.Key.PartialEq.eq g.E.Keyed.key_of hk new (draining_of t.draining) in
     let there : IsAfter = by-answer c.insert_in.result c.insert_in.ensures.exact c.insert_in.ensures.stays
     (λ p put.
@@ -99,16 +99,16 @@ returns g c =
     let olds = t.draining.array in
     let i = c.args.bucket in
     let inv = c.self.invariant in
-    let hk = key_hash g.H.BuildHasher g.H.Hasher.Hasher g.E.Key.Hash.hash_input cur in
+    let hk = hash_in g.H.Hashes.hash_of cur in
     let hash = λ (e : g.row.E.Denot). hk (g.E.Keyed.key_of e) in
     let view = c.self.view_is in
     let settings = settings-seen hash cur ws olds c.args.self.now view in
-    let outer = hash-same g.H.BuildHasher g.H.Hasher.Hasher g.E.Key.Hash.hash_input cur c.args.self.now settings in
+    let outer = hash-same g.H.Hashes.hash_of cur c.args.self.now settings in
     let within = within-own c.self.invariant c.self.view_is c.requires.new.within in
     let down = flag-down c.self.invariant _ c.self.view_is c.requires.not_waiting in
     let new = c.insert_in.new.self in
     let after : settings_of new ≡ settings_of cur = by-answer c.insert_in.result c.insert_in.ensures.exact c.insert_in.ensures.stays (λ p put. put.settings) (λ z. z.settings) in
-    let inner = hash-same g.H.BuildHasher g.H.Hasher.Hasher g.E.Key.Hash.hash_input cur new after in
+    let inner = hash-same g.H.Hashes.hash_of cur new after in
     record {
       exact = (
           if-ok c.insert_in.result

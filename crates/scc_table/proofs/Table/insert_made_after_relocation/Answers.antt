@@ -6,7 +6,7 @@ use Rattle.scc_table.proofs.insertions.CurrentArray.{new-same}
 use Rattle.scc_table.proofs.Table.insert_made_after_relocation.Goals as goal
 
 pub insert_made_then_relocate-requires-clause-new : goal.insert_made_then_relocate-requires-clause-new
-insert_made_then_relocate-requires-clause-new g c = new-same c.args.self.now c.relocate.new.self c.in-Ok.ensures.ok.lists c.in-Ok.ensures.ok.settings (hash-same g.H.BuildHasher g.H.Hasher.Hasher g.E.Key.Hash.hash_input c.args.self.now c.relocate.new.self c.in-Ok.ensures.ok.settings) c.requires.new
+insert_made_then_relocate-requires-clause-new g c = new-same c.args.self.now c.relocate.new.self c.in-Ok.ensures.ok.lists c.in-Ok.ensures.ok.settings (hash-same g.H.Hashes.hash_of c.args.self.now c.relocate.new.self c.in-Ok.ensures.ok.settings) c.requires.new
 
 pub returns-in-Ok : goal.returns-in-Ok
 returns-in-Ok g c =

@@ -1,6 +1,6 @@
 use Rattle.std.proofs.Common.{◌≡◌, ◌∙◌, ◌*◌, ℕ, Bool, true, false, Some, sym, ap, subst, arith, rules}
 use Rattle.std.specs.List.{range_with_len}
-use Rattle.scc_common.specs.Contents.{bucket_count, key_hash, settings_of, waiting_of}
+use Rattle.scc_common.specs.Contents.{bucket_count, hash_in, settings_of, waiting_of}
 use Rattle.scc_common.specs.Routing.{bucket_number}
 use Rattle.scc_table.specs.Relocates.{left_after, AreMovedBeside, AreShortBut}
 use Rattle.scc_table.specs.TwoArrays.{waits_at}
@@ -43,11 +43,11 @@ double_and_relocate-requires-clause-hashed g c =
     let put = c.in-Ok.ensures.exact in
     let l = c.requires.new.within in
     let counted = put-count a i e m p put l in
-    let outer = hash-same g.H.BuildHasher g.H.Hasher.Hasher g.E.Key.Hash.hash_input a m put.settings in
+    let outer = hash-same g.H.Hashes.hash_of a m put.settings in
     λ x got.
     let same : Some x ≡ Some e = sym got ∙ put-here a i e m p put l in
     let here : x ≡ e = cc in
-    c.requires.new.hashed ∙ ap (λ (h : g.row.E-Key.Denot → ℕ). h (g.E.Keyed.key_of e)) (sym outer) ∙ ap (λ z. key_hash g.H.BuildHasher g.H.Hasher.Hasher g.E.Key.Hash.hash_input m (g.E.Keyed.key_of z)) (sym here)
+    c.requires.new.hashed ∙ ap (λ (h : g.row.E-Key.Denot → ℕ). h (g.E.Keyed.key_of e)) (sym outer) ∙ ap (λ z. hash_in g.H.Hashes.hash_of m (g.E.Keyed.key_of z)) (sym here)
 
 pub double_and_relocate-requires-clause-pending : goal.double_and_relocate-requires-clause-pending
 double_and_relocate-requires-clause-pending g c =
@@ -105,8 +105,8 @@ returns-in-Ok g c =
           λ ne. r.most (λ z. ne (z ∙ counted)));
       spread = (
           let counted = put-count a i e m p put l in
-          let hash = λ (x : g.row.E.Denot). key_hash g.H.BuildHasher g.H.Hasher.Hasher g.E.Key.Hash.hash_input a (g.E.Keyed.key_of x) in
-          let same = hash-same g.H.BuildHasher g.H.Hasher.Hasher g.E.Key.Hash.hash_input a m put.settings in
+          let hash = λ (x : g.row.E.Denot). hash_in g.H.Hashes.hash_of a (g.E.Keyed.key_of x) in
+          let same = hash-same g.H.Hashes.hash_of a m put.settings in
           λ ne short.
           let few : AreShortBut hash (bucket_count d) q.bucket m = around-short a i e m p put l hash (bucket_count d) q.bucket (at ∙ ap (bucket_number (settings_of a).skipped (bucket_count d)) c.requires.new.hashed) short in
           r.spread (λ z. ne (z ∙ counted)) (subst (λ (h : g.row.E-Key.Denot → ℕ). AreShortBut (λ x. h (g.E.Keyed.key_of x)) (bucket_count d) q.bucket m) (sym same) few) ∙ ap (λ z. left_after z (range_with_len 0 (bucket_count d))) at);

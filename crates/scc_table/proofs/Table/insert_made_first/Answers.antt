@@ -1,6 +1,6 @@
 use Rattle.std.proofs.Common.{◌≡◌, ◌∙◌, ℕ, None, List, map, sym, ap, subst, arith}
 use Rattle.std.specs.List.{position, IsDistinct}
-use Rattle.scc_common.specs.Contents.{bucket_count, key_hash, settings_of}
+use Rattle.scc_common.specs.Contents.{bucket_count, hash_in, settings_of}
 use Rattle.scc_draining.specs.Drainings.{draining_of}
 use Rattle.scc_table.specs.TwoArrays.{IsTable, together}
 use Rattle.scc_table.proofs.arrays.OneArray.{entries-alone, lists-alone}
@@ -19,17 +19,17 @@ insert_made_first-requires-clause-hashed g c =
     let ws = t.draining.waiting.items in
     let olds = t.draining.array in
     let a = c.args.self.now in
-    let hk = key_hash g.H.BuildHasher g.H.Hasher.Hasher g.E.Key.Hash.hash_input cur in
+    let hk = hash_in g.H.Hashes.hash_of cur in
     let hash = λ (e : g.row.E.Denot). hk (g.E.Keyed.key_of e) in
     let view = c.self.view_is in
-    let outer = hash-same g.H.BuildHasher g.H.Hasher.Hasher g.E.Key.Hash.hash_input cur a (settings-seen hash cur ws olds a view) in
+    let outer = hash-same g.H.Hashes.hash_of cur a (settings-seen hash cur ws olds a view) in
     c.requires.hashed ∙ ap (λ (h : g.row.E-Key.Denot → ℕ). h (g.E.Keyed.key_of (g.E.Made.made_of c.args.parts))) outer
 
 pub insert_made_first-requires-clause-none : goal.insert_made_first-requires-clause-none
 insert_made_first-requires-clause-none g c =
     let t = c.self.inside in
     let cur = t.current in
-    let hash = λ (e : g.row.E.Denot). key_hash g.H.BuildHasher g.H.Hasher.Hasher g.E.Key.Hash.hash_input cur (g.E.Keyed.key_of e) in
+    let hash = λ (e : g.row.E.Denot). hash_in g.H.Hashes.hash_of cur (g.E.Keyed.key_of e) in
     sym (count-seen hash cur t.draining.waiting.items t.draining.array c.args.self.now c.self.view_is c.self.invariant.arrays.flags) ∙ c.requires.none
 
 pub insert_made_first-requires-clause-absent : goal.insert_made_first-requires-clause-absent
@@ -40,7 +40,7 @@ insert_made_first-requires-clause-absent g c =
     let olds = t.draining.array in
     let a = c.args.self.now in
     let inv = c.self.invariant in
-    let hk = key_hash g.H.BuildHasher g.H.Hasher.Hasher g.E.Key.Hash.hash_input cur in
+    let hk = hash_in g.H.Hashes.hash_of cur in
     let hash = λ (e : g.row.E.Denot). hk (g.E.Keyed.key_of e) in
     let view = c.self.view_is in
     let count = count-seen hash cur ws olds a view inv.arrays.flags in
@@ -57,13 +57,13 @@ invariant_of-self g c =
     let a = c.args.self.now in
     let new = c.insert_made_first.new.self in
     let inv = c.self.invariant in
-    let hk = key_hash g.H.BuildHasher g.H.Hasher.Hasher g.E.Key.Hash.hash_input cur in
+    let hk = hash_in g.H.Hashes.hash_of cur in
     let hash = λ (e : g.row.E.Denot). hk (g.E.Keyed.key_of e) in
     let view = c.self.view_is in
     let count = count-seen hash cur ws olds a view inv.arrays.flags in
     let none = no-flags ws (bucket_count cur) inv.arrays.flags (sym count ∙ c.requires.none) in
     let kept : settings_of new ≡ settings_of cur = either-answer c.insert_made_first.result c.insert_made_first.ensures.ok c.insert_made_first.ensures.err (λ p i. i.holds.settings) (λ p u. u.1.settings) in
-    let same = hash-same g.H.BuildHasher g.H.Hasher.Hasher g.E.Key.Hash.hash_input cur new kept in
+    let same = hash-same g.H.Hashes.hash_of cur new kept in
     subst (λ (h : g.row.E-Key.Denot → ℕ). IsTable g.E.Key.PartialEq.eq g.E.Keyed.key_of h new (record (draining_of t.draining) { left_overflow = 0 })) (sym same)
     (fields-lone g.E.Key.PartialEq.eq g.E.Keyed.key_of hk cur new (draining_of t.draining) inv none kept (omega (arith, c.insert_made_first.ensures.few)) c.insert_made_first.ensures.unique)
 
@@ -76,12 +76,12 @@ returns g c =
     let a = c.args.self.now in
     let new = c.insert_made_first.new.self in
     let inv = c.self.invariant in
-    let hk = key_hash g.H.BuildHasher g.H.Hasher.Hasher g.E.Key.Hash.hash_input cur in
+    let hk = hash_in g.H.Hashes.hash_of cur in
     let hash = λ (e : g.row.E.Denot). hk (g.E.Keyed.key_of e) in
     let view = c.self.view_is in
     let count = count-seen hash cur ws olds a view inv.arrays.flags in
     let none = no-flags ws (bucket_count cur) inv.arrays.flags (sym count ∙ c.requires.none) in
-    let later = λ (e : g.row.E.Denot). key_hash g.H.BuildHasher g.H.Hasher.Hasher g.E.Key.Hash.hash_input new (g.E.Keyed.key_of e) in
+    let later = λ (e : g.row.E.Denot). hash_in g.H.Hashes.hash_of new (g.E.Keyed.key_of e) in
     let d = together later new ws olds in
     let before = lists-seen hash cur ws olds a view none in
     let had = settings-seen hash cur ws olds a view in

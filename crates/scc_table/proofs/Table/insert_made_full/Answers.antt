@@ -1,7 +1,7 @@
 use Rattle.std.proofs.Common.{◌≡◌, ◌∙◌, ◌*◌, Bool, true, false, ap, sym, subst, arith, rules}
 use Rattle.std.specs.List.{range_with_len}
 use Rattle.std.proofs.lemmas.Bool.{true≢false}
-use Rattle.scc_common.specs.Contents.{bucket_count, key_hash, settings_of}
+use Rattle.scc_common.specs.Contents.{bucket_count, hash_in, settings_of}
 use Rattle.scc_common.specs.Routing.{bucket_number}
 use Rattle.scc_buckets.proofs.Powers.{double-array}
 use Rattle.scc_table.specs.Relocates.{left_after, AreMovedBeside, AreShortAmong}
@@ -80,7 +80,7 @@ returns-else-is_full_once_doubled g c =
           let a = c.args.self.now in
           let f = c.insert_made_grown.new.self in
           let n = 2 * c.bucket_count-count.result in
-          let hash = λ (e : g.row.E.Denot). key_hash g.H.BuildHasher g.H.Hasher.Hasher g.E.Key.Hash.hash_input a (g.E.Keyed.key_of e) in
+          let hash = λ (e : g.row.E.Denot). hash_in g.H.Hashes.hash_of a (g.E.Keyed.key_of e) in
           let s = (settings_of a).skipped in
           on-both c.insert_made_grown.result
           (λ (e : bucket_count f ≡ n) (h : AreShortAmong hash n a → pending_targets f ≡ left_after (bucket_number s n c.args.hash) (range_with_len 0 n)) ne short.

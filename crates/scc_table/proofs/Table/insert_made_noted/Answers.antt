@@ -7,7 +7,7 @@ use Rattle.scc_table.proofs.insertions.CurrentArray.{new-same}
 use Rattle.scc_table.proofs.Table.insert_made_noted.Goals as goal
 
 pub insert_made_and_relocate-requires : goal.insert_made_and_relocate-requires
-insert_made_and_relocate-requires g c = new-same c.args.self.now c.note.new.self c.note.ensures.lists c.note.ensures.settings (hash-same g.H.BuildHasher g.H.Hasher.Hasher g.E.Key.Hash.hash_input c.args.self.now c.note.new.self c.note.ensures.settings) c.requires
+insert_made_and_relocate-requires g c = new-same c.args.self.now c.note.new.self c.note.ensures.lists c.note.ensures.settings (hash-same g.H.Hashes.hash_of c.args.self.now c.note.new.self c.note.ensures.settings) c.requires
 
 pub returns : goal.returns
 returns g c =

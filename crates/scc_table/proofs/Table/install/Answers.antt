@@ -1,9 +1,8 @@
-use Rattle.scc_common.specs.Hashing.{hash_of}
 use Rattle.std.proofs.Common.{◌≡◌, ◌∙◌, ◌+◌, ℕ, List, length, replicate, true, inr, sym, ap, subst, arith}
 use Rattle.std.proofs.lemmas.List.{length-replicate}
 use Rattle.std.specs.List.{count_by}
 use Rattle.scc_array.specs.Shelf.{Shelf, empty_shelf}
-use Rattle.scc_common.specs.Contents.{Settings, key_hash, overflow_of}
+use Rattle.scc_common.specs.Contents.{Settings, hash_in, overflow_of}
 use Rattle.scc_buckets.specs.Pour.{IsRegrouped}
 use Rattle.scc_common.specs.Sizes.{IsBucketCount, IsLawful}
 use Rattle.scc_buckets.specs.Tables.{overflow_in}
@@ -43,14 +42,14 @@ pub invariant_of-self : goal.invariant_of-self
 invariant_of-self g c =
     let r = c.requires in
     let e = c.install-old.ensures in
-    let x = exchanged g.met.E.Key.Eq.laws (λ (s : Settings g.row.H.Denot) (k : g.row.E-Key.Denot). hash_of g.H.BuildHasher g.H.Hasher.Hasher s.hasher (g.E.Key.Hash.hash_input k)) c.self.invariant c.self.view_is r.not_waiting r.empty r.array r.some r.other e.lists e.settings e.spilled e.were e.table in
+    let x = exchanged g.met.E.Key.Eq.laws (λ (s : Settings g.row.H.Denot) (k : g.row.E-Key.Denot). g.H.Hashes.hash_of s.hasher k) c.self.invariant c.self.view_is r.not_waiting r.empty r.array r.some r.other e.lists e.settings e.spilled e.were e.table in
     rw (c.replace-bare.ensures.after, r.flags) (begun x)
 
 pub returns : goal.returns
 returns g c =
     let r = c.requires in
     let e = c.install-old.ensures in
-    let x = exchanged g.met.E.Key.Eq.laws (λ (s : Settings g.row.H.Denot) (k : g.row.E-Key.Denot). hash_of g.H.BuildHasher g.H.Hasher.Hasher s.hasher (g.E.Key.Hash.hash_input k)) c.self.invariant c.self.view_is r.not_waiting r.empty r.array r.some r.other e.lists e.settings e.spilled e.were e.table in
+    let x = exchanged g.met.E.Key.Eq.laws (λ (s : Settings g.row.H.Denot) (k : g.row.E-Key.Denot). g.H.Hashes.hash_of s.hasher k) c.self.invariant c.self.view_is r.not_waiting r.empty r.array r.some r.other e.lists e.settings e.spilled e.were e.table in
     let t = c.self.inside in
     let cur = t.current in
     let a = c.args.self.now in
@@ -59,19 +58,19 @@ returns g c =
     let key = g.E.Keyed.key_of in
     record {
       lists = (
-          let outer = hash-same g.H.BuildHasher g.H.Hasher.Hasher g.E.Key.Hash.hash_input d a (settings-seen _ _ _ _ a c.self.view_is ∙ sym e.settings) in
+          let outer = hash-same g.H.Hashes.hash_of d a (settings-seen _ _ _ _ a c.self.view_is ∙ sym e.settings) in
           rw (c.replace-bare.ensures.after, r.flags)
-          (subst (λ (h : g.row.E-Key.Denot → ℕ). IsRegrouped (λ z. h (key z)) c.args.count a (together (λ z. key_hash g.H.BuildHasher g.H.Hasher.Hasher g.E.Key.Hash.hash_input d (key z)) d (replicate c.args.count true) olds)) (sym outer) (begun-lists x)));
+          (subst (λ (h : g.row.E-Key.Denot → ℕ). IsRegrouped (λ z. h (key z)) c.args.count a (together (λ z. hash_in g.H.Hashes.hash_of d (key z)) d (replicate c.args.count true) olds)) (sym outer) (begun-lists x)));
       same = (rw (c.replace-bare.ensures.after, r.flags) (begun-same x));
       waiting = (waiting-together _ c.install-old.new.self c.args.flags.items c.replace-bare.new.dest ∙ c.requires.flags);
       pending = (pending-together _ c.install-old.new.self c.args.flags.items c.replace-bare.new.dest ∙ ap (count_by (λ w. w)) c.requires.flags ∙ count-up c.args.count);
       noted = (refused-together _ c.install-old.new.self c.args.flags.items c.replace-bare.new.dest ∙ c.install-old.ensures.noted ∙ sym (refused-seen _ t.current t.draining.waiting.items t.draining.array c.args.self.now c.self.view_is));
       bounded = (
-          let was = spilled-seen (λ (e : g.row.E.Denot). key_hash g.H.BuildHasher g.H.Hasher.Hasher g.E.Key.Hash.hash_input cur (g.E.Keyed.key_of e)) cur t.draining.waiting.items t.draining.array c.args.self.now c.self.view_is in
+          let was = spilled-seen (λ (e : g.row.E.Denot). hash_in g.H.Hashes.hash_of cur (g.E.Keyed.key_of e)) cur t.draining.waiting.items t.draining.array c.args.self.now c.self.view_is in
           let nothing : overflow_of d ≡ 0 = c.install-old.ensures.spilled in
           let over : overflow_in olds ≡ overflow_of cur = sym c.install-old.ensures.table.spilled ∙ c.install-old.ensures.overflowing in
           let now : overflow_in c.replace-bare.new.dest ≡ overflow_in olds = ap (λ (z : List (Shelf g.row.E.Denot)). overflow_in z) c.replace-bare.ensures.after in
           λ none.
           let zero : overflow_of d + overflow_in c.replace-bare.new.dest ≡ 0 = omega (arith, was, nothing, over, now, none) in
-          spilled-together (λ e. key_hash g.H.BuildHasher g.H.Hasher.Hasher g.E.Key.Hash.hash_input d (g.E.Keyed.key_of e)) d c.args.flags.items c.replace-bare.new.dest ∙ zero);
+          spilled-together (λ e. hash_in g.H.Hashes.hash_of d (g.E.Keyed.key_of e)) d c.args.flags.items c.replace-bare.new.dest ∙ zero);
     }

@@ -1,6 +1,6 @@
 use Rattle.std.specs.List.{IsDistinct}
 use Rattle.std.proofs.Common.{◌≡◌, ◌∙◌, ◌+◌, ◌*◌, ℕ, List, map, inl, sym, ap, subst, arith, rules}
-use Rattle.scc_common.specs.Contents.{bucket_count, entries, key_hash, minimum_of, overflow_of, notes_of}
+use Rattle.scc_common.specs.Contents.{bucket_count, entries, hash_in, minimum_of, overflow_of, notes_of}
 use Rattle.scc_common.specs.Sizes.{IsBucketCount, IsArraySize}
 use Rattle.scc_buckets.specs.Tables.{overflow_in}
 use Rattle.scc_draining.specs.Drainings.{draining_of}
@@ -28,12 +28,12 @@ invariant_of-self-2 g c =
     let a = c.args.self.now in
     let new = c.install_first.new.self in
     let inv = c.self.invariant in
-    let hk = key_hash g.H.BuildHasher g.H.Hasher.Hasher g.E.Key.Hash.hash_input cur in
+    let hk = hash_in g.H.Hashes.hash_of cur in
     let hash = λ (e : g.row.E.Denot). hk (g.E.Keyed.key_of e) in
     let view = c.self.view_is in
     let count = count-seen hash cur ws olds a view inv.arrays.flags in
     let none = no-flags ws (bucket_count cur) inv.arrays.flags (sym count ∙ c.requires) in
-    let same = hash-same g.H.BuildHasher g.H.Hasher.Hasher g.E.Key.Hash.hash_input cur new c.install_first.ensures.settings in
+    let same = hash-same g.H.Hashes.hash_of cur new c.install_first.ensures.settings in
     subst (λ (h : g.row.E-Key.Denot → ℕ). IsTable g.E.Key.PartialEq.eq g.E.Keyed.key_of h new (draining_of t.draining)) (sym same)
     (fields-first g.E.Key.PartialEq.eq g.E.Keyed.key_of hk cur new (draining_of t.draining) inv none c.install_first.ensures.settings c.install_first.ensures.still c.in_ok-install_first.ensures.resized.bounded)
 
@@ -46,12 +46,12 @@ returns g c =
     let a = c.args.self.now in
     let new = c.install_first.new.self in
     let inv = c.self.invariant in
-    let hk = key_hash g.H.BuildHasher g.H.Hasher.Hasher g.E.Key.Hash.hash_input cur in
+    let hk = hash_in g.H.Hashes.hash_of cur in
     let hash = λ (e : g.row.E.Denot). hk (g.E.Keyed.key_of e) in
     let view = c.self.view_is in
     let count = count-seen hash cur ws olds a view inv.arrays.flags in
     let none = no-flags ws (bucket_count cur) inv.arrays.flags (sym count ∙ c.requires) in
-    let later = λ (e : g.row.E.Denot). key_hash g.H.BuildHasher g.H.Hasher.Hasher g.E.Key.Hash.hash_input new (g.E.Keyed.key_of e) in
+    let later = λ (e : g.row.E.Denot). hash_in g.H.Hashes.hash_of new (g.E.Keyed.key_of e) in
     let d = together later new ws olds in
     let still = entries-alone later new ws olds none ∙ c.install_first.ensures.still in
     let bare = ap entries (sym view) ∙ entries-alone hash cur ws olds none ∙ c.install_first.ensures.entries in
@@ -92,24 +92,24 @@ returns-in_err-install_first g c =
     let a = c.args.self.now in
     let new = c.install_first.new.self in
     let inv = c.self.invariant in
-    let hk = key_hash g.H.BuildHasher g.H.Hasher.Hasher g.E.Key.Hash.hash_input cur in
+    let hk = hash_in g.H.Hashes.hash_of cur in
     let hash = λ (e : g.row.E.Denot). hk (g.E.Keyed.key_of e) in
     let view = c.self.view_is in
     let count = count-seen hash cur ws olds a view inv.arrays.flags in
     let none = no-flags ws (bucket_count cur) inv.arrays.flags (sym count ∙ c.requires) in
-    let later = λ (e : g.row.E.Denot). key_hash g.H.BuildHasher g.H.Hasher.Hasher g.E.Key.Hash.hash_input new (g.E.Keyed.key_of e) in
+    let later = λ (e : g.row.E.Denot). hash_in g.H.Hashes.hash_of new (g.E.Keyed.key_of e) in
     let still = entries-alone later new ws olds none ∙ c.install_first.ensures.still in
     record {
       rests = (
-          let d = together (λ e. key_hash g.H.BuildHasher g.H.Hasher.Hasher g.E.Key.Hash.hash_input c.install_first.new.self (g.E.Keyed.key_of e)) c.install_first.new.self t.draining.waiting.items t.draining.array in
+          let d = together (λ e. hash_in g.H.Hashes.hash_of c.install_first.new.self (g.E.Keyed.key_of e)) c.install_first.new.self t.draining.waiting.items t.draining.array in
           let same : d ≡ c.args.self.now = rw c.in_err-install_first.ensures.same c.self.view_is in
           inl (same-rests c.args.self.now d same).0);
       growth = (
-          let d = together (λ e. key_hash g.H.BuildHasher g.H.Hasher.Hasher g.E.Key.Hash.hash_input c.install_first.new.self (g.E.Keyed.key_of e)) c.install_first.new.self t.draining.waiting.items t.draining.array in
+          let d = together (λ e. hash_in g.H.Hashes.hash_of c.install_first.new.self (g.E.Keyed.key_of e)) c.install_first.new.self t.draining.waiting.items t.draining.array in
           let same : d ≡ c.args.self.now = rw c.in_err-install_first.ensures.same c.self.view_is in
           (same-rests c.args.self.now d same).1);
       noted = (
-          let d = together (λ e. key_hash g.H.BuildHasher g.H.Hasher.Hasher g.E.Key.Hash.hash_input c.install_first.new.self (g.E.Keyed.key_of e)) c.install_first.new.self t.draining.waiting.items t.draining.array in
+          let d = together (λ e. hash_in g.H.Hashes.hash_of c.install_first.new.self (g.E.Keyed.key_of e)) c.install_first.new.self t.draining.waiting.items t.draining.array in
           let same : d ≡ c.args.self.now = rw c.in_err-install_first.ensures.same c.self.view_is in
           ap notes_of same);
       first = (search rules);
@@ -121,12 +121,12 @@ returns-in_err-install_first g c =
           let d = together later new ws olds in
           waiting-together later new ws olds ∙ none);
       refused = (
-          let d = together (λ e. key_hash g.H.BuildHasher g.H.Hasher.Hasher g.E.Key.Hash.hash_input c.install_first.new.self (g.E.Keyed.key_of e)) c.install_first.new.self t.draining.waiting.items t.draining.array in
+          let d = together (λ e. hash_in g.H.Hashes.hash_of c.install_first.new.self (g.E.Keyed.key_of e)) c.install_first.new.self t.draining.waiting.items t.draining.array in
           let same : d ≡ c.args.self.now = rw c.in_err-install_first.ensures.same c.self.view_is in
           any-err c.from_residual.result (same-rests c.args.self.now d same).0);
       resized = (search rules);
       same = (
-          let d = together (λ e. key_hash g.H.BuildHasher g.H.Hasher.Hasher g.E.Key.Hash.hash_input c.install_first.new.self (g.E.Keyed.key_of e)) c.install_first.new.self t.draining.waiting.items t.draining.array in
+          let d = together (λ e. hash_in g.H.Hashes.hash_of c.install_first.new.self (g.E.Keyed.key_of e)) c.install_first.new.self t.draining.waiting.items t.draining.array in
           let same : d ≡ c.args.self.now = rw c.in_err-install_first.ensures.same c.self.view_is in
           any-err c.from_residual.result same);
       unique = (

@@ -1,9 +1,8 @@
-use Rattle.scc_common.specs.Hashing.{hash_of}
 use Rattle.std.proofs.Common.{◌≡◌, ◌∙◌, ℕ, ◌-◌, Bool, List, length, get_or, map, set, replicate, true, false, sym, ap, subst, arith, rules}
 use Rattle.std.proofs.lemmas.List.{get_or-replicate, length-replicate}
 use Rattle.std.specs.List.Sorted.{IsPermutation}
 use Rattle.scc_array.specs.Shelf.{empty_shelf, shelf_entries}
-use Rattle.scc_common.specs.Contents.{Settings, entries, owed_of, key_hash, lists_of, notes_of, settings_of, waiting_of}
+use Rattle.scc_common.specs.Contents.{Settings, entries, owed_of, hash_in, lists_of, notes_of, settings_of, waiting_of}
 use Rattle.scc_buckets.specs.Pour.{IsRegrouped}
 use Rattle.scc_buckets.specs.Tables.{IsBuckets}
 use Rattle.scc_buckets.proofs.Fresh.{empty-replicate}
@@ -29,7 +28,7 @@ pub move_target-requires-clause-target : goal.move_target-requires-clause-target
 move_target-requires-clause-target g c =
     let r = c.requires in
     let e = c.install-old.ensures in
-    let x = exchanged g.met.E.Key.Eq.laws (λ (s : Settings g.row.H.Denot) (k : g.row.E-Key.Denot). hash_of g.H.BuildHasher g.H.Hasher.Hasher s.hasher (g.E.Key.Hash.hash_input k)) c.self.invariant c.self.view_is r.not_waiting r.empty r.array r.some r.other e.lists e.settings e.spilled e.were e.table in
+    let x = exchanged g.met.E.Key.Eq.laws (λ (s : Settings g.row.H.Denot) (k : g.row.E-Key.Denot). g.H.Hashes.hash_of s.hasher k) c.self.invariant c.self.view_is r.not_waiting r.empty r.array r.some r.other e.lists e.settings e.spilled e.were e.table in
     let m = begun-count x in
     omega (arith, r.within, m)
 
@@ -37,28 +36,28 @@ pub move_target-requires-clause-bare : goal.move_target-requires-clause-bare
 move_target-requires-clause-bare g c =
     let r = c.requires in
     let e = c.install-old.ensures in
-    let x = exchanged g.met.E.Key.Eq.laws (λ (s : Settings g.row.H.Denot) (k : g.row.E-Key.Denot). hash_of g.H.BuildHasher g.H.Hasher.Hasher s.hasher (g.E.Key.Hash.hash_input k)) c.self.invariant c.self.view_is r.not_waiting r.empty r.array r.some r.other e.lists e.settings e.spilled e.were e.table in
+    let x = exchanged g.met.E.Key.Eq.laws (λ (s : Settings g.row.H.Denot) (k : g.row.E-Key.Denot). g.H.Hashes.hash_of s.hasher k) c.self.invariant c.self.view_is r.not_waiting r.empty r.array r.some r.other e.lists e.settings e.spilled e.were e.table in
     (begun x).arrays.bare c.args.bucket (begun-up x r.within)
 
 pub move_target-requires-clause-sized : goal.move_target-requires-clause-sized
 move_target-requires-clause-sized g c =
     let r = c.requires in
     let e = c.install-old.ensures in
-    let x = exchanged g.met.E.Key.Eq.laws (λ (s : Settings g.row.H.Denot) (k : g.row.E-Key.Denot). hash_of g.H.BuildHasher g.H.Hasher.Hasher s.hasher (g.E.Key.Hash.hash_input k)) c.self.invariant c.self.view_is r.not_waiting r.empty r.array r.some r.other e.lists e.settings e.spilled e.were e.table in
+    let x = exchanged g.met.E.Key.Eq.laws (λ (s : Settings g.row.H.Denot) (k : g.row.E-Key.Denot). g.H.Hashes.hash_of s.hasher k) c.self.invariant c.self.view_is r.not_waiting r.empty r.array r.some r.other e.lists e.settings e.spilled e.were e.table in
     old-sized (begun x) _ (begun-up x r.within)
 
 pub move_target-requires-clause-multiples : goal.move_target-requires-clause-multiples
 move_target-requires-clause-multiples g c =
     let r = c.requires in
     let e = c.install-old.ensures in
-    let x = exchanged g.met.E.Key.Eq.laws (λ (s : Settings g.row.H.Denot) (k : g.row.E-Key.Denot). hash_of g.H.BuildHasher g.H.Hasher.Hasher s.hasher (g.E.Key.Hash.hash_input k)) c.self.invariant c.self.view_is r.not_waiting r.empty r.array r.some r.other e.lists e.settings e.spilled e.were e.table in
+    let x = exchanged g.met.E.Key.Eq.laws (λ (s : Settings g.row.H.Denot) (k : g.row.E-Key.Denot). g.H.Hashes.hash_of s.hasher k) c.self.invariant c.self.view_is r.not_waiting r.empty r.array r.some r.other e.lists e.settings e.spilled e.were e.table in
     old-multiples (begun x) _ (begun-up x r.within)
 
 pub move_target-requires-clause-own : goal.move_target-requires-clause-own
 move_target-requires-clause-own g c =
     let r = c.requires in
     let e = c.install-old.ensures in
-    let x = exchanged g.met.E.Key.Eq.laws (λ (s : Settings g.row.H.Denot) (k : g.row.E-Key.Denot). hash_of g.H.BuildHasher g.H.Hasher.Hasher s.hasher (g.E.Key.Hash.hash_input k)) c.self.invariant c.self.view_is r.not_waiting r.empty r.array r.some r.other e.lists e.settings e.spilled e.were e.table in
+    let x = exchanged g.met.E.Key.Eq.laws (λ (s : Settings g.row.H.Denot) (k : g.row.E-Key.Denot). g.H.Hashes.hash_of s.hasher k) c.self.invariant c.self.view_is r.not_waiting r.empty r.array r.some r.other e.lists e.settings e.spilled e.were e.table in
     let s = begun x in
     s.arrays.own
 
@@ -66,7 +65,7 @@ pub move_target-requires-clause-unique : goal.move_target-requires-clause-unique
 move_target-requires-clause-unique g c =
     let r = c.requires in
     let e = c.install-old.ensures in
-    let x = exchanged g.met.E.Key.Eq.laws (λ (s : Settings g.row.H.Denot) (k : g.row.E-Key.Denot). hash_of g.H.BuildHasher g.H.Hasher.Hasher s.hasher (g.E.Key.Hash.hash_input k)) c.self.invariant c.self.view_is r.not_waiting r.empty r.array r.some r.other e.lists e.settings e.spilled e.were e.table in
+    let x = exchanged g.met.E.Key.Eq.laws (λ (s : Settings g.row.H.Denot) (k : g.row.E-Key.Denot). g.H.Hashes.hash_of s.hasher k) c.self.invariant c.self.view_is r.not_waiting r.empty r.array r.some r.other e.lists e.settings e.spilled e.were e.table in
     unique-coming (begun x) _ (begun-up x r.within)
 
 pub destroy_empty-requires : goal.destroy_empty-requires
@@ -81,7 +80,7 @@ pub overflow_sub-self-in-Ok : goal.overflow_sub-self-in-Ok
 overflow_sub-self-in-Ok g c =
     let r = c.requires in
     let e = c.install-old.ensures in
-    let x = exchanged g.met.E.Key.Eq.laws (λ (s : Settings g.row.H.Denot) (k : g.row.E-Key.Denot). hash_of g.H.BuildHasher g.H.Hasher.Hasher s.hasher (g.E.Key.Hash.hash_input k)) c.self.invariant c.self.view_is r.not_waiting r.empty r.array r.some r.other e.lists e.settings e.spilled e.were e.table in
+    let x = exchanged g.met.E.Key.Eq.laws (λ (s : Settings g.row.H.Denot) (k : g.row.E-Key.Denot). g.H.Hashes.hash_of s.hasher k) c.self.invariant c.self.view_is r.not_waiting r.empty r.array r.some r.other e.lists e.settings e.spilled e.were e.table in
     let down : set c.args.flags.items c.args.bucket false ≡ set (replicate c.args.count true) c.args.bucket false = ap (λ w. set w c.args.bucket false) r.flags in
     taken-less x r.within c.in-Ok.ensures.ok down
 
@@ -89,9 +88,9 @@ pub invariant_of-self : goal.invariant_of-self
 invariant_of-self g c =
     let r = c.requires in
     let e = c.install-old.ensures in
-    let x = exchanged g.met.E.Key.Eq.laws (λ (s : Settings g.row.H.Denot) (k : g.row.E-Key.Denot). hash_of g.H.BuildHasher g.H.Hasher.Hasher s.hasher (g.E.Key.Hash.hash_input k)) c.self.invariant c.self.view_is r.not_waiting r.empty r.array r.some r.other e.lists e.settings e.spilled e.were e.table in
+    let x = exchanged g.met.E.Key.Eq.laws (λ (s : Settings g.row.H.Denot) (k : g.row.E-Key.Denot). g.H.Hashes.hash_of s.hasher k) c.self.invariant c.self.view_is r.not_waiting r.empty r.array r.some r.other e.lists e.settings e.spilled e.were e.table in
     let takes = c.in-Ok.ensures.ok in
-    let later = hash-same g.H.BuildHasher g.H.Hasher.Hasher g.E.Key.Hash.hash_input c.install-old.new.self c.move_target.new.current takes.settings in
+    let later = hash-same g.H.Hashes.hash_of c.install-old.new.self c.move_target.new.current takes.settings in
     let down : set c.args.flags.items c.args.bucket false ≡ set (replicate c.args.count true) c.args.bucket false = ap (λ w. set w c.args.bucket false) r.flags in
     rw c.replace-bare.ensures.after (subst (λ (h : g.row.E-Key.Denot → ℕ). IsTable g.E.Key.PartialEq.eq g.E.Keyed.key_of h c.move_target.new.current (record { array = c.move_target.new.old; waiting = set c.args.flags.items c.args.bucket false; pending = c.args.count - 1; next = 0; left = c.install-old.result.1 - c.in-Ok.moved; left_overflow = c.install-old.result.2 })) (sym later) (taken-fields x r.within takes down c.in-Ok.ensures.few))
 
@@ -99,9 +98,9 @@ pub returns-in-Ok : goal.returns-in-Ok
 returns-in-Ok g c =
     let r = c.requires in
     let e = c.install-old.ensures in
-    let x = exchanged g.met.E.Key.Eq.laws (λ (s : Settings g.row.H.Denot) (k : g.row.E-Key.Denot). hash_of g.H.BuildHasher g.H.Hasher.Hasher s.hasher (g.E.Key.Hash.hash_input k)) c.self.invariant c.self.view_is r.not_waiting r.empty r.array r.some r.other e.lists e.settings e.spilled e.were e.table in
+    let x = exchanged g.met.E.Key.Eq.laws (λ (s : Settings g.row.H.Denot) (k : g.row.E-Key.Denot). g.H.Hashes.hash_of s.hasher k) c.self.invariant c.self.view_is r.not_waiting r.empty r.array r.some r.other e.lists e.settings e.spilled e.were e.table in
     let takes = c.in-Ok.ensures.ok in
-    let later = hash-same g.H.BuildHasher g.H.Hasher.Hasher g.E.Key.Hash.hash_input c.install-old.new.self c.move_target.new.current takes.settings in
+    let later = hash-same g.H.Hashes.hash_of c.install-old.new.self c.move_target.new.current takes.settings in
     let down : set c.args.flags.items c.args.bucket false ≡ set (replicate c.args.count true) c.args.bucket false = ap (λ w. set w c.args.bucket false) r.flags in
     let a = c.args.self.now in
     let n = c.args.count in
@@ -111,9 +110,9 @@ returns-in-Ok g c =
     let vs = set c.args.flags.items c.args.bucket false in
     record {
       lists = (
-          let outer = hash-same g.H.BuildHasher g.H.Hasher.Hasher g.E.Key.Hash.hash_input c.install-old.new.self a (settings-seen _ _ _ _ a c.self.view_is ∙ sym e.settings) in
-          let there = subst (λ (h : g.row.E-Key.Denot → ℕ). IsRegrouped (λ z. key_hash g.H.BuildHasher g.H.Hasher.Hasher g.E.Key.Hash.hash_input c.install-old.new.self (key z)) n a (together (λ z. h (key z)) d vs news)) (sym later) (taken-lists x r.within takes down) in
-          rw c.replace-bare.ensures.after (subst (λ (h : g.row.E-Key.Denot → ℕ). IsRegrouped (λ z. h (key z)) n a (together (λ z. key_hash g.H.BuildHasher g.H.Hasher.Hasher g.E.Key.Hash.hash_input d (key z)) d vs news)) (sym outer) there));
+          let outer = hash-same g.H.Hashes.hash_of c.install-old.new.self a (settings-seen _ _ _ _ a c.self.view_is ∙ sym e.settings) in
+          let there = subst (λ (h : g.row.E-Key.Denot → ℕ). IsRegrouped (λ z. hash_in g.H.Hashes.hash_of c.install-old.new.self (key z)) n a (together (λ z. h (key z)) d vs news)) (sym later) (taken-lists x r.within takes down) in
+          rw c.replace-bare.ensures.after (subst (λ (h : g.row.E-Key.Denot → ℕ). IsRegrouped (λ z. h (key z)) n a (together (λ z. hash_in g.H.Hashes.hash_of d (key z)) d vs news)) (sym outer) there));
       same = (rw c.replace-bare.ensures.after (subst (λ (h : g.row.E-Key.Denot → ℕ). IsPermutation (entries a) (entries (together (λ z. h (key z)) d vs news))) (sym later) (taken-same x r.within takes down)));
       waiting = (waiting-together _ d vs c.replace-bare.new.dest ∙ ap (λ w. set w c.args.bucket false) r.flags ∙ sym (settle-all n c.args.bucket r.array.least r.within));
       noted = (refused-together _ d vs c.replace-bare.new.dest ∙ takes.refused ∙ e.noted ∙ sym (refused-seen _ _ _ _ a c.self.view_is));
@@ -125,21 +124,21 @@ pub install-bare-requires-clause-table : goal.install-bare-requires-clause-table
 install-bare-requires-clause-table g c =
     let r = c.requires in
     let e = c.install-old.ensures in
-    let x = exchanged g.met.E.Key.Eq.laws (λ (s : Settings g.row.H.Denot) (k : g.row.E-Key.Denot). hash_of g.H.BuildHasher g.H.Hasher.Hasher s.hasher (g.E.Key.Hash.hash_input k)) c.self.invariant c.self.view_is r.not_waiting r.empty r.array r.some r.other e.lists e.settings e.spilled e.were e.table in
-    rw (c.in-Err.ensures.err, c.in-Err.ensures.stays) (subst (λ s. IsBuckets (λ z. key_hash g.H.BuildHasher g.H.Hasher.Hasher g.E.Key.Hash.hash_input c.install-old.new.self (g.E.Keyed.key_of z)) s.skipped c.install-old.result.0 c.install-old.result.1 c.install-old.result.2) (sym x.settings) x.table)
+    let x = exchanged g.met.E.Key.Eq.laws (λ (s : Settings g.row.H.Denot) (k : g.row.E-Key.Denot). g.H.Hashes.hash_of s.hasher k) c.self.invariant c.self.view_is r.not_waiting r.empty r.array r.some r.other e.lists e.settings e.spilled e.were e.table in
+    rw (c.in-Err.ensures.err, c.in-Err.ensures.stays) (subst (λ s. IsBuckets (λ z. hash_in g.H.Hashes.hash_of c.install-old.new.self (g.E.Keyed.key_of z)) s.skipped c.install-old.result.0 c.install-old.result.1 c.install-old.result.2) (sym x.settings) x.table)
 
 pub install-bare-requires-clause-unique : goal.install-bare-requires-clause-unique
 install-bare-requires-clause-unique g c =
     let r = c.requires in
     let e = c.install-old.ensures in
-    let x = exchanged g.met.E.Key.Eq.laws (λ (s : Settings g.row.H.Denot) (k : g.row.E-Key.Denot). hash_of g.H.BuildHasher g.H.Hasher.Hasher s.hasher (g.E.Key.Hash.hash_input k)) c.self.invariant c.self.view_is r.not_waiting r.empty r.array r.some r.other e.lists e.settings e.spilled e.were e.table in
+    let x = exchanged g.met.E.Key.Eq.laws (λ (s : Settings g.row.H.Denot) (k : g.row.E-Key.Denot). g.H.Hashes.hash_of s.hasher k) c.self.invariant c.self.view_is r.not_waiting r.empty r.array r.some r.other e.lists e.settings e.spilled e.were e.table in
     rw c.in-Err.ensures.stays (begun-unique x)
 
 pub destroy_empty-requires-in-Err : goal.destroy_empty-requires-in-Err
 destroy_empty-requires-in-Err g c =
     let r = c.requires in
     let e = c.install-old.ensures in
-    let x = exchanged g.met.E.Key.Eq.laws (λ (s : Settings g.row.H.Denot) (k : g.row.E-Key.Denot). hash_of g.H.BuildHasher g.H.Hasher.Hasher s.hasher (g.E.Key.Hash.hash_input k)) c.self.invariant c.self.view_is r.not_waiting r.empty r.array r.some r.other e.lists e.settings e.spilled e.were e.table in
+    let x = exchanged g.met.E.Key.Eq.laws (λ (s : Settings g.row.H.Denot) (k : g.row.E-Key.Denot). g.H.Hashes.hash_of s.hasher k) c.self.invariant c.self.view_is r.not_waiting r.empty r.array r.some r.other e.lists e.settings e.spilled e.were e.table in
     λ i l. begun-bare x c.install-bare.result.0 (ap lists_of (sym c.in-Err.ensures.err) ∙ c.install-bare.ensures.were) i l
 
 pub invariant_of-self-in-Err-1 : goal.invariant_of-self-in-Err-1
@@ -176,14 +175,14 @@ pub move_target-requires-clause-flags : goal.move_target-requires-clause-flags
 move_target-requires-clause-flags g c =
     let r = c.requires in
     let e = c.install-old.ensures in
-    let x = exchanged g.met.E.Key.Eq.laws (λ (s : Settings g.row.H.Denot) (k : g.row.E-Key.Denot). hash_of g.H.BuildHasher g.H.Hasher.Hasher s.hasher (g.E.Key.Hash.hash_input k)) c.self.invariant c.self.view_is r.not_waiting r.empty r.array r.some r.other e.lists e.settings e.spilled e.were e.table in
+    let x = exchanged g.met.E.Key.Eq.laws (λ (s : Settings g.row.H.Denot) (k : g.row.E-Key.Denot). g.H.Hashes.hash_of s.hasher k) c.self.invariant c.self.view_is r.not_waiting r.empty r.array r.some r.other e.lists e.settings e.spilled e.were e.table in
     ap length (c.as_slice.ensures.value ∙ r.flags) ∙ length-replicate c.args.count true ∙ sym (begun-count x)
 
 pub move_target-requires-clause-not_waiting : goal.move_target-requires-clause-not_waiting
 move_target-requires-clause-not_waiting g c =
     let r = c.requires in
     let e = c.install-old.ensures in
-    let x = exchanged g.met.E.Key.Eq.laws (λ (s : Settings g.row.H.Denot) (k : g.row.E-Key.Denot). hash_of g.H.BuildHasher g.H.Hasher.Hasher s.hasher (g.E.Key.Hash.hash_input k)) c.self.invariant c.self.view_is r.not_waiting r.empty r.array r.some r.other e.lists e.settings e.spilled e.were e.table in
+    let x = exchanged g.met.E.Key.Eq.laws (λ (s : Settings g.row.H.Denot) (k : g.row.E-Key.Denot). g.H.Hashes.hash_of s.hasher k) c.self.invariant c.self.view_is r.not_waiting r.empty r.array r.some r.other e.lists e.settings e.spilled e.were e.table in
     let m = begun-count x in
     λ i l low.
     let up : get_or c.as_slice.result.now i false ≡ true = ap (λ (w : List Bool). get_or w i false) (c.as_slice.ensures.value ∙ r.flags) ∙ get_or-replicate c.args.count i true false (omega (arith, l, m)) in

@@ -1,7 +1,6 @@
 use Rattle.std.proofs.Common.{◌≡◌, ◌∙◌, ℕ, ◌*◌, ◌<◌, false, length, take, sym, ap, arith, rules}
 use Rattle.std.proofs.lemmas.List.{take_all}
-use Rattle.scc_common.specs.Contents.{bucket_count, key_hash, list_of, settings_of, Settings}
-use Rattle.scc_common.specs.Hashing.{hash_of}
+use Rattle.scc_common.specs.Contents.{bucket_count, hash_in, list_of, settings_of, Settings}
 use Rattle.scc_buckets.specs.Pour.{destined_for}
 use Rattle.scc_common.specs.Routing.{bucket_number}
 use Rattle.scc_table.specs.TwoArrays.{waits_at}
@@ -31,7 +30,7 @@ returns g c =
     let t = c.self.inside in
     let a = c.args.self.now in
     let r = c.bucket_count-count.result in
-    let hash = λ (e : g.row.E.Denot). key_hash g.H.BuildHasher g.H.Hasher.Hasher g.E.Key.Hash.hash_input a (g.E.Keyed.key_of e) in
+    let hash = λ (e : g.row.E.Denot). hash_in g.H.Hashes.hash_of a (g.E.Keyed.key_of e) in
     let es = list_of a c.args.bucket in
     let settings = settings-seen _ t.current t.draining.waiting.items t.draining.array a c.self.view_is in
     let s : (settings_of t.current).skipped ≡ (settings_of a).skipped = ap (λ z. z.skipped) (sym settings) in
@@ -42,7 +41,7 @@ returns g c =
     let count = count-seen _ t.current t.draining.waiting.items t.draining.array a c.self.view_is c.self.invariant.arrays.flags in
     let down : waits_at t.draining.waiting.items i ≡ false = ap (λ w. waits_at w i) (sym (waiting-seen _ t.current t.draining.waiting.items t.draining.array a c.self.view_is)) ∙ c.requires.not_waiting in
     let own : es ≡ list_of t.current i = ap (λ d. list_of d i) (sym c.self.view_is) ∙ own-list _ t.current t.draining.waiting.items t.draining.array c.self.invariant.arrays i (omega (arith, count, c.requires.within)) down in
-    let hashes = λ (s : Settings g.row.H.Denot). let h : g.row.E.Denot → ℕ = λ e. hash_of g.H.BuildHasher g.H.Hasher.Hasher s.hasher (g.E.Key.Hash.hash_input (g.E.Keyed.key_of e)) in h in
+    let hashes = λ (s : Settings g.row.H.Denot). let h : g.row.E.Denot → ℕ = λ e. g.H.Hashes.hash_of s.hasher (g.E.Keyed.key_of e) in h in
     let counted = c.count_destined.ensures ∙ ap (λ xs. length (destined_for (hashes (settings_of t.current)) (settings_of t.current).skipped (2 * r) c.bucket-target.result (take c.list_len-entry_count.result xs))) (sym own)
     ∙ ap (λ s. length (destined_for (hashes s) (settings_of t.current).skipped (2 * r) c.bucket-target.result (take c.list_len-entry_count.result es))) (sym settings) in
     let whole : take c.list_len-entry_count.result es ≡ es = take_all c.list_len-entry_count.result es (omega (arith, c.list_len-entry_count.ensures.len)) in

@@ -1,6 +1,6 @@
 use Rattle.std.proofs.Common.{◌≡◌, ◌∙◌, ◌*◌, ◌/◌, ◌<◌, ◌≤◌, length, ap, subst, sym, mul_comm, arith}
 use native.Mathlib.Decide.{dec_lt}
-use Rattle.scc_common.specs.Contents.{bucket_count, entries, key_hash, settings_of}
+use Rattle.scc_common.specs.Contents.{bucket_count, entries, hash_in, settings_of}
 use Rattle.scc_buckets.specs.Pour.{destined_for}
 use Rattle.scc_table.proofs.relocations.ShortLists.{even-parts}
 use Rattle.scc_table.proofs.Table.is_short_in.Goals as goal
@@ -20,7 +20,7 @@ joined_len-requires-clause-some g c =
 pub loop-target-preserved : goal.loop-target-preserved
 loop-target-preserved g c =
     let a = c.args.self.now in
-    let hash = λ (e : g.row.E.Denot). key_hash g.H.BuildHasher g.H.Hasher.Hasher g.E.Key.Hash.hash_input a (g.E.Keyed.key_of e) in
+    let hash = λ (e : g.row.E.Denot). hash_in g.H.Hashes.hash_of a (g.E.Keyed.key_of e) in
     λ i l. elim (dec_lt i c.loop-target.target) [
       | yes q ↦ c.loop-target.invariant i q
       | no q ↦ let at : c.loop-target.target ≡ i = omega arith in subst (λ m. length (destined_for hash (settings_of a).skipped c.args.count m (entries a)) ≤ 32) at (omega (arith, c.joined_len.ensures))

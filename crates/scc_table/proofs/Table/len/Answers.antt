@@ -1,7 +1,7 @@
 use Rattle.std.proofs.Common.{◌≡◌, ℕ, ◌⊎◌, inl, inr, ◌≤◌, ◌+◌, ◌*◌, ◌^◌, ◌∙◌, sym, ap, arith, rules, length}
 use Rattle.std.specs.List.{sum_by}
 use Rattle.scc_array.specs.Shelf.{Shelf, shelf_entries}
-use Rattle.scc_common.specs.Contents.{entries, bucket_count, key_hash, overflow_of}
+use Rattle.scc_common.specs.Contents.{entries, bucket_count, hash_in, overflow_of}
 use Rattle.scc_buckets.specs.Tables.{overflow_in}
 use Rattle.scc_draining.specs.Moves.{AreMultiples}
 use Rattle.scc_table.proofs.arrays.Lists.{owed-most, len-fits, length-together, none-owed}
@@ -14,7 +14,7 @@ overflow_add-result g c =
     let ws = t.draining.waiting.items in
     let olds = t.draining.array in
     let inv = c.self.invariant in
-    let hk = key_hash g.H.BuildHasher g.H.Hasher.Hasher g.E.Key.Hash.hash_input cur in
+    let hk = hash_in g.H.Hashes.hash_of cur in
     let hash = λ (e : g.row.E.Denot). hk (g.E.Keyed.key_of e) in
     let f : Shelf g.row.E.Denot → ℕ = λ b. length (shelf_entries b) in
     let left : sum_by f olds ≤ 32 * length olds + overflow_in olds = owed-most olds (λ j l. (inv.arrays.own.own j l).within) in
@@ -33,7 +33,7 @@ returns-clause-len g c =
     let ws = t.draining.waiting.items in
     let olds = t.draining.array in
     let inv = c.self.invariant in
-    let hk = key_hash g.H.BuildHasher g.H.Hasher.Hasher g.E.Key.Hash.hash_input cur in
+    let hk = hash_in g.H.Hashes.hash_of cur in
     let hash = λ (e : g.row.E.Denot). hk (g.E.Keyed.key_of e) in
     let all = length-together hash cur ws olds inv.arrays in
     let seen = ap (λ d. length (entries d)) (sym c.self.view_is) in

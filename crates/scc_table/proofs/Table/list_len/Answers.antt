@@ -1,5 +1,5 @@
 use Rattle.std.proofs.Common.{◌≡◌, ◌∙◌, ◌<◌, true, false, length, sym, ap, arith}
-use Rattle.scc_common.specs.Contents.{bucket_count, key_hash, list_of}
+use Rattle.scc_common.specs.Contents.{bucket_count, hash_in, list_of}
 use Rattle.scc_table.specs.TwoArrays.{waits_at}
 use Rattle.scc_table.proofs.places.OldSpots.{own-list}
 use Rattle.scc_table.proofs.arrays.OneBucket.{count-own, flag-free, routed-seen}
@@ -17,7 +17,7 @@ returns-clause-len g c =
     let ws = t.draining.waiting.items in
     let olds = t.draining.array in
     let inv = c.self.invariant in
-    let hk = key_hash g.H.BuildHasher g.H.Hasher.Hasher g.E.Key.Hash.hash_input cur in
+    let hk = hash_in g.H.Hashes.hash_of cur in
     let hash = λ (e : g.row.E.Denot). hk (g.E.Keyed.key_of e) in
     let count = count-own c.self.invariant c.self.view_is in
     let i = c.args.bucket in
@@ -26,7 +26,7 @@ returns-clause-len g c =
     c.list_len.ensures.len ∙ ap length (sym (own-list hash cur ws olds inv.arrays i within down)) ∙ ap (λ d. length (list_of d i)) c.self.view_is
 
 pub returns-clause-routed : goal.returns-clause-routed
-returns-clause-routed g c = routed-seen g.H.BuildHasher g.H.Hasher.Hasher g.E.Key.Hash.hash_input g.E.Keyed.key_of c.self.invariant c.self.view_is c.list_len.ensures.routed
+returns-clause-routed g c = routed-seen g.H.Hashes.hash_of g.E.Keyed.key_of c.self.invariant c.self.view_is c.list_len.ensures.routed
 
 pub returns-then-is_waiting-clause-len : goal.returns-then-is_waiting-clause-len
 returns-then-is_waiting-clause-len g c = c.waiting_len.ensures.len

@@ -1,5 +1,5 @@
 use Rattle.std.proofs.Common.{◌≡◌, ◌+◌, ◌-◌, ◌∙◌, rules, ap, sym, subst, arith}
-use Rattle.scc_common.specs.Contents.{Contents, IsUniqueBy, Settings, bucket_count, key_hash, settings_of, minimum_of}
+use Rattle.scc_common.specs.Contents.{Contents, IsUniqueBy, Settings, bucket_count, hash_in, settings_of, minimum_of}
 use Rattle.scc_table.proofs.arrays.CurrentParts.{settings-seen}
 use Rattle.scc_buckets.proofs.Resizes.{smaller-by, shrinks-after}
 use Rattle.scc_table.proofs.resizes.Attempts.{shrink-due_after, spreads-after}
@@ -8,7 +8,7 @@ use Rattle.scc_table.proofs.Table.lower_minimum.Goals as goal
 pub returns : goal.returns
 returns g c =
     let t = c.self.inside in
-    let hk = key_hash g.H.BuildHasher g.H.Hasher.Hasher g.E.Key.Hash.hash_input t.current in
+    let hk = hash_in g.H.Hashes.hash_of t.current in
     let hash = λ (e : g.row.E.Denot). hk (g.E.Keyed.key_of e) in
     record {
       answer = (
@@ -48,7 +48,7 @@ returns g c =
 pub set_reserved-requires : goal.set_reserved-requires
 set_reserved-requires g c =
     let t = c.self.inside in
-    let hk = key_hash g.H.BuildHasher g.H.Hasher.Hasher g.E.Key.Hash.hash_input t.current in
+    let hk = hash_in g.H.Hashes.hash_of t.current in
     let hash = λ (e : g.row.E.Denot). hk (g.E.Keyed.key_of e) in
     let set = settings-seen hash t.current t.draining.waiting.items t.draining.array c.args.self.now c.self.view_is in
     let left : c.reserved-reserved.result ≡ (settings_of c.args.self.now).reserved = c.reserved-reserved.ensures.value ∙ ap (λ s. s.reserved) set in
@@ -61,7 +61,7 @@ returns-then-additional-reserved g c =
     record {
       answer = (
           let t = c.self.inside in
-          let hk = key_hash g.H.BuildHasher g.H.Hasher.Hasher g.E.Key.Hash.hash_input t.current in
+          let hk = hash_in g.H.Hashes.hash_of t.current in
           let hash = λ (e : g.row.E.Denot). hk (g.E.Keyed.key_of e) in
           let set = settings-seen hash t.current t.draining.waiting.items t.draining.array c.args.self.now c.self.view_is in
           let left : c.reserved-reserved.result ≡ (settings_of c.args.self.now).reserved = c.reserved-reserved.ensures.value ∙ ap (λ s. s.reserved) set in

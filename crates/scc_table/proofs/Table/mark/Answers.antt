@@ -1,5 +1,5 @@
 use Rattle.std.proofs.Common.{◌∙◌, ℕ, sym, ap, subst}
-use Rattle.scc_common.specs.Contents.{key_hash, lists_of, owed_of, overflow_of}
+use Rattle.scc_common.specs.Contents.{hash_in, lists_of, owed_of, overflow_of}
 use Rattle.scc_draining.specs.Drainings.{draining_of}
 use Rattle.scc_table.specs.TwoArrays.{IsTable, together}
 use Rattle.scc_table.proofs.arrays.JoinedLists.{settings-together, refused-together, waiting-together}
@@ -12,8 +12,8 @@ pub invariant_of-self : goal.invariant_of-self
 invariant_of-self g c =
     let t = c.self.inside in
     let d = c.mark.new.self in
-    let hk = key_hash g.H.BuildHasher g.H.Hasher.Hasher g.E.Key.Hash.hash_input t.current in
-    let same = hash-same g.H.BuildHasher g.H.Hasher.Hasher g.E.Key.Hash.hash_input t.current d c.mark.ensures.settings in
+    let hk = hash_in g.H.Hashes.hash_of t.current in
+    let same = hash-same g.H.Hashes.hash_of t.current d c.mark.ensures.settings in
     subst (λ (h : g.row.E-Key.Denot → ℕ). IsTable g.E.Key.PartialEq.eq g.E.Keyed.key_of h d (draining_of t.draining)) (sym same)
     (fields-kept g.E.Key.PartialEq.eq g.E.Keyed.key_of hk t.current d (draining_of t.draining) c.mark.ensures.lists (ap (λ s. s.skipped) c.mark.ensures.settings) c.mark.ensures.spilled c.self.invariant)
 
@@ -21,8 +21,8 @@ pub returns : goal.returns
 returns g c =
     let t = c.self.inside in
     let d = c.mark.new.self in
-    let hk = key_hash g.H.BuildHasher g.H.Hasher.Hasher g.E.Key.Hash.hash_input t.current in
-    let same = hash-same g.H.BuildHasher g.H.Hasher.Hasher g.E.Key.Hash.hash_input t.current d c.mark.ensures.settings in
+    let hk = hash_in g.H.Hashes.hash_of t.current in
+    let same = hash-same g.H.Hashes.hash_of t.current d c.mark.ensures.settings in
     record {
       lists = (ap (λ (h : g.row.E-Key.Denot → ℕ). lists_of (together (λ e. h (g.E.Keyed.key_of e)) d t.draining.waiting.items t.draining.array)) same ∙ lists-kept (λ e. hk (g.E.Keyed.key_of e)) t.current d t.draining.waiting.items t.draining.array c.mark.ensures.lists (ap (λ s. s.skipped) c.mark.ensures.settings) ∙ ap lists_of c.self.view_is);
       settings = (settings-together _ c.mark.new.self t.draining.waiting.items t.draining.array ∙ c.mark.ensures.settings ∙ sym (settings-seen _ t.current t.draining.waiting.items t.draining.array c.args.self.now c.self.view_is));

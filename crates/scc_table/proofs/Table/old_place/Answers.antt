@@ -1,5 +1,5 @@
 use Rattle.std.proofs.Common.{◌≡◌, ◌+◌, ◌<◌, ◌≤◌, inl, inr, length, subst, arith}
-use Rattle.scc_common.specs.Contents.{bucket_count, key_hash, list_of, settings_of}
+use Rattle.scc_common.specs.Contents.{bucket_count, hash_in, list_of, settings_of}
 use Rattle.scc_buckets.specs.Places as spots
 use Rattle.scc_buckets.specs.declared.place.Place.{Place}
 use Rattle.scc_table.specs.Places.{StandsAt}
@@ -44,7 +44,7 @@ spot_from-requires-clause-within g c =
     let cur = t.current in
     let olds = t.draining.array in
     let inv = c.self.invariant in
-    let hk = key_hash g.H.BuildHasher g.H.Hasher.Hasher g.E.Key.Hash.hash_input cur in
+    let hk = hash_in g.H.Hashes.hash_of cur in
     let hash = λ (e : g.row.E.Denot). hk (g.E.Keyed.key_of e) in
     let i = c.args.target in
     let up = flag-up c.self.invariant _ c.self.view_is (c.requires.waits) in
@@ -64,7 +64,7 @@ returns-in-Some g c =
     let ws = t.draining.waiting.items in
     let olds = t.draining.array in
     let inv = c.self.invariant in
-    let hk = key_hash g.H.BuildHasher g.H.Hasher.Hasher g.E.Key.Hash.hash_input cur in
+    let hk = hash_in g.H.Hashes.hash_of cur in
     let hash = λ (e : g.row.E.Denot). hk (g.E.Keyed.key_of e) in
     let i = c.args.target in
     let up = flag-up c.self.invariant _ c.self.view_is (c.requires.waits) in
@@ -83,7 +83,7 @@ returns-in-None g c =
     let ws = t.draining.waiting.items in
     let olds = t.draining.array in
     let inv = c.self.invariant in
-    let hk = key_hash g.H.BuildHasher g.H.Hasher.Hasher g.E.Key.Hash.hash_input cur in
+    let hk = hash_in g.H.Hashes.hash_of cur in
     let hash = λ (e : g.row.E.Denot). hk (g.E.Keyed.key_of e) in
     let i = c.args.target in
     let up = flag-up c.self.invariant _ c.self.view_is (c.requires.waits) in

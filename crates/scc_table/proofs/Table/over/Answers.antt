@@ -1,13 +1,13 @@
 use Rattle.std.proofs.Common.{◌∙◌, List, map, sym, subst, arith}
 use Rattle.std.specs.List.{IsDistinct}
-use Rattle.scc_common.specs.Contents.{key_hash}
+use Rattle.scc_common.specs.Contents.{hash_in}
 use Rattle.scc_table.proofs.arrays.OneArray.{entries-alone, fields-alone, lists-alone, spilled-alone}
 use Rattle.scc_table.proofs.arrays.JoinedLists.{settings-together, refused-together, waiting-together}
 use Rattle.scc_table.proofs.Table.over.Goals as goal
 
 pub invariant_of-result : goal.invariant_of-result
 invariant_of-result g c =
-    let hk = key_hash g.H.BuildHasher g.H.Hasher.Hasher g.E.Key.Hash.hash_input c.args.current in
+    let hk = hash_in g.H.Hashes.hash_of c.args.current in
     rw (c.none.ensures, c.new.ensures.items) (fields-alone g.E.Key.PartialEq.eq g.E.Keyed.key_of hk c.args.current 0 (omega (arith, c.allocator-alloc.ensures.few)) c.allocator-alloc.ensures.unique)
 
 pub returns-clause-lists : goal.returns-clause-lists

@@ -1,5 +1,5 @@
 use Rattle.std.proofs.Common.{◌≡◌, ◌∙◌, ◌+◌, ◌-◌, ◌^◌, ◌<◌, ◌≤◌, false, length, sym, ap, subst, rules, arith, add-one}
-use Rattle.scc_common.specs.Contents.{bucket_count, key_hash, list_of}
+use Rattle.scc_common.specs.Contents.{bucket_count, hash_in, list_of}
 use Rattle.scc_buckets.specs.Places as spots
 use Rattle.scc_buckets.specs.declared.place.Place.{Place}
 use Rattle.scc_buckets.proofs.Standing.{along, index-skip}
@@ -20,7 +20,7 @@ returns-then-slot-list_len g c =
     let olds = t.draining.array in
     let inv = c.self.invariant in
     let now = c.args.self.now in
-    let hk = key_hash g.H.BuildHasher g.H.Hasher.Hasher g.E.Key.Hash.hash_input cur in
+    let hk = hash_in g.H.Hashes.hash_of cur in
     let hash = λ (e : g.row.E.Denot). hk (g.E.Keyed.key_of e) in
     let count = count-own c.self.invariant c.self.view_is in
     let flags = waiting-seen hash cur ws olds now c.self.view_is in
@@ -52,7 +52,7 @@ returns-then-bucket-count g c =
     let olds = t.draining.array in
     let inv = c.self.invariant in
     let now = c.args.self.now in
-    let hk = key_hash g.H.BuildHasher g.H.Hasher.Hasher g.E.Key.Hash.hash_input cur in
+    let hk = hash_in g.H.Hashes.hash_of cur in
     let hash = λ (e : g.row.E.Denot). hk (g.E.Keyed.key_of e) in
     let count = count-own c.self.invariant c.self.view_is in
     let flags = waiting-seen hash cur ws olds now c.self.view_is in

@@ -1,7 +1,6 @@
 use Rattle.std.proofs.Common.{◌≡◌, ◌≢◌, ◌==◌, ◌∙◌, ◌<◌, ◌≤◌, ℕ, Bool, true, inl, inr, length, replicate, sym, ap, subst, arith}
 use Rattle.std.specs.List.{count_by}
-use Rattle.scc_common.specs.Contents.{HasRoomAt, bucket_count, entries, key_hash, list_of, pending_of, settings_of}
-use Rattle.scc_common.specs.Hashing.{hash_of}
+use Rattle.scc_common.specs.Contents.{HasRoomAt, bucket_count, entries, hash_in, list_of, pending_of, settings_of}
 use Rattle.scc_common.specs.Routing.{bucket_number}
 use Rattle.scc_buckets.specs.Bounded.{HasListsOf}
 use Rattle.scc_buckets.proofs.Resizes.{rests-resizes}
@@ -22,7 +21,7 @@ returns-then-pending-gt0-clause-ok g c =
     let a = c.args.self.now in
     let b = c.bucket_for_new.new.self in
     let m = c.bucket_for_new.ensures.finds in
-    let hk = key_hash g.H.BuildHasher g.H.Hasher.Hasher g.E.Key.Hash.hash_input a in
+    let hk = hash_in g.H.Hashes.hash_of a in
     room-of hk g.E.Keyed.key_of a b c.args.hash m.rests m.growth m.still m.all m.not_waiting m.stays m.waiting (omega (arith, c.in_ok-bucket.ensures.finds.within), inr (inl (let q = c.if-pending-gt0.true in omega arith)))
 
 pub returns-then-list_len-lt32-clause-ok : goal.returns-then-list_len-lt32-clause-ok
@@ -31,8 +30,8 @@ returns-then-list_len-lt32-clause-ok g c =
     let a = c.args.self.now in
     let b = c.bucket_for_new.new.self in
     let m = c.bucket_for_new.ensures.finds in
-    let hk = key_hash g.H.BuildHasher g.H.Hasher.Hasher g.E.Key.Hash.hash_input a in
-    let hb = key_hash g.H.BuildHasher g.H.Hasher.Hasher g.E.Key.Hash.hash_input b in
+    let hk = hash_in g.H.Hashes.hash_of a in
+    let hb = hash_in g.H.Hashes.hash_of b in
     let i = c.in_ok-bucket.bucket in
     let n = bucket_number (settings_of b).skipped (bucket_count b) c.args.hash in
     let left : count_by (λ (e : g.row.E.Denot). bucket_number (settings_of b).skipped (bucket_count b) (hb (g.E.Keyed.key_of e)) == n) (entries b) ≡ length (list_of b i) =
@@ -40,7 +39,7 @@ returns-then-list_len-lt32-clause-ok g c =
     let short = c.list_len.ensures.len in
     let some : 0 < bucket_count b = omega (arith, c.in_ok-bucket.ensures.finds.within) in
     let room : HasRoomAt hb g.E.Keyed.key_of b c.args.hash = (some, omega arith) in
-    let like = hash-same g.H.BuildHasher g.H.Hasher.Hasher g.E.Key.Hash.hash_input a b (rests-resizes a b m.rests).settings in
+    let like = hash-same g.H.Hashes.hash_of a b (rests-resizes a b m.rests).settings in
     room-of hk g.E.Keyed.key_of a b c.args.hash m.rests m.growth m.still m.all m.not_waiting m.stays m.waiting (some, inl (subst (λ (h : g.row.E-Key.Denot → ℕ). HasRoomAt h g.E.Keyed.key_of b c.args.hash) like room))
 
 pub returns-then-len-count-clause-ok : goal.returns-then-len-count-clause-ok
@@ -49,7 +48,7 @@ returns-then-len-count-clause-ok g c =
     let a = c.args.self.now in
     let b = c.bucket_for_new.new.self in
     let m = c.bucket_for_new.ensures.finds in
-    let hk = key_hash g.H.BuildHasher g.H.Hasher.Hasher g.E.Key.Hash.hash_input a in
+    let hk = hash_in g.H.Hashes.hash_of a in
     room-of hk g.E.Keyed.key_of a b c.args.hash m.rests m.growth m.still m.all m.not_waiting m.stays m.waiting (omega (arith, c.in_ok-bucket.ensures.finds.within), inr (inr (inl (omega arith))))
 
 pub returns-then-count-most-clause-ok : goal.returns-then-count-most-clause-ok
@@ -58,7 +57,7 @@ returns-then-count-most-clause-ok g c =
     let a = c.args.self.now in
     let b = c.bucket_for_new.new.self in
     let m = c.bucket_for_new.ensures.finds in
-    let hk = key_hash g.H.BuildHasher g.H.Hasher.Hasher g.E.Key.Hash.hash_input a in
+    let hk = hash_in g.H.Hashes.hash_of a in
     room-of hk g.E.Keyed.key_of a b c.args.hash m.rests m.growth m.still m.all m.not_waiting m.stays m.waiting (omega (arith, c.in_ok-bucket.ensures.finds.within), inr (inr (inr (inl (omega arith)))))
 
 pub returns-clause-ok : goal.returns-clause-ok
@@ -68,7 +67,7 @@ returns-clause-ok g c =
     let b = c.bucket_for_new.new.self in
     let d = c.mark.new.self in
     let m = c.bucket_for_new.ensures.finds in
-    let hk = key_hash g.H.BuildHasher g.H.Hasher.Hasher g.E.Key.Hash.hash_input a in
+    let hk = hash_in g.H.Hashes.hash_of a in
     let n = count-same b d c.mark.ensures.lists in
     let some : 0 < bucket_count d = omega (arith, c.in_ok-bucket.ensures.finds.within, n) in
     room-marked a b d c.mark.ensures.lists c.mark.ensures.settings hk g.E.Keyed.key_of c.args.hash c.mark.ensures.waiting
@@ -81,7 +80,7 @@ returns-then-pending-gt0-clause-marks g c =
     let a = c.args.self.now in
     let b = c.bucket_for_new.new.self in
     let m = c.bucket_for_new.ensures.finds in
-    let hk = key_hash g.H.BuildHasher g.H.Hasher.Hasher g.E.Key.Hash.hash_input a in
+    let hk = hash_in g.H.Hashes.hash_of a in
     let waits : 0 < pending_of b = let q = c.if-pending-gt0.true in omega arith in
     marks-left _ g.E.Keyed.key_of hk _ great a b c.args.hash _ m (not-not_waiting _ g.E.Keyed.key_of hk _ great a b c.args.hash _ m waits)
 
@@ -91,8 +90,8 @@ returns-then-list_len-lt32-clause-marks g c =
     let a = c.args.self.now in
     let b = c.bucket_for_new.new.self in
     let m = c.bucket_for_new.ensures.finds in
-    let hk = key_hash g.H.BuildHasher g.H.Hasher.Hasher g.E.Key.Hash.hash_input a in
-    let hb = key_hash g.H.BuildHasher g.H.Hasher.Hasher g.E.Key.Hash.hash_input b in
+    let hk = hash_in g.H.Hashes.hash_of a in
+    let hb = hash_in g.H.Hashes.hash_of b in
     let i = c.in_ok-bucket.bucket in
     let n = bucket_number (settings_of b).skipped (bucket_count b) c.args.hash in
     let left : count_by (λ (e : g.row.E.Denot). bucket_number (settings_of b).skipped (bucket_count b) (hb (g.E.Keyed.key_of e)) == n) (entries b) ≡ length (list_of b i) =
@@ -101,7 +100,7 @@ returns-then-list_len-lt32-clause-marks g c =
     let some : 0 < bucket_count b = omega (arith, c.in_ok-bucket.ensures.finds.within) in
     let room : HasRoomAt hb g.E.Keyed.key_of b c.args.hash = (some, omega arith) in
     let settings = (rests-resizes a b m.rests).settings in
-    let like = hash-same g.H.BuildHasher g.H.Hasher.Hasher g.E.Key.Hash.hash_input a b settings in
+    let like = hash-same g.H.Hashes.hash_of a b settings in
     let had : HasRoomAt hk g.E.Keyed.key_of b c.args.hash = subst (λ (h : g.row.E-Key.Denot → ℕ). HasRoomAt h g.E.Keyed.key_of b c.args.hash) like room in
     marks-left _ g.E.Keyed.key_of hk _ great a b c.args.hash _ m (not-full _ g.E.Keyed.key_of hk _ great a b c.args.hash _ m settings had)
 
@@ -112,8 +111,8 @@ returns-clause-marks g c =
     let b = c.bucket_for_new.new.self in
     let d = c.mark.new.self in
     let m = c.bucket_for_new.ensures.finds in
-    let hk = key_hash g.H.BuildHasher g.H.Hasher.Hasher g.E.Key.Hash.hash_input a in
-    let hb = key_hash g.H.BuildHasher g.H.Hasher.Hasher g.E.Key.Hash.hash_input b in
+    let hk = hash_in g.H.Hashes.hash_of a in
+    let hb = hash_in g.H.Hashes.hash_of b in
     let i = c.in_ok-bucket.bucket in
     let n = bucket_number (settings_of b).skipped (bucket_count b) c.args.hash in
     let left : count_by (λ (e : g.row.E.Denot). bucket_number (settings_of b).skipped (bucket_count b) (hb (g.E.Keyed.key_of e)) == n) (entries b) ≡ length (list_of b i) =
@@ -121,7 +120,7 @@ returns-clause-marks g c =
     let long = c.list_len.ensures.len in
     let some : 0 < bucket_count b = omega (arith, c.in_ok-bucket.ensures.finds.within) in
     let settings = (rests-resizes a b m.rests).settings in
-    let like = hash-same g.H.BuildHasher g.H.Hasher.Hasher g.E.Key.Hash.hash_input a b settings in
+    let like = hash-same g.H.Hashes.hash_of a b settings in
     let full : HasRoomAt hk g.E.Keyed.key_of b c.args.hash → ⊥ = λ room.
     let r : HasRoomAt hb g.E.Keyed.key_of b c.args.hash = subst (λ (h : g.row.E-Key.Denot → ℕ). HasRoomAt h g.E.Keyed.key_of b c.args.hash) (sym like) room in
     absurd (let z = r.1 in omega arith) in
@@ -178,7 +177,7 @@ returns-clause-grows g c =
 pub returns-clause-listed : goal.returns-clause-listed
 returns-clause-listed g c = λ listed.
     let now = c.bucket_for_new.ensures.listed listed in
-    listed-later (λ s (e : g.row.E.Denot). hash_of g.H.BuildHasher g.H.Hasher.Hasher s.hasher (g.E.Key.Hash.hash_input (g.E.Keyed.key_of e))) c.bucket_for_new.new.self c.mark.new.self c.mark.ensures.lists c.mark.ensures.settings (c.mark.ensures.spilled ∙ now.bounded) now
+    listed-later (λ s (e : g.row.E.Denot). g.H.Hashes.hash_of s.hasher (g.E.Keyed.key_of e)) c.bucket_for_new.new.self c.mark.new.self c.mark.ensures.lists c.mark.ensures.settings (c.mark.ensures.spilled ∙ now.bounded) now
 
 pub returns-clause-first : goal.returns-clause-first
 returns-clause-first g c = λ none. c.mark.ensures.waiting ∙ c.bucket_for_new.ensures.finds.not_waiting none

@@ -10,7 +10,7 @@ pub unreachable-requires : goal.unreachable-requires
 unreachable-requires g c = let s = c.requires.listed.short c.args.bucket in omega (arith, c.in-Err.ensures.refused)
 
 pub put_then_relocate-requires-clause-new : goal.put_then_relocate-requires-clause-new
-put_then_relocate-requires-clause-new g c = new-same c.args.self.now c.relocate.new.self c.in-Ok.ensures.ok.lists c.in-Ok.ensures.ok.settings (hash-same g.H.BuildHasher g.H.Hasher.Hasher g.E.Key.Hash.hash_input c.args.self.now c.relocate.new.self c.in-Ok.ensures.ok.settings) c.requires.new
+put_then_relocate-requires-clause-new g c = new-same c.args.self.now c.relocate.new.self c.in-Ok.ensures.ok.lists c.in-Ok.ensures.ok.settings (hash-same g.H.Hashes.hash_of c.args.self.now c.relocate.new.self c.in-Ok.ensures.ok.settings) c.requires.new
 
 pub returns : goal.returns
 returns g c =

@@ -1,7 +1,6 @@
 use Rattle.std.proofs.Common.{◌≡◌, ◌∙◌, true, false, drop, length, sym, ap, arith}
 use Rattle.std.proofs.lemmas.List.{length-drop}
 use Rattle.scc_common.specs.Contents.{waiting_of}
-use Rattle.scc_common.specs.Hashing.{hash_of}
 use Rattle.scc_buckets.proofs.PairSplits.{by_answer}
 use Rattle.scc_table.specs.TwoArrays.{pending_targets, waits_at}
 use Rattle.scc_table.proofs.relocations.ShortLists.{listed-later, puts-later, short-listed}
@@ -21,7 +20,7 @@ returns g c =
     record {
       slot = (c.put_last-put.ensures.slot ∙ ap length (sym (list-same m d r.lists c.args.bucket)));
       step = (puts-later m d r.lists r.settings r.noted c.args.self.now c.args.bucket c.args.entry c.put_last-put.result.0 (r.bounded lm.bounded (short-listed _ m lm)) c.put_last-put.ensures.step);
-      listed = (listed-later (λ s (e : g.row.E.Denot). hash_of g.H.BuildHasher g.H.Hasher.Hasher s.hasher (g.E.Key.Hash.hash_input (g.E.Keyed.key_of e))) m d r.lists r.settings (r.bounded lm.bounded (short-listed _ m lm)) lm);
+      listed = (listed-later (λ s (e : g.row.E.Denot). g.H.Hashes.hash_of s.hasher (g.E.Keyed.key_of e)) m d r.lists r.settings (r.bounded lm.bounded (short-listed _ m lm)) lm);
       not_waiting = (
           let i = c.args.bucket in
           let waiting = c.put_last-put.ensures.waiting in

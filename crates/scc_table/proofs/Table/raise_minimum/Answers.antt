@@ -1,5 +1,5 @@
 use Rattle.std.proofs.Common.{◌≡◌, ◌∙◌, ◌+◌, Bool, rules, sym, ap, arith}
-use Rattle.scc_common.specs.Contents.{key_hash, minimum_of, settings_of}
+use Rattle.scc_common.specs.Contents.{hash_in, minimum_of, settings_of}
 use Rattle.scc_table.proofs.arrays.CurrentParts.{settings-seen}
 use Rattle.scc_table.proofs.resizes.Attempts.{growth-due_after, spreads-after}
 use Rattle.scc_table.proofs.Table.raise_minimum.Goals as goal
@@ -10,7 +10,7 @@ returns g c =
       answer = (search rules);
       yes = (
           let t = c.self.inside in
-          let hk = key_hash g.H.BuildHasher g.H.Hasher.Hasher g.E.Key.Hash.hash_input t.current in
+          let hk = hash_in g.H.Hashes.hash_of t.current in
           let hash = λ (e : g.row.E.Denot). hk (g.E.Keyed.key_of e) in
           let set = settings-seen hash t.current t.draining.waiting.items t.draining.array c.args.self.now c.self.view_is in
           let left : c.reserved.result ≡ (settings_of c.args.self.now).reserved = c.reserved.ensures.value ∙ ap (λ s. s.reserved) set in
@@ -34,7 +34,7 @@ returns g c =
 pub overflow_add-reserved : goal.overflow_add-reserved
 overflow_add-reserved g c =
     let t = c.self.inside in
-    let hk = key_hash g.H.BuildHasher g.H.Hasher.Hasher g.E.Key.Hash.hash_input t.current in
+    let hk = hash_in g.H.Hashes.hash_of t.current in
     let hash = λ (e : g.row.E.Denot). hk (g.E.Keyed.key_of e) in
     let set = settings-seen hash t.current t.draining.waiting.items t.draining.array c.args.self.now c.self.view_is in
     let left : c.reserved.result ≡ (settings_of c.args.self.now).reserved = c.reserved.ensures.value ∙ ap (λ s. s.reserved) set in
@@ -43,7 +43,7 @@ overflow_add-reserved g c =
 pub set_reserved-requires : goal.set_reserved-requires
 set_reserved-requires g c =
     let t = c.self.inside in
-    let hk = key_hash g.H.BuildHasher g.H.Hasher.Hasher g.E.Key.Hash.hash_input t.current in
+    let hk = hash_in g.H.Hashes.hash_of t.current in
     let hash = λ (e : g.row.E.Denot). hk (g.E.Keyed.key_of e) in
     let set = settings-seen hash t.current t.draining.waiting.items t.draining.array c.args.self.now c.self.view_is in
     let left : c.reserved.result ≡ (settings_of c.args.self.now).reserved = c.reserved.ensures.value ∙ ap (λ s. s.reserved) set in

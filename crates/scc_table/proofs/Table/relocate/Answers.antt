@@ -1,9 +1,8 @@
 use Rattle.std.proofs.Common.{◌≡◌, ◌∙◌, ℕ, ◌+◌, ◌-◌, ◌<◌, false, [], length, set, refl, sym, ap, subst, arith, rules}
 use Rattle.std.specs.List.{count_by}
-use Rattle.scc_common.specs.Contents.{Contents, IsUniqueBy, key_hash, overflow_of, waiting_of}
+use Rattle.scc_common.specs.Contents.{Contents, IsUniqueBy, hash_in, overflow_of, waiting_of}
 use Rattle.scc_buckets.specs.Bounded.{IsListed}
 use Rattle.scc_buckets.specs.Tables.{overflow_in}
-use Rattle.scc_common.specs.Hashing.{hash_of}
 use Rattle.scc_draining.specs.Drainings.{draining_of}
 use Rattle.scc_table.specs.TwoArrays.{together, waits_at, IsTable, IsRelocated}
 use Rattle.scc_buckets.proofs.Bare.{all-bare}
@@ -57,7 +56,7 @@ destroy_empty-requires g c =
     let olds = t.draining.array in
     let i = c.args.bucket in
     let inv = c.self.invariant in
-    let hk = key_hash g.H.BuildHasher g.H.Hasher.Hasher g.E.Key.Hash.hash_input cur in
+    let hk = hash_in g.H.Hashes.hash_of cur in
     let hash = λ (e : g.row.E.Denot). hk (g.E.Keyed.key_of e) in
     let up = flag-up c.self.invariant _ c.self.view_is c.requires in
     let l = up-within ws i up in
@@ -74,11 +73,11 @@ invariant_of-self g c =
     let ws = t.draining.waiting.items in
     let i = c.args.bucket in
     let inv = c.self.invariant in
-    let hk = key_hash g.H.BuildHasher g.H.Hasher.Hasher g.E.Key.Hash.hash_input cur in
+    let hk = hash_in g.H.Hashes.hash_of cur in
     let up = flag-up c.self.invariant _ c.self.view_is c.requires in
     let l = up-within ws i up in
     let takes = c.in-Ok.ensures.ok in
-    let same = ap (λ s. let h : g.row.E-Key.Denot → ℕ = λ k. hash_of g.H.BuildHasher g.H.Hasher.Hasher s.hasher (g.E.Key.Hash.hash_input k) in h) takes.settings in
+    let same = ap (λ s. let h : g.row.E-Key.Denot → ℕ = λ k. g.H.Hashes.hash_of s.hasher k in h) takes.settings in
     let fewer = one-down ws i l up in
     let none : count_by (λ w. w) (set ws i false) ≡ 0 = omega (arith, fewer, inv.counted, c.if-self-eq0.true) in
     rw (c.clear.ensures.items, c.replace-bare.ensures.after, c.none-none.ensures)
@@ -92,11 +91,11 @@ invariant_of-self-else-self-eq0 g c =
     let ws = t.draining.waiting.items in
     let i = c.args.bucket in
     let inv = c.self.invariant in
-    let hk = key_hash g.H.BuildHasher g.H.Hasher.Hasher g.E.Key.Hash.hash_input cur in
+    let hk = hash_in g.H.Hashes.hash_of cur in
     let up = flag-up c.self.invariant _ c.self.view_is c.requires in
     let l = up-within ws i up in
     let takes = c.in-Ok.ensures.ok in
-    let same = ap (λ s. let h : g.row.E-Key.Denot → ℕ = λ k. hash_of g.H.BuildHasher g.H.Hasher.Hasher s.hasher (g.E.Key.Hash.hash_input k) in h) takes.settings in
+    let same = ap (λ s. let h : g.row.E-Key.Denot → ℕ = λ k. g.H.Hashes.hash_of s.hasher k in h) takes.settings in
     let fewer = one-down ws i l up in
     let some : 0 < count_by (λ w. w) (set ws i false) = omega (arith, fewer, inv.counted, c.if-self-eq0.false) in
     subst (λ (h : g.row.E-Key.Denot → ℕ). IsTable g.E.Key.PartialEq.eq g.E.Keyed.key_of h c.move_target.new.current (record (draining_of t.draining) { array = c.move_target.new.old; waiting = set ws i false; pending = t.draining.pending - 1; left = t.draining.left - c.in-Ok.moved })) (sym same)
@@ -110,12 +109,12 @@ returns-then-self-eq0-clause-ok g c =
     let olds = t.draining.array in
     let i = c.args.bucket in
     let inv = c.self.invariant in
-    let hk = key_hash g.H.BuildHasher g.H.Hasher.Hasher g.E.Key.Hash.hash_input cur in
+    let hk = hash_in g.H.Hashes.hash_of cur in
     let hash = λ (e : g.row.E.Denot). hk (g.E.Keyed.key_of e) in
     let up = flag-up c.self.invariant _ c.self.view_is c.requires in
     let l = up-within ws i up in
     let takes = c.in-Ok.ensures.ok in
-    let same = ap (λ s. let h : g.row.E-Key.Denot → ℕ = λ k. hash_of g.H.BuildHasher g.H.Hasher.Hasher s.hasher (g.E.Key.Hash.hash_input k) in h) takes.settings in
+    let same = ap (λ s. let h : g.row.E-Key.Denot → ℕ = λ k. g.H.Hashes.hash_of s.hasher k in h) takes.settings in
     let fewer = one-down ws i l up in
     let none : count_by (λ w. w) (set ws i false) ≡ 0 = omega (arith, fewer, inv.counted, c.if-self-eq0.true) in
     let bare = bare-after hash i c.in-Ok.moved cur c.move_target.new.current ws olds c.move_target.new.old inv.arrays up takes none in
@@ -123,7 +122,7 @@ returns-then-self-eq0-clause-ok g c =
     (relocated-after hash i c.in-Ok.moved cur c.move_target.new.current ws [] olds c.move_target.new.old inv.arrays up takes (last refl none)) in
     let moved = subst (λ (h : g.row.E-Key.Denot → ℕ). IsRelocated i (together hash cur ws olds) (together (λ e. h (g.E.Keyed.key_of e)) c.move_target.new.current [] [])) (sym same) there in
     rw (c.clear.ensures.items, c.replace-bare.ensures.after, c.none-none.ensures)
-    (subst (λ z. IsRelocated i z (together (λ e. key_hash g.H.BuildHasher g.H.Hasher.Hasher g.E.Key.Hash.hash_input c.move_target.new.current (g.E.Keyed.key_of e)) c.move_target.new.current [] [])) c.self.view_is moved)
+    (subst (λ z. IsRelocated i z (together (λ e. hash_in g.H.Hashes.hash_of c.move_target.new.current (g.E.Keyed.key_of e)) c.move_target.new.current [] [])) c.self.view_is moved)
 
 pub returns-else-self-eq0-clause-ok : goal.returns-else-self-eq0-clause-ok
 returns-else-self-eq0-clause-ok g c =
@@ -133,17 +132,17 @@ returns-else-self-eq0-clause-ok g c =
     let olds = t.draining.array in
     let i = c.args.bucket in
     let inv = c.self.invariant in
-    let hk = key_hash g.H.BuildHasher g.H.Hasher.Hasher g.E.Key.Hash.hash_input cur in
+    let hk = hash_in g.H.Hashes.hash_of cur in
     let hash = λ (e : g.row.E.Denot). hk (g.E.Keyed.key_of e) in
     let up = flag-up c.self.invariant _ c.self.view_is c.requires in
     let l = up-within ws i up in
     let takes = c.in-Ok.ensures.ok in
-    let same = ap (λ s. let h : g.row.E-Key.Denot → ℕ = λ k. hash_of g.H.BuildHasher g.H.Hasher.Hasher s.hasher (g.E.Key.Hash.hash_input k) in h) takes.settings in
+    let same = ap (λ s. let h : g.row.E-Key.Denot → ℕ = λ k. g.H.Hashes.hash_of s.hasher k in h) takes.settings in
     let fewer = one-down ws i l up in
     let settles = others refl (omega (arith, fewer, inv.counted, c.if-self-eq0.false)) in
     let there = relocated-after hash i c.in-Ok.moved cur c.move_target.new.current ws (set ws i false) olds c.move_target.new.old inv.arrays up takes settles in
     let moved = subst (λ (h : g.row.E-Key.Denot → ℕ). IsRelocated i (together hash cur ws olds) (together (λ e. h (g.E.Keyed.key_of e)) c.move_target.new.current (set ws i false) c.move_target.new.old)) (sym same) there in
-    subst (λ z. IsRelocated i z (together (λ e. key_hash g.H.BuildHasher g.H.Hasher.Hasher g.E.Key.Hash.hash_input c.move_target.new.current (g.E.Keyed.key_of e)) c.move_target.new.current (set ws i false) c.move_target.new.old)) c.self.view_is moved
+    subst (λ z. IsRelocated i z (together (λ e. hash_in g.H.Hashes.hash_of c.move_target.new.current (g.E.Keyed.key_of e)) c.move_target.new.current (set ws i false) c.move_target.new.old)) c.self.view_is moved
 
 pub returns-in-Err-clause-err : goal.returns-in-Err-clause-err
 returns-in-Err-clause-err g c =
@@ -169,7 +168,7 @@ returns-then-self-eq0-clause-bounded g c =
     let ws = t.draining.waiting.items in
     let olds = t.draining.array in
     let inv = c.self.invariant in
-    let hk = key_hash g.H.BuildHasher g.H.Hasher.Hasher g.E.Key.Hash.hash_input cur in
+    let hk = hash_in g.H.Hashes.hash_of cur in
     let hash = λ (e : g.row.E.Denot). hk (g.E.Keyed.key_of e) in
     let up = flag-up c.self.invariant _ c.self.view_is c.requires in
     let list = list-coming inv _ up c.self.view_is in
@@ -179,7 +178,7 @@ returns-then-self-eq0-clause-bounded g c =
     λ none few.
     let less = short (omega (arith, same, few)) in
     let zero : overflow_of c.move_target.new.current ≡ 0 = omega (arith, was, less, none) in
-    rw (c.clear.ensures.items, c.replace-bare.ensures.after, c.none-none.ensures) (spilled-alone (λ e. key_hash g.H.BuildHasher g.H.Hasher.Hasher g.E.Key.Hash.hash_input c.move_target.new.current (g.E.Keyed.key_of e)) c.move_target.new.current [] ∙ zero)
+    rw (c.clear.ensures.items, c.replace-bare.ensures.after, c.none-none.ensures) (spilled-alone (λ e. hash_in g.H.Hashes.hash_of c.move_target.new.current (g.E.Keyed.key_of e)) c.move_target.new.current [] ∙ zero)
 
 pub returns-else-self-eq0-clause-bounded : goal.returns-else-self-eq0-clause-bounded
 returns-else-self-eq0-clause-bounded g c =
@@ -189,7 +188,7 @@ returns-else-self-eq0-clause-bounded g c =
     let olds = t.draining.array in
     let i = c.args.bucket in
     let inv = c.self.invariant in
-    let hk = key_hash g.H.BuildHasher g.H.Hasher.Hasher g.E.Key.Hash.hash_input cur in
+    let hk = hash_in g.H.Hashes.hash_of cur in
     let hash = λ (e : g.row.E.Denot). hk (g.E.Keyed.key_of e) in
     let up = flag-up c.self.invariant _ c.self.view_is c.requires in
     let list = list-coming inv _ up c.self.view_is in
@@ -201,12 +200,12 @@ returns-else-self-eq0-clause-bounded g c =
     λ none few.
     let less = short (omega (arith, same, few)) in
     let zero : overflow_of c.move_target.new.current + overflow_in c.move_target.new.old ≡ 0 = omega (arith, was, less, left, none) in
-    spilled-together (λ e. key_hash g.H.BuildHasher g.H.Hasher.Hasher g.E.Key.Hash.hash_input c.move_target.new.current (g.E.Keyed.key_of e)) c.move_target.new.current (set ws i false) c.move_target.new.old ∙ zero
+    spilled-together (λ e. hash_in g.H.Hashes.hash_of c.move_target.new.current (g.E.Keyed.key_of e)) c.move_target.new.current (set ws i false) c.move_target.new.old ∙ zero
 
 pub returns-in-Err-clause-bounded : goal.returns-in-Err-clause-bounded
 returns-in-Err-clause-bounded g c =
     let t = c.self.inside in
-    let same : together (λ e. key_hash g.H.BuildHasher g.H.Hasher.Hasher g.E.Key.Hash.hash_input c.move_target.new.current (g.E.Keyed.key_of e)) c.move_target.new.current t.draining.waiting.items c.move_target.new.old ≡ c.args.self.now = rw (c.in-Err.ensures.err, c.in-Err.ensures.stays) c.self.view_is in
+    let same : together (λ e. hash_in g.H.Hashes.hash_of c.move_target.new.current (g.E.Keyed.key_of e)) c.move_target.new.current t.draining.waiting.items c.move_target.new.old ≡ c.args.self.now = rw (c.in-Err.ensures.err, c.in-Err.ensures.stays) c.self.view_is in
     λ none few. ap overflow_of same ∙ none
 
 pub move_target-requires-clause-flags : goal.move_target-requires-clause-flags
@@ -228,18 +227,18 @@ returns-in-Err-clause-unique g c =
     subst (λ (z : Contents g.row.E.Denot g.row.H.Denot). IsUniqueBy g.E.Key.PartialEq.eq g.E.Keyed.key_of z) (sym (returns-in-Err-clause-err g c)) unique
 
 pub returns-then-self-eq0-clause-routed : goal.returns-then-self-eq0-clause-routed
-returns-then-self-eq0-clause-routed g c = routed-seen g.H.BuildHasher g.H.Hasher.Hasher g.E.Key.Hash.hash_input g.E.Keyed.key_of c.self.invariant c.self.view_is c.move_target.ensures.routed
+returns-then-self-eq0-clause-routed g c = routed-seen g.H.Hashes.hash_of g.E.Keyed.key_of c.self.invariant c.self.view_is c.move_target.ensures.routed
 
 pub returns-else-self-eq0-clause-routed : goal.returns-else-self-eq0-clause-routed
-returns-else-self-eq0-clause-routed g c = routed-seen g.H.BuildHasher g.H.Hasher.Hasher g.E.Key.Hash.hash_input g.E.Keyed.key_of c.self.invariant c.self.view_is c.move_target.ensures.routed
+returns-else-self-eq0-clause-routed g c = routed-seen g.H.Hashes.hash_of g.E.Keyed.key_of c.self.invariant c.self.view_is c.move_target.ensures.routed
 
 pub returns-in-Err-clause-routed : goal.returns-in-Err-clause-routed
-returns-in-Err-clause-routed g c = routed-seen g.H.BuildHasher g.H.Hasher.Hasher g.E.Key.Hash.hash_input g.E.Keyed.key_of c.self.invariant c.self.view_is c.move_target.ensures.routed
+returns-in-Err-clause-routed g c = routed-seen g.H.Hashes.hash_of g.E.Keyed.key_of c.self.invariant c.self.view_is c.move_target.ensures.routed
 
 pub returns-then-self-eq0-clause-listed : goal.returns-then-self-eq0-clause-listed
 returns-then-self-eq0-clause-listed g c = λ h.
     let r = returns-then-self-eq0-clause-ok g c in
-    listed-later (λ s (e : g.row.E.Denot). hash_of g.H.BuildHasher g.H.Hasher.Hasher s.hasher (g.E.Key.Hash.hash_input (g.E.Keyed.key_of e))) c.args.self.now _ r.lists r.settings (returns-then-self-eq0-clause-bounded g c h.bounded (h.short c.args.bucket)) h
+    listed-later (λ s (e : g.row.E.Denot). g.H.Hashes.hash_of s.hasher (g.E.Keyed.key_of e)) c.args.self.now _ r.lists r.settings (returns-then-self-eq0-clause-bounded g c h.bounded (h.short c.args.bucket)) h
 
 pub returns-then-self-eq0-clause-not_waiting : goal.returns-then-self-eq0-clause-not_waiting
 returns-then-self-eq0-clause-not_waiting g c = ap (λ w. waits_at w c.args.bucket) (returns-then-self-eq0-clause-ok g c).waiting ∙ settle-here (waiting_of c.args.self.now) c.args.bucket
@@ -250,7 +249,7 @@ returns-then-self-eq0-clause-targets g c = targets-after c.args.bucket c.args.se
 pub returns-else-self-eq0-clause-listed : goal.returns-else-self-eq0-clause-listed
 returns-else-self-eq0-clause-listed g c = λ h.
     let r = returns-else-self-eq0-clause-ok g c in
-    listed-later (λ s (e : g.row.E.Denot). hash_of g.H.BuildHasher g.H.Hasher.Hasher s.hasher (g.E.Key.Hash.hash_input (g.E.Keyed.key_of e))) c.args.self.now _ r.lists r.settings (returns-else-self-eq0-clause-bounded g c h.bounded (h.short c.args.bucket)) h
+    listed-later (λ s (e : g.row.E.Denot). g.H.Hashes.hash_of s.hasher (g.E.Keyed.key_of e)) c.args.self.now _ r.lists r.settings (returns-else-self-eq0-clause-bounded g c h.bounded (h.short c.args.bucket)) h
 
 pub returns-else-self-eq0-clause-not_waiting : goal.returns-else-self-eq0-clause-not_waiting
 returns-else-self-eq0-clause-not_waiting g c = ap (λ w. waits_at w c.args.bucket) (returns-else-self-eq0-clause-ok g c).waiting ∙ settle-here (waiting_of c.args.self.now) c.args.bucket
@@ -259,4 +258,4 @@ pub returns-else-self-eq0-clause-targets : goal.returns-else-self-eq0-clause-tar
 returns-else-self-eq0-clause-targets g c = targets-after c.args.bucket c.args.self.now _ (returns-else-self-eq0-clause-ok g c)
 
 pub returns-in-Err-clause-listed : goal.returns-in-Err-clause-listed
-returns-in-Err-clause-listed g c = λ h. subst (λ (z : Contents g.row.E.Denot g.row.H.Denot). IsListed (λ (e : g.row.E.Denot). key_hash g.H.BuildHasher g.H.Hasher.Hasher g.E.Key.Hash.hash_input z (g.E.Keyed.key_of e)) z) (sym (returns-in-Err-clause-err g c)) h
+returns-in-Err-clause-listed g c = λ h. subst (λ (z : Contents g.row.E.Denot g.row.H.Denot). IsListed (λ (e : g.row.E.Denot). hash_in g.H.Hashes.hash_of z (g.E.Keyed.key_of e)) z) (sym (returns-in-Err-clause-err g c)) h

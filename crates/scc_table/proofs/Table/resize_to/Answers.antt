@@ -1,7 +1,7 @@
 use Rattle.std.proofs.Common.{◌≡◌, ◌∙◌, ℕ, ap, subst, arith, rules}
 use Rattle.std.specs.List.{count_by}
 use Rattle.std.specs.List.Sorted.{IsPermutation}
-use Rattle.scc_common.specs.Contents.{entries, key_hash}
+use Rattle.scc_common.specs.Contents.{entries, hash_in}
 use Rattle.scc_table.proofs.relocations.OneByOne.{pending-is}
 use Rattle.scc_table.proofs.arrays.SameParts.{count-same, entries-same, hash-same, on-ok, on-err, pending-same, regrouped-from, unchanged-same}
 use Rattle.scc_table.proofs.Table.resize_to.Goals as goal
@@ -21,9 +21,9 @@ returns-in-Ok g c =
       lists = (
           let a = c.args.self.now in
           let b = c.finish.new.self in
-          let inner = λ (e : g.row.E.Denot). key_hash g.H.BuildHasher g.H.Hasher.Hasher g.E.Key.Hash.hash_input b (g.E.Keyed.key_of e) in
-          let outer = λ (e : g.row.E.Denot). key_hash g.H.BuildHasher g.H.Hasher.Hasher g.E.Key.Hash.hash_input a (g.E.Keyed.key_of e) in
-          let keys = hash-same g.H.BuildHasher g.H.Hasher.Hasher g.E.Key.Hash.hash_input a b c.finish.ensures.settings in
+          let inner = λ (e : g.row.E.Denot). hash_in g.H.Hashes.hash_of b (g.E.Keyed.key_of e) in
+          let outer = λ (e : g.row.E.Denot). hash_in g.H.Hashes.hash_of a (g.E.Keyed.key_of e) in
+          let keys = hash-same g.H.Hashes.hash_of a b c.finish.ensures.settings in
           let same : inner ≡ outer = ap (λ (h : g.row.E-Key.Denot → ℕ). let f : g.row.E.Denot → ℕ = λ e. h (g.E.Keyed.key_of e) in f) keys in
           on-ok c.install_fresh.result (regrouped-from inner outer c.args.count a b c.install_fresh.new.self same c.finish.ensures.lists c.finish.ensures.settings) c.install_fresh.ensures.lists);
       same = (on-ok c.install_fresh.result (λ p. subst (λ es. IsPermutation es (entries c.install_fresh.new.self)) (entries-same c.args.self.now c.finish.new.self c.finish.ensures.lists) p) c.install_fresh.ensures.same);

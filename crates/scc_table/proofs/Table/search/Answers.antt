@@ -1,7 +1,6 @@
 use Rattle.std.proofs.Common.{◌∙◌, sym, ap, subst, arith}
 use Rattle.std.specs.List.{position}
-use Rattle.scc_common.specs.Contents.{entries, key_hash, pending_of}
-use Rattle.scc_common.specs.Hashing.{hash_of}
+use Rattle.scc_common.specs.Contents.{entries, hash_in, pending_of}
 use Rattle.scc_buckets.proofs.Standing.{along}
 use Rattle.scc_table.specs.Places.{IsFoundAt}
 use Rattle.scc_table.proofs.arrays.JoinedLists.{pending-together}
@@ -17,10 +16,10 @@ search-requires g c =
     let ws = t.draining.waiting.items in
     let olds = t.draining.array in
     let now = c.args.self.now in
-    let hk = key_hash g.H.BuildHasher g.H.Hasher.Hasher g.E.Key.Hash.hash_input cur in
+    let hk = hash_in g.H.Hashes.hash_of cur in
     let hash = λ (e : g.row.E.Denot). hk (g.E.Keyed.key_of e) in
     let set = settings-seen hash cur ws olds now c.self.view_is in
-    c.requires ∙ ap (λ s. hash_of g.H.BuildHasher g.H.Hasher.Hasher s.hasher (g.E.Key.Hash.hash_input c.args.key.now)) (sym set)
+    c.requires ∙ ap (λ s. g.H.Hashes.hash_of s.hasher c.args.key.now) (sym set)
 
 pub returns-then-self-eq0-clause-place : goal.returns-then-self-eq0-clause-place
 returns-then-self-eq0-clause-place g c =
@@ -29,7 +28,7 @@ returns-then-self-eq0-clause-place g c =
     let ws = t.draining.waiting.items in
     let olds = t.draining.array in
     let inv = c.self.invariant in
-    let hk = key_hash g.H.BuildHasher g.H.Hasher.Hasher g.E.Key.Hash.hash_input cur in
+    let hk = hash_in g.H.Hashes.hash_of cur in
     let hash = λ (e : g.row.E.Denot). hk (g.E.Keyed.key_of e) in
     let passes = λ (e : g.row.E.Denot). g.E.Key.PartialEq.eq c.args.key.now (g.E.Keyed.key_of e) in
     let none = inv.none c.if-self-eq0.true in
@@ -43,10 +42,10 @@ search_both-place-requires-clause-pending g c =
     let ws = t.draining.waiting.items in
     let olds = t.draining.array in
     let inv = c.self.invariant in
-    let hk = key_hash g.H.BuildHasher g.H.Hasher.Hasher g.E.Key.Hash.hash_input cur in
+    let hk = hash_in g.H.Hashes.hash_of cur in
     let hash = λ (e : g.row.E.Denot). hk (g.E.Keyed.key_of e) in
     let counted = ap pending_of (sym c.self.view_is) ∙ pending-together hash cur ws olds in
     omega (arith, counted, inv.counted, c.if-self-eq0.false)
 
 pub returns-then-self-eq0-clause-routed : goal.returns-then-self-eq0-clause-routed
-returns-then-self-eq0-clause-routed g c = routed-seen g.H.BuildHasher g.H.Hasher.Hasher g.E.Key.Hash.hash_input g.E.Keyed.key_of c.self.invariant c.self.view_is c.search.ensures.routed
+returns-then-self-eq0-clause-routed g c = routed-seen g.H.Hashes.hash_of g.E.Keyed.key_of c.self.invariant c.self.view_is c.search.ensures.routed

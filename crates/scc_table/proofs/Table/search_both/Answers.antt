@@ -16,12 +16,12 @@ pub search-requires-clause-own : goal.search-requires-clause-own
 search-requires-clause-own g c = rw c.router.ensures (c.self.invariant.arrays.own)
 
 pub search-requires-clause-hashed : goal.search-requires-clause-hashed
-search-requires-clause-hashed g c = rw c.router.ensures (hash-own g.H.BuildHasher g.H.Hasher.Hasher g.E.Key.Hash.hash_input c.self.invariant c.self.view_is c.args.key.now c.requires.hashed)
+search-requires-clause-hashed g c = rw c.router.ensures (hash-own g.H.Hashes.hash_of c.self.invariant c.self.view_is c.args.key.now c.requires.hashed)
 
 pub returns-in-Some-clause-found : goal.returns-in-Some-clause-found
 returns-in-Some-clause-found g c =
     let inv = c.self.invariant in
-    let b = bucket-read g.H.BuildHasher g.H.Hasher.Hasher g.E.Key.Hash.hash_input inv c.self.view_is g.met.E.Key.Hash.respects_eq c.requires.hashed c.requires.pending c.bucket_at-bucket.ensures.value c.bucket_at-bucket.ensures.within (sym c.is_waiting.ensures ∙ c.if-is_waiting.true) in
+    let b = bucket-read g.H.Hashes.hash_of inv c.self.view_is g.met.H.Hashes.respects_eq c.requires.hashed c.requires.pending c.bucket_at-bucket.ensures.value c.bucket_at-bucket.ensures.within (sym c.is_waiting.ensures ∙ c.if-is_waiting.true) in
     let old = c.in-Some.old in
     let q : Place = record { bucket = c.bucket_count-count.result + old.bucket; slot = old.slot } in
     let found = rw c.router.ensures at c.in-Some.ensures in
@@ -39,16 +39,16 @@ returns-in-None-clause-found g c = λ near. absurd (omega (arith, near))
 pub returns-in-None-clause-missed : goal.returns-in-None-clause-missed
 returns-in-None-clause-missed g c =
     let inv = c.self.invariant in
-    let b = bucket-read g.H.BuildHasher g.H.Hasher.Hasher g.E.Key.Hash.hash_input inv c.self.view_is g.met.E.Key.Hash.respects_eq c.requires.hashed c.requires.pending c.bucket_at-bucket.ensures.value c.bucket_at-bucket.ensures.within (sym c.is_waiting.ensures ∙ c.if-is_waiting.true) in
+    let b = bucket-read g.H.Hashes.hash_of inv c.self.view_is g.met.H.Hashes.respects_eq c.requires.hashed c.requires.pending c.bucket_at-bucket.ensures.value c.bucket_at-bucket.ensures.within (sym c.is_waiting.ensures ∙ c.if-is_waiting.true) in
     λ _. missed-there inv c.self.view_is c.bucket_at-bucket.ensures.routed b (rw c.router.ensures at c.in-None.ensures)
 
 pub search_place-requires : goal.search_place-requires
-search_place-requires g c = hash-own g.H.BuildHasher g.H.Hasher.Hasher g.E.Key.Hash.hash_input c.self.invariant c.self.view_is c.args.key.now c.requires.hashed
+search_place-requires g c = hash-own g.H.Hashes.hash_of c.self.invariant c.self.view_is c.args.key.now c.requires.hashed
 
 pub returns-in-Some-search_place-clause-found : goal.returns-in-Some-search_place-clause-found
 returns-in-Some-search_place-clause-found g c =
     let inv = c.self.invariant in
-    let b = bucket-read g.H.BuildHasher g.H.Hasher.Hasher g.E.Key.Hash.hash_input inv c.self.view_is g.met.E.Key.Hash.respects_eq c.requires.hashed c.requires.pending c.bucket_at-bucket.ensures.value c.bucket_at-bucket.ensures.within (sym c.is_waiting.ensures ∙ c.if-is_waiting.false) in
+    let b = bucket-read g.H.Hashes.hash_of inv c.self.view_is g.met.H.Hashes.respects_eq c.requires.hashed c.requires.pending c.bucket_at-bucket.ensures.value c.bucket_at-bucket.ensures.within (sym c.is_waiting.ensures ∙ c.if-is_waiting.false) in
     let passes = λ (e : g.row.E.Denot). g.E.Key.PartialEq.eq c.args.key.now (g.E.Keyed.key_of e) in
     let f = c.in-Some-search_place.ensures in
     λ _. found-here inv c.self.view_is c.bucket_at-bucket.ensures.routed b c.in-Some-search_place.place (f.bucket ∙ sym b.at) (ap (λ k. position passes (list_of c.self.inside.current k)) b.at ∙ f.found)
@@ -56,7 +56,7 @@ returns-in-Some-search_place-clause-found g c =
 pub returns-in-Some-search_place-clause-missed : goal.returns-in-Some-search_place-clause-missed
 returns-in-Some-search_place-clause-missed g c =
     let inv = c.self.invariant in
-    let b = bucket-read g.H.BuildHasher g.H.Hasher.Hasher g.E.Key.Hash.hash_input inv c.self.view_is g.met.E.Key.Hash.respects_eq c.requires.hashed c.requires.pending c.bucket_at-bucket.ensures.value c.bucket_at-bucket.ensures.within (sym c.is_waiting.ensures ∙ c.if-is_waiting.false) in
+    let b = bucket-read g.H.Hashes.hash_of inv c.self.view_is g.met.H.Hashes.respects_eq c.requires.hashed c.requires.pending c.bucket_at-bucket.ensures.value c.bucket_at-bucket.ensures.within (sym c.is_waiting.ensures ∙ c.if-is_waiting.false) in
     λ far. absurd (omega (arith, (c.in-Some-search_place.ensures).bucket, b.at, b.within, c.bucket_count-count.ensures.most, far))
 
 pub returns-in-None-search_place-clause-found : goal.returns-in-None-search_place-clause-found
@@ -65,18 +65,18 @@ returns-in-None-search_place-clause-found g c = λ near. absurd (omega (arith, n
 pub returns-in-None-search_place-clause-missed : goal.returns-in-None-search_place-clause-missed
 returns-in-None-search_place-clause-missed g c =
     let inv = c.self.invariant in
-    let b = bucket-read g.H.BuildHasher g.H.Hasher.Hasher g.E.Key.Hash.hash_input inv c.self.view_is g.met.E.Key.Hash.respects_eq c.requires.hashed c.requires.pending c.bucket_at-bucket.ensures.value c.bucket_at-bucket.ensures.within (sym c.is_waiting.ensures ∙ c.if-is_waiting.false) in
+    let b = bucket-read g.H.Hashes.hash_of inv c.self.view_is g.met.H.Hashes.respects_eq c.requires.hashed c.requires.pending c.bucket_at-bucket.ensures.value c.bucket_at-bucket.ensures.within (sym c.is_waiting.ensures ∙ c.if-is_waiting.false) in
     let passes = λ (e : g.row.E.Denot). g.E.Key.PartialEq.eq c.args.key.now (g.E.Keyed.key_of e) in
     λ _. missed-here inv c.self.view_is c.bucket_at-bucket.ensures.routed b (ap (λ k. position passes (list_of c.self.inside.current k)) b.at ∙ (c.in-None-search_place.ensures).list)
 
 pub returns-in-Some-clause-routed : goal.returns-in-Some-clause-routed
-returns-in-Some-clause-routed g c = routed-seen g.H.BuildHasher g.H.Hasher.Hasher g.E.Key.Hash.hash_input g.E.Keyed.key_of c.self.invariant c.self.view_is c.bucket_count-count.ensures.routed
+returns-in-Some-clause-routed g c = routed-seen g.H.Hashes.hash_of g.E.Keyed.key_of c.self.invariant c.self.view_is c.bucket_count-count.ensures.routed
 
 pub returns-in-None-clause-routed : goal.returns-in-None-clause-routed
-returns-in-None-clause-routed g c = routed-seen g.H.BuildHasher g.H.Hasher.Hasher g.E.Key.Hash.hash_input g.E.Keyed.key_of c.self.invariant c.self.view_is c.bucket_count-count.ensures.routed
+returns-in-None-clause-routed g c = routed-seen g.H.Hashes.hash_of g.E.Keyed.key_of c.self.invariant c.self.view_is c.bucket_count-count.ensures.routed
 
 pub returns-in-Some-search_place-clause-routed : goal.returns-in-Some-search_place-clause-routed
-returns-in-Some-search_place-clause-routed g c = routed-seen g.H.BuildHasher g.H.Hasher.Hasher g.E.Key.Hash.hash_input g.E.Keyed.key_of c.self.invariant c.self.view_is c.bucket_count-count.ensures.routed
+returns-in-Some-search_place-clause-routed g c = routed-seen g.H.Hashes.hash_of g.E.Keyed.key_of c.self.invariant c.self.view_is c.bucket_count-count.ensures.routed
 
 pub returns-in-None-search_place-clause-routed : goal.returns-in-None-search_place-clause-routed
-returns-in-None-search_place-clause-routed g c = routed-seen g.H.BuildHasher g.H.Hasher.Hasher g.E.Key.Hash.hash_input g.E.Keyed.key_of c.self.invariant c.self.view_is c.bucket_count-count.ensures.routed
+returns-in-None-search_place-clause-routed g c = routed-seen g.H.Hashes.hash_of g.E.Keyed.key_of c.self.invariant c.self.view_is c.bucket_count-count.ensures.routed

@@ -1,5 +1,5 @@
 use Rattle.std.proofs.Common.{◌∙◌, ℕ, sym, ap, subst}
-use Rattle.scc_common.specs.Contents.{Settings, key_hash, lists_of, owed_of}
+use Rattle.scc_common.specs.Contents.{Settings, hash_in, lists_of, owed_of}
 use Rattle.scc_draining.specs.Drainings.{draining_of}
 use Rattle.scc_table.specs.TwoArrays.{IsTable, together}
 use Rattle.scc_table.proofs.arrays.JoinedLists.{settings-together, refused-together, waiting-together}
@@ -17,9 +17,9 @@ pub invariant_of-self : goal.invariant_of-self
 invariant_of-self g c =
     let t = c.self.inside in
     let d = c.set_reserved.new.self in
-    let hk = key_hash g.H.BuildHasher g.H.Hasher.Hasher g.E.Key.Hash.hash_input t.current in
+    let hk = hash_in g.H.Hashes.hash_of t.current in
     let e = c.set_reserved.ensures in
-    let same = hash-like g.H.BuildHasher g.H.Hasher.Hasher g.E.Key.Hash.hash_input t.current d (ap (λ s. s.hasher) e.settings) in
+    let same = hash-like g.H.Hashes.hash_of t.current d (ap (λ s. s.hasher) e.settings) in
     let skips = ap (λ s. s.skipped) e.settings in
     subst (λ (h : g.row.E-Key.Denot → ℕ). IsTable g.E.Key.PartialEq.eq g.E.Keyed.key_of h d (draining_of t.draining)) (sym same)
     (fields-kept g.E.Key.PartialEq.eq g.E.Keyed.key_of hk t.current d (draining_of t.draining) e.lists skips e.spilled c.self.invariant)
@@ -28,9 +28,9 @@ pub returns : goal.returns
 returns g c =
     let t = c.self.inside in
     let d = c.set_reserved.new.self in
-    let hk = key_hash g.H.BuildHasher g.H.Hasher.Hasher g.E.Key.Hash.hash_input t.current in
+    let hk = hash_in g.H.Hashes.hash_of t.current in
     let e = c.set_reserved.ensures in
-    let same = hash-like g.H.BuildHasher g.H.Hasher.Hasher g.E.Key.Hash.hash_input t.current d (ap (λ s. s.hasher) e.settings) in
+    let same = hash-like g.H.Hashes.hash_of t.current d (ap (λ s. s.hasher) e.settings) in
     let skips = ap (λ s. s.skipped) e.settings in
     let there = ap (λ (h : g.row.E-Key.Denot → ℕ). lists_of (together (λ e. h (g.E.Keyed.key_of e)) d t.draining.waiting.items t.draining.array)) same ∙ lists-kept (λ e. hk (g.E.Keyed.key_of e)) t.current d t.draining.waiting.items t.draining.array e.lists skips ∙ ap lists_of c.self.view_is in
     record {

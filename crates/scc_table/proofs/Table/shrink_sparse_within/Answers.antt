@@ -1,8 +1,7 @@
 use Rattle.std.proofs.Common.{◌≡◌, ◌∙◌, ℕ, ◌≤◌, ◌<◌, length, refl, sym, subst, arith, rules}
 use Rattle.std.proofs.lemmas.Bool.{true≢false}
 use Rattle.scc_buckets.specs.Bounded.{IsResized, MayShrinkWithin, stays_wide, denied_narrow, narrows}
-use Rattle.scc_common.specs.Contents.{bucket_count, entries, key_hash, minimum_of, settings_of}
-use Rattle.scc_common.specs.Hashing.{hash_of}
+use Rattle.scc_common.specs.Contents.{bucket_count, entries, hash_in, minimum_of, settings_of}
 use Rattle.scc_buckets.specs.Pour.{IsRegrouped, destined_for}
 use Rattle.scc_common.specs.Sizes.{IsBucketCount, IsSmaller}
 use Rattle.scc_buckets.proofs.Powers.{max-array, smaller-to, smaller-only}
@@ -22,7 +21,7 @@ returns-in-Ok-clause-shrinks g c =
     let a = c.args.self.now in
     let d = c.resize_to.new.self in
     let n = c.max-count.result in
-    let hash = λ (e : g.row.E.Denot). key_hash g.H.BuildHasher g.H.Hasher.Hasher g.E.Key.Hash.hash_input c.args.self.now (g.E.Keyed.key_of e) in
+    let hash = λ (e : g.row.E.Denot). hash_in g.H.Hashes.hash_of c.args.self.now (g.E.Keyed.key_of e) in
     let least = rw c.minimum.ensures.value at c.buckets_for.ensures.size in
     let fitting = rw c.len.ensures.len at c.buckets_for-2.ensures.size in
     let made : IsSmaller (minimum_of a) (length (entries a)) (bucket_count a) n =
@@ -44,7 +43,7 @@ returns-in-Ok-clause-listed g c =
     let a = c.args.self.now in
     let d = c.resize_to.new.self in
     let n = c.max-count.result in
-    let hash = λ (e : g.row.E.Denot). key_hash g.H.BuildHasher g.H.Hasher.Hasher g.E.Key.Hash.hash_input c.args.self.now (g.E.Keyed.key_of e) in
+    let hash = λ (e : g.row.E.Denot). hash_in g.H.Hashes.hash_of c.args.self.now (g.E.Keyed.key_of e) in
     let least = rw c.minimum.ensures.value at c.buckets_for.ensures.size in
     let fitting = rw c.len.ensures.len at c.buckets_for-2.ensures.size in
     let made : IsSmaller (minimum_of a) (length (entries a)) (bucket_count a) n =
@@ -59,7 +58,7 @@ returns-in-Ok-clause-listed g c =
       bounded = c.resize_to.ensures.bounded c.requires.listed.bounded (short-listed hash a c.requires.listed);
     } in
     let settings = c.resize_to.ensures.settings in
-    listed-anew (λ s (e : g.row.E.Denot). hash_of g.H.BuildHasher g.H.Hasher.Hasher s.hasher (g.E.Key.Hash.hash_input (g.E.Keyed.key_of e))) a d settings
+    listed-anew (λ s (e : g.row.E.Denot). g.H.Hashes.hash_of s.hasher (g.E.Keyed.key_of e)) a d settings
     (listed-resized hash a d resized (subst (λ m. (i : ℕ) → i < m → length (destined_for hash (settings_of a).skipped m i (entries a)) ≤ 32) (sym size) short))
 
 pub returns-in-Ok-clause-spreads : goal.returns-in-Ok-clause-spreads
@@ -67,7 +66,7 @@ returns-in-Ok-clause-spreads g c =
     let a = c.args.self.now in
     let d = c.resize_to.new.self in
     let n = c.max-count.result in
-    let hash = λ (e : g.row.E.Denot). key_hash g.H.BuildHasher g.H.Hasher.Hasher g.E.Key.Hash.hash_input c.args.self.now (g.E.Keyed.key_of e) in
+    let hash = λ (e : g.row.E.Denot). hash_in g.H.Hashes.hash_of c.args.self.now (g.E.Keyed.key_of e) in
     let least = rw c.minimum.ensures.value at c.buckets_for.ensures.size in
     let fitting = rw c.len.ensures.len at c.buckets_for-2.ensures.size in
     let made : IsSmaller (minimum_of a) (length (entries a)) (bucket_count a) n =
@@ -82,7 +81,7 @@ pub returns-in-Err-clause-shrinks : goal.returns-in-Err-clause-shrinks
 returns-in-Err-clause-shrinks g c =
     let a = c.args.self.now in
     let n = c.max-count.result in
-    let hash = λ (e : g.row.E.Denot). key_hash g.H.BuildHasher g.H.Hasher.Hasher g.E.Key.Hash.hash_input c.args.self.now (g.E.Keyed.key_of e) in
+    let hash = λ (e : g.row.E.Denot). hash_in g.H.Hashes.hash_of c.args.self.now (g.E.Keyed.key_of e) in
     let least = rw c.minimum.ensures.value at c.buckets_for.ensures.size in
     let fitting = rw c.len.ensures.len at c.buckets_for-2.ensures.size in
     let made : IsSmaller (minimum_of a) (length (entries a)) (bucket_count a) n =
@@ -98,14 +97,14 @@ pub returns-in-Err-clause-listed : goal.returns-in-Err-clause-listed
 returns-in-Err-clause-listed g c =
     let a = c.args.self.now in
     let h = c.requires.listed in
-    listed-later (λ s (e : g.row.E.Denot). hash_of g.H.BuildHasher g.H.Hasher.Hasher s.hasher (g.E.Key.Hash.hash_input (g.E.Keyed.key_of e))) a c.resize_to.new.self c.in-Err.ensures.still c.resize_to.ensures.settings (c.resize_to.ensures.bounded h.bounded (short-listed _ a h)) h
+    listed-later (λ s (e : g.row.E.Denot). g.H.Hashes.hash_of s.hasher (g.E.Keyed.key_of e)) a c.resize_to.new.self c.in-Err.ensures.still c.resize_to.ensures.settings (c.resize_to.ensures.bounded h.bounded (short-listed _ a h)) h
 
 pub returns-in-Err-clause-spreads : goal.returns-in-Err-clause-spreads
 returns-in-Err-clause-spreads g c =
     let a = c.args.self.now in
     let d = c.resize_to.new.self in
     let n = c.max-count.result in
-    let hash = λ (e : g.row.E.Denot). key_hash g.H.BuildHasher g.H.Hasher.Hasher g.E.Key.Hash.hash_input c.args.self.now (g.E.Keyed.key_of e) in
+    let hash = λ (e : g.row.E.Denot). hash_in g.H.Hashes.hash_of c.args.self.now (g.E.Keyed.key_of e) in
     let least = rw c.minimum.ensures.value at c.buckets_for.ensures.size in
     let fitting = rw c.len.ensures.len at c.buckets_for-2.ensures.size in
     let made : IsSmaller (minimum_of a) (length (entries a)) (bucket_count a) n =
@@ -119,7 +118,7 @@ returns-in-Err-clause-spreads g c =
 pub returns-then-not-is_short_in-clause-shrinks : goal.returns-then-not-is_short_in-clause-shrinks
 returns-then-not-is_short_in-clause-shrinks g c =
     let a = c.args.self.now in
-    let hash = λ (e : g.row.E.Denot). key_hash g.H.BuildHasher g.H.Hasher.Hasher g.E.Key.Hash.hash_input a (g.E.Keyed.key_of e) in
+    let hash = λ (e : g.row.E.Denot). hash_in g.H.Hashes.hash_of a (g.E.Keyed.key_of e) in
     let least = rw c.minimum.ensures.value at c.buckets_for.ensures.size in
     let fitting = rw c.len.ensures.len at c.buckets_for-2.ensures.size in
     stays_wide (λ m may.

@@ -1,7 +1,6 @@
 use Rattle.std.proofs.Common.{◌≡◌, ℕ, ◌<◌, Some, map, sym, ap, ◌∙◌, subst, arith}
 use Rattle.std.specs.List.{slice_get, IsDistinct}
-use Rattle.scc_common.specs.Contents.{Contents, bucket_count, entries, key_hash, waiting_of, owed_of}
-use Rattle.scc_common.specs.Hashing.{hash_of}
+use Rattle.scc_common.specs.Contents.{Contents, bucket_count, entries, hash_in, waiting_of, owed_of}
 use Rattle.scc_buckets.specs.OneList.{IsSwappedOutOf}
 use Rattle.scc_table.specs.Places.{index_of, spot_of}
 use Rattle.scc_table.specs.Takes.{owed_taken}
@@ -23,7 +22,7 @@ swap_take_at-requires g c =
     let ws = t.draining.waiting.items in
     let olds = t.draining.array in
     let inv = c.self.invariant in
-    let hk = key_hash g.H.BuildHasher g.H.Hasher.Hasher g.E.Key.Hash.hash_input cur in
+    let hk = hash_in g.H.Hashes.hash_of cur in
     let key = g.E.Keyed.key_of in
     let laws = g.met.E.Key.Eq.laws in
     let p = c.args.place in
@@ -43,7 +42,7 @@ invariant_of-self g c =
     let ws = t.draining.waiting.items in
     let olds = t.draining.array in
     let inv = c.self.invariant in
-    let hk = key_hash g.H.BuildHasher g.H.Hasher.Hasher g.E.Key.Hash.hash_input cur in
+    let hk = hash_in g.H.Hashes.hash_of cur in
     let key = g.E.Keyed.key_of in
     let laws = g.met.E.Key.Eq.laws in
     let p = c.args.place in
@@ -55,7 +54,7 @@ invariant_of-self g c =
       | then-self-eq0-via-else-self-eq0+then-place-bucket_count w ↦ omega (arith, count, w.bucket_count.ensures.count, w.if-place-bucket_count.true)
     ] in
     let d = c.swap_take_at.new.self in
-    let same = ap (λ s. let h : g.row.E-Key.Denot → ℕ = λ k. hash_of g.H.BuildHasher g.H.Hasher.Hasher s.hasher (g.E.Key.Hash.hash_input k) in h) c.swap_take_at.ensures.exact.settings in
+    let same = ap (λ s. let h : g.row.E-Key.Denot → ℕ = λ k. g.H.Hashes.hash_of s.hasher k in h) c.swap_take_at.ensures.exact.settings in
     subst (λ (h : g.row.E-Key.Denot → ℕ). IsTable g.E.Key.PartialEq.eq key h d (draining_of t.draining)) (sym same) (own-less_swapped laws inv c.args.place within near d c.swap_take_at.result c.swap_take_at.ensures.entry c.swap_take_at.ensures.exact)
 
 pub returns-then-self-eq0 : goal.returns-then-self-eq0
@@ -65,7 +64,7 @@ returns-then-self-eq0 g c =
     let ws = t.draining.waiting.items in
     let olds = t.draining.array in
     let inv = c.self.invariant in
-    let hk = key_hash g.H.BuildHasher g.H.Hasher.Hasher g.E.Key.Hash.hash_input cur in
+    let hk = hash_in g.H.Hashes.hash_of cur in
     let key = g.E.Keyed.key_of in
     let laws = g.met.E.Key.Eq.laws in
     let p = c.args.place in
@@ -78,10 +77,10 @@ returns-then-self-eq0 g c =
     ] in
     let there = subst (λ (z : Contents g.row.E.Denot g.row.H.Denot). slice_get (entries z) (index_of z p) ≡ Some c.swap_take_at.result) view (own-got laws inv c.args.place within near c.swap_take_at.result c.swap_take_at.ensures.entry) in
     let d = c.swap_take_at.new.self in
-    let same = ap (λ s. let h : g.row.E-Key.Denot → ℕ = λ k. hash_of g.H.BuildHasher g.H.Hasher.Hasher s.hasher (g.E.Key.Hash.hash_input k) in h) c.swap_take_at.ensures.exact.settings in
+    let same = ap (λ s. let h : g.row.E-Key.Denot → ℕ = λ k. g.H.Hashes.hash_of s.hasher k in h) c.swap_take_at.ensures.exact.settings in
     let now = c.args.self.now in
     let q = spot_of now p in
-    let after = together (λ e. key_hash g.H.BuildHasher g.H.Hasher.Hasher g.E.Key.Hash.hash_input d (key e)) d ws olds in
+    let after = together (λ e. hash_in g.H.Hashes.hash_of d (key e)) d ws olds in
     let first = subst (λ (h : g.row.E-Key.Denot → ℕ). IsSwappedOutOf (together (λ e. hk (key e)) cur ws olds) (spot_of (together (λ e. hk (key e)) cur ws olds) p) (together (λ e. h (key e)) d ws olds)) (sym same) (own-swapped laws inv c.args.place within near d c.swap_take_at.ensures.exact) in
     let taken = subst (λ (z : Contents g.row.E.Denot g.row.H.Denot). IsSwappedOutOf z (spot_of z p) after) view first in
     record {
@@ -92,7 +91,7 @@ returns-then-self-eq0 g c =
       settings = taken.settings;
       waiting = (
           let old_waiting = ap waiting_of (sym view) ∙ waiting-together (λ e. hk (key e)) cur ws olds in
-          waiting-together (λ e. key_hash g.H.BuildHasher g.H.Hasher.Hasher g.E.Key.Hash.hash_input d (key e)) d ws olds ∙ sym old_waiting);
+          waiting-together (λ e. hash_in g.H.Hashes.hash_of d (key e)) d ws olds ∙ sym old_waiting);
       owed = (ap (λ (h : g.row.E-Key.Denot → ℕ). owed_of (together (λ e. h (key e)) d ws olds)) same ∙ own-owed_kept laws inv c.args.place within near d c.swap_take_at.ensures.exact.left c.swap_take_at.ensures.exact.lists c.swap_take_at.ensures.exact.settings ∙ ap (λ (z : Contents g.row.E.Denot g.row.H.Denot). owed_taken (bucket_count z) (owed_of z) p) view);
       exact = taken;
       unique = (

@@ -1,7 +1,7 @@
 use Rattle.std.proofs.Common.{◌-◌, ◌≤◌, ◌<◌, List, length, sym, subst, arith}
 use Rattle.scc_array.specs.Shelves.{shelf_of}
 use Rattle.scc_array.specs.Shelf.{Shelf, shelf_entries}
-use Rattle.scc_common.specs.Contents.{Contents, bucket_count, key_hash}
+use Rattle.scc_common.specs.Contents.{Contents, bucket_count, hash_in}
 use Rattle.scc_buckets.specs.Placed.{at, at-get}
 use Rattle.scc_table.specs.Removals.{SwapTakesAt}
 use Rattle.scc_draining.specs.Drainings.{draining_of}
@@ -37,7 +37,7 @@ overflow_sub-self g c =
     let t = c.self.inside in
     let cur = t.current in
     let inv = c.self.invariant in
-    let hk = key_hash g.H.BuildHasher g.H.Hasher.Hasher g.E.Key.Hash.hash_input cur in
+    let hk = hash_in g.H.Hashes.hash_of cur in
     let key = g.E.Keyed.key_of in
     let p = c.args.place in
     let view = c.self.view_is in
@@ -56,7 +56,7 @@ overflow_sub-place g c =
     let t = c.self.inside in
     let cur = t.current in
     let inv = c.self.invariant in
-    let hk = key_hash g.H.BuildHasher g.H.Hasher.Hasher g.E.Key.Hash.hash_input cur in
+    let hk = hash_in g.H.Hashes.hash_of cur in
     let key = g.E.Keyed.key_of in
     let p = c.args.place in
     let view = c.self.view_is in
@@ -70,7 +70,7 @@ swap_remove_at-requires-clause-bucket g c =
     let t = c.self.inside in
     let cur = t.current in
     let inv = c.self.invariant in
-    let hk = key_hash g.H.BuildHasher g.H.Hasher.Hasher g.E.Key.Hash.hash_input cur in
+    let hk = hash_in g.H.Hashes.hash_of cur in
     let key = g.E.Keyed.key_of in
     let p = c.args.place in
     let view = c.self.view_is in
@@ -85,7 +85,7 @@ swap_remove_at-requires-clause-slot g c =
     let t = c.self.inside in
     let cur = t.current in
     let inv = c.self.invariant in
-    let hk = key_hash g.H.BuildHasher g.H.Hasher.Hasher g.E.Key.Hash.hash_input cur in
+    let hk = hash_in g.H.Hashes.hash_of cur in
     let key = g.E.Keyed.key_of in
     let p = c.args.place in
     let view = c.self.view_is in
@@ -100,7 +100,7 @@ invariant_of-self g c =
     let t = c.self.inside in
     let cur = t.current in
     let inv = c.self.invariant in
-    let hk = key_hash g.H.BuildHasher g.H.Hasher.Hasher g.E.Key.Hash.hash_input cur in
+    let hk = hash_in g.H.Hashes.hash_of cur in
     let key = g.E.Keyed.key_of in
     let p = c.args.place in
     let view = c.self.view_is in
@@ -121,7 +121,7 @@ returns g c =
     let t = c.self.inside in
     let cur = t.current in
     let inv = c.self.invariant in
-    let hk = key_hash g.H.BuildHasher g.H.Hasher.Hasher g.E.Key.Hash.hash_input cur in
+    let hk = hash_in g.H.Hashes.hash_of cur in
     let key = g.E.Keyed.key_of in
     let p = c.args.place in
     let view = c.self.view_is in

@@ -1,7 +1,6 @@
 use Rattle.std.proofs.Common.{◌≡◌, ℕ, ◌<◌, Some, map, sym, ap, ◌∙◌, subst, arith}
 use Rattle.std.specs.List.{remove, slice_get, IsDistinct}
-use Rattle.scc_common.specs.Contents.{Contents, bucket_count, entries, list_of, key_hash, waiting_of, owed_of}
-use Rattle.scc_common.specs.Hashing.{hash_of}
+use Rattle.scc_common.specs.Contents.{Contents, bucket_count, entries, list_of, hash_in, waiting_of, owed_of}
 use Rattle.scc_buckets.specs.OneList.{IsTakenFrom}
 use Rattle.scc_table.specs.Places.{index_of, spot_of}
 use Rattle.scc_table.specs.Takes.{owed_taken}
@@ -20,7 +19,7 @@ take_in-requires g c =
     let ws = t.draining.waiting.items in
     let olds = t.draining.array in
     let inv = c.self.invariant in
-    let hk = key_hash g.H.BuildHasher g.H.Hasher.Hasher g.E.Key.Hash.hash_input cur in
+    let hk = hash_in g.H.Hashes.hash_of cur in
     let key = g.E.Keyed.key_of in
     let laws = g.met.E.Key.Eq.laws in
     let p = c.args.place in
@@ -37,7 +36,7 @@ invariant_of-self g c =
     let ws = t.draining.waiting.items in
     let olds = t.draining.array in
     let inv = c.self.invariant in
-    let hk = key_hash g.H.BuildHasher g.H.Hasher.Hasher g.E.Key.Hash.hash_input cur in
+    let hk = hash_in g.H.Hashes.hash_of cur in
     let key = g.E.Keyed.key_of in
     let laws = g.met.E.Key.Eq.laws in
     let p = c.args.place in
@@ -46,7 +45,7 @@ invariant_of-self g c =
     let count = c.bucket_count.ensures.count in
     let near : p.bucket < bucket_count cur = omega (arith, count, c.if-place-bucket_count.true, count-seen (λ e. hk (key e)) cur ws olds c.args.self.now view inv.arrays.flags) in
     let d = c.take_in.new.self in
-    let same = ap (λ s. let h : g.row.E-Key.Denot → ℕ = λ k. hash_of g.H.BuildHasher g.H.Hasher.Hasher s.hasher (g.E.Key.Hash.hash_input k) in h) c.take_in.ensures.exact.settings in
+    let same = ap (λ s. let h : g.row.E-Key.Denot → ℕ = λ k. g.H.Hashes.hash_of s.hasher k in h) c.take_in.ensures.exact.settings in
     subst (λ (h : g.row.E-Key.Denot → ℕ). IsTable g.E.Key.PartialEq.eq key h d (draining_of t.draining)) (sym same) (own-less laws inv c.args.place within near d c.take_in.result c.take_in.ensures.entry c.take_in.ensures.exact)
 
 pub returns-then-place-bucket_count-clause-entry : goal.returns-then-place-bucket_count-clause-entry
@@ -56,7 +55,7 @@ returns-then-place-bucket_count-clause-entry g c =
     let ws = t.draining.waiting.items in
     let olds = t.draining.array in
     let inv = c.self.invariant in
-    let hk = key_hash g.H.BuildHasher g.H.Hasher.Hasher g.E.Key.Hash.hash_input cur in
+    let hk = hash_in g.H.Hashes.hash_of cur in
     let key = g.E.Keyed.key_of in
     let laws = g.met.E.Key.Eq.laws in
     let p = c.args.place in
@@ -73,12 +72,12 @@ returns-then-place-bucket_count-clause-waiting g c =
     let cur = t.current in
     let ws = t.draining.waiting.items in
     let olds = t.draining.array in
-    let hk = key_hash g.H.BuildHasher g.H.Hasher.Hasher g.E.Key.Hash.hash_input cur in
+    let hk = hash_in g.H.Hashes.hash_of cur in
     let key = g.E.Keyed.key_of in
     let view = c.self.view_is in
     let old_waiting = ap waiting_of (sym view) ∙ waiting-together (λ e. hk (key e)) cur ws olds in
     let d = c.take_in.new.self in
-    waiting-together (λ e. key_hash g.H.BuildHasher g.H.Hasher.Hasher g.E.Key.Hash.hash_input d (key e)) d ws olds ∙ sym old_waiting
+    waiting-together (λ e. hash_in g.H.Hashes.hash_of d (key e)) d ws olds ∙ sym old_waiting
 
 pub returns-then-place-bucket_count-clause-owed : goal.returns-then-place-bucket_count-clause-owed
 returns-then-place-bucket_count-clause-owed g c =
@@ -87,7 +86,7 @@ returns-then-place-bucket_count-clause-owed g c =
     let ws = t.draining.waiting.items in
     let olds = t.draining.array in
     let inv = c.self.invariant in
-    let hk = key_hash g.H.BuildHasher g.H.Hasher.Hasher g.E.Key.Hash.hash_input cur in
+    let hk = hash_in g.H.Hashes.hash_of cur in
     let key = g.E.Keyed.key_of in
     let laws = g.met.E.Key.Eq.laws in
     let p = c.args.place in
@@ -96,7 +95,7 @@ returns-then-place-bucket_count-clause-owed g c =
     let count = c.bucket_count.ensures.count in
     let near : p.bucket < bucket_count cur = omega (arith, count, c.if-place-bucket_count.true, count-seen (λ e. hk (key e)) cur ws olds c.args.self.now view inv.arrays.flags) in
     let d = c.take_in.new.self in
-    let same = ap (λ s. let h : g.row.E-Key.Denot → ℕ = λ k. hash_of g.H.BuildHasher g.H.Hasher.Hasher s.hasher (g.E.Key.Hash.hash_input k) in h) c.take_in.ensures.exact.settings in
+    let same = ap (λ s. let h : g.row.E-Key.Denot → ℕ = λ k. g.H.Hashes.hash_of s.hasher k in h) c.take_in.ensures.exact.settings in
     ap (λ (h : g.row.E-Key.Denot → ℕ). owed_of (together (λ e. h (key e)) d ws olds)) same ∙ own-owed_kept laws inv c.args.place within near d (remove (list_of cur p.bucket) p.slot) c.take_in.ensures.exact.lists c.take_in.ensures.exact.settings ∙ ap (λ (z : Contents g.row.E.Denot g.row.H.Denot). owed_taken (bucket_count z) (owed_of z) p) view
 
 pub returns-then-place-bucket_count-clause-exact : goal.returns-then-place-bucket_count-clause-exact
@@ -106,7 +105,7 @@ returns-then-place-bucket_count-clause-exact g c =
     let ws = t.draining.waiting.items in
     let olds = t.draining.array in
     let inv = c.self.invariant in
-    let hk = key_hash g.H.BuildHasher g.H.Hasher.Hasher g.E.Key.Hash.hash_input cur in
+    let hk = hash_in g.H.Hashes.hash_of cur in
     let key = g.E.Keyed.key_of in
     let laws = g.met.E.Key.Eq.laws in
     let p = c.args.place in
@@ -115,8 +114,8 @@ returns-then-place-bucket_count-clause-exact g c =
     let count = c.bucket_count.ensures.count in
     let near : p.bucket < bucket_count cur = omega (arith, count, c.if-place-bucket_count.true, count-seen (λ e. hk (key e)) cur ws olds c.args.self.now view inv.arrays.flags) in
     let d = c.take_in.new.self in
-    let same = ap (λ s. let h : g.row.E-Key.Denot → ℕ = λ k. hash_of g.H.BuildHasher g.H.Hasher.Hasher s.hasher (g.E.Key.Hash.hash_input k) in h) c.take_in.ensures.exact.settings in
-    let after = together (λ e. key_hash g.H.BuildHasher g.H.Hasher.Hasher g.E.Key.Hash.hash_input d (key e)) d ws olds in
+    let same = ap (λ s. let h : g.row.E-Key.Denot → ℕ = λ k. g.H.Hashes.hash_of s.hasher k in h) c.take_in.ensures.exact.settings in
+    let after = together (λ e. hash_in g.H.Hashes.hash_of d (key e)) d ws olds in
     let first = subst (λ (h : g.row.E-Key.Denot → ℕ). IsTakenFrom (together (λ e. hk (key e)) cur ws olds) (spot_of (together (λ e. hk (key e)) cur ws olds) p) (together (λ e. h (key e)) d ws olds)) (sym same) (own-taken laws inv c.args.place within near d c.take_in.ensures.exact) in
     let taken = subst (λ (z : Contents g.row.E.Denot g.row.H.Denot). IsTakenFrom z (spot_of z p) after) view first in
     taken

@@ -1,6 +1,5 @@
 use Rattle.std.proofs.Common.{◌≡◌, ◌∙◌, true, sym, ap, subst, arith}
 use Rattle.scc_common.specs.Contents.{Contents, Settings, settings_of}
-use Rattle.scc_common.specs.Hashing.{hash_of}
 use Rattle.scc_draining.specs.Drainings.{draining_of}
 use Rattle.scc_table.specs.Removals.{SwapTakesFirst}
 use Rattle.scc_table.specs.TwoArrays.{together, IsWaiting}
@@ -13,14 +12,14 @@ pub is_waiting-requires : goal.is_waiting-requires
 is_waiting-requires g c = index-within c.self.invariant c.self.view_is c.requires.pending (count-within c.self.invariant c.self.view_is c.bucket_at-bucket.ensures.within)
 
 pub take_first-requires : goal.take_first-requires
-take_first-requires g c = hash-own g.H.BuildHasher g.H.Hasher.Hasher g.E.Key.Hash.hash_input c.self.invariant c.self.view_is c.args.key.now c.requires.hashed
+take_first-requires g c = hash-own g.H.Hashes.hash_of c.self.invariant c.self.view_is c.args.key.now c.requires.hashed
 
 pub invariant_of-self : goal.invariant_of-self
 invariant_of-self g c =
     let inv = c.self.invariant in
-    let routed = routed-own-hash g.H.BuildHasher g.H.Hasher.Hasher g.E.Key.Hash.hash_input inv c.self.view_is c.bucket_at-bucket.ensures.routed in
-    let b = bucket-read g.H.BuildHasher g.H.Hasher.Hasher g.E.Key.Hash.hash_input inv c.self.view_is g.met.E.Key.Hash.respects_eq c.requires.hashed c.requires.pending (routed-own inv c.args.hash c.self.view_is c.bucket_at-bucket.ensures.value) (count-within inv c.self.view_is c.bucket_at-bucket.ensures.within) (sym c.is_waiting.ensures ∙ c.if-not-is_waiting.true) in
-    let hash_for = λ (s : Settings g.row.H.Denot) (k : g.row.E-Key.Denot). hash_of g.H.BuildHasher g.H.Hasher.Hasher s.hasher (g.E.Key.Hash.hash_input k) in
+    let routed = routed-own-hash g.H.Hashes.hash_of inv c.self.view_is c.bucket_at-bucket.ensures.routed in
+    let b = bucket-read g.H.Hashes.hash_of inv c.self.view_is g.met.H.Hashes.respects_eq c.requires.hashed c.requires.pending (routed-own inv c.args.hash c.self.view_is c.bucket_at-bucket.ensures.value) (count-within inv c.self.view_is c.bucket_at-bucket.ensures.within) (sym c.is_waiting.ensures ∙ c.if-not-is_waiting.true) in
+    let hash_for = λ (s : Settings g.row.H.Denot) (k : g.row.E-Key.Denot). g.H.Hashes.hash_of s.hasher k in
     let passes = λ (e : g.row.E.Denot). g.E.Key.PartialEq.eq c.args.key.now (g.E.Keyed.key_of e) in
     let d = c.take_first.new.self in
     down-left g.E.Keyed.key_of passes g.met.E.Key.Eq.laws hash_for c.self.inside.current d (draining_of c.self.inside.draining) inv routed c.args.hash c.bucket_at-bucket.result b.same b.at b.within b.flag c.take_first.result c.take_first.ensures
@@ -28,9 +27,9 @@ invariant_of-self g c =
 pub returns-then-not-is_waiting : goal.returns-then-not-is_waiting
 returns-then-not-is_waiting g c =
     let inv = c.self.invariant in
-    let routed = routed-own-hash g.H.BuildHasher g.H.Hasher.Hasher g.E.Key.Hash.hash_input inv c.self.view_is c.bucket_at-bucket.ensures.routed in
-    let b = bucket-read g.H.BuildHasher g.H.Hasher.Hasher g.E.Key.Hash.hash_input inv c.self.view_is g.met.E.Key.Hash.respects_eq c.requires.hashed c.requires.pending (routed-own inv c.args.hash c.self.view_is c.bucket_at-bucket.ensures.value) (count-within inv c.self.view_is c.bucket_at-bucket.ensures.within) (sym c.is_waiting.ensures ∙ c.if-not-is_waiting.true) in
-    let hash_for = λ (s : Settings g.row.H.Denot) (k : g.row.E-Key.Denot). hash_of g.H.BuildHasher g.H.Hasher.Hasher s.hasher (g.E.Key.Hash.hash_input k) in
+    let routed = routed-own-hash g.H.Hashes.hash_of inv c.self.view_is c.bucket_at-bucket.ensures.routed in
+    let b = bucket-read g.H.Hashes.hash_of inv c.self.view_is g.met.H.Hashes.respects_eq c.requires.hashed c.requires.pending (routed-own inv c.args.hash c.self.view_is c.bucket_at-bucket.ensures.value) (count-within inv c.self.view_is c.bucket_at-bucket.ensures.within) (sym c.is_waiting.ensures ∙ c.if-not-is_waiting.true) in
+    let hash_for = λ (s : Settings g.row.H.Denot) (k : g.row.E-Key.Denot). g.H.Hashes.hash_of s.hasher k in
     let passes = λ (e : g.row.E.Denot). g.E.Key.PartialEq.eq c.args.key.now (g.E.Keyed.key_of e) in
     let d = c.take_first.new.self in
     let new = together (λ (e : g.row.E.Denot). hash_for (settings_of d) (g.E.Keyed.key_of e)) d c.self.inside.draining.waiting.items c.self.inside.draining.array in

@@ -1,7 +1,7 @@
 use Rattle.std.proofs.Common.{◌∙◌, ◌-◌, ◌<◌, length, sym, ap, subst, arith}
 use Rattle.scc_array.specs.Shelves.{shelf_of}
 use Rattle.scc_array.specs.Shelf.{shelf_entries}
-use Rattle.scc_common.specs.Contents.{bucket_count, key_hash, settings_of}
+use Rattle.scc_common.specs.Contents.{bucket_count, hash_in, settings_of}
 use Rattle.scc_common.specs.Routing.{bucket_number}
 use Rattle.scc_table.specs.Places.{spot_of}
 use Rattle.scc_table.proofs.places.NextPlaces.{NextStart, old-next, own-next, slot-below, few-entries}
@@ -16,7 +16,7 @@ returns-then-place-count-clause-value g c =
     let ws = t.draining.waiting.items in
     let olds = t.draining.array in
     let inv = c.self.invariant in
-    let hk = key_hash g.H.BuildHasher g.H.Hasher.Hasher g.E.Key.Hash.hash_input cur in
+    let hk = hash_in g.H.Hashes.hash_of cur in
     let hash = λ (e : g.row.E.Denot). hk (g.E.Keyed.key_of e) in
     let p = c.args.place in
     let at = own-here c.self.invariant c.args.place c.self.view_is c.requires (omega (arith, c.bucket_count-count.ensures.count)) in
@@ -29,7 +29,7 @@ returns-then-place-count-clause-next g c =
     let ws = t.draining.waiting.items in
     let olds = t.draining.array in
     let inv = c.self.invariant in
-    let hk = key_hash g.H.BuildHasher g.H.Hasher.Hasher g.E.Key.Hash.hash_input cur in
+    let hk = hash_in g.H.Hashes.hash_of cur in
     let hash = λ (e : g.row.E.Denot). hk (g.E.Keyed.key_of e) in
     let p = c.args.place in
     let at = own-here c.self.invariant c.args.place c.self.view_is c.requires (omega (arith, c.bucket_count-count.ensures.count)) in
@@ -43,7 +43,7 @@ returns-then-place-count-clause-index g c =
     let ws = t.draining.waiting.items in
     let olds = t.draining.array in
     let inv = c.self.invariant in
-    let hk = key_hash g.H.BuildHasher g.H.Hasher.Hasher g.E.Key.Hash.hash_input cur in
+    let hk = hash_in g.H.Hashes.hash_of cur in
     let hash = λ (e : g.row.E.Denot). hk (g.E.Keyed.key_of e) in
     let p = c.args.place in
     let at = own-here c.self.invariant c.args.place c.self.view_is c.requires (omega (arith, c.bucket_count-count.ensures.count)) in
@@ -86,7 +86,7 @@ returns-clause-value g c =
     let ws = t.draining.waiting.items in
     let olds = t.draining.array in
     let inv = c.self.invariant in
-    let hk = key_hash g.H.BuildHasher g.H.Hasher.Hasher g.E.Key.Hash.hash_input cur in
+    let hk = hash_in g.H.Hashes.hash_of cur in
     let hash = λ (e : g.row.E.Denot). hk (g.E.Keyed.key_of e) in
     let p = c.args.place in
     let at = old-here c.self.invariant c.args.place c.self.view_is c.requires c.bucket_count-count.result c.bucket_count-count.ensures.count c.if-place-count.false in
@@ -105,7 +105,7 @@ returns-clause-next g c =
     let olds = t.draining.array in
     let inv = c.self.invariant in
     let now = c.args.self.now in
-    let hk = key_hash g.H.BuildHasher g.H.Hasher.Hasher g.E.Key.Hash.hash_input cur in
+    let hk = hash_in g.H.Hashes.hash_of cur in
     let hash = λ (e : g.row.E.Denot). hk (g.E.Keyed.key_of e) in
     let p = c.args.place in
     let at = old-here c.self.invariant c.args.place c.self.view_is c.requires c.bucket_count-count.result c.bucket_count-count.ensures.count c.if-place-count.false in
@@ -125,7 +125,7 @@ returns-clause-index g c =
     let olds = t.draining.array in
     let inv = c.self.invariant in
     let now = c.args.self.now in
-    let hk = key_hash g.H.BuildHasher g.H.Hasher.Hasher g.E.Key.Hash.hash_input cur in
+    let hk = hash_in g.H.Hashes.hash_of cur in
     let hash = λ (e : g.row.E.Denot). hk (g.E.Keyed.key_of e) in
     let p = c.args.place in
     let at = old-here c.self.invariant c.args.place c.self.view_is c.requires c.bucket_count-count.result c.bucket_count-count.ensures.count c.if-place-count.false in
@@ -144,7 +144,7 @@ returns-clause-within g c =
     let ws = t.draining.waiting.items in
     let olds = t.draining.array in
     let inv = c.self.invariant in
-    let hk = key_hash g.H.BuildHasher g.H.Hasher.Hasher g.E.Key.Hash.hash_input cur in
+    let hk = hash_in g.H.Hashes.hash_of cur in
     let hash = λ (e : g.row.E.Denot). hk (g.E.Keyed.key_of e) in
     let count = count-own c.self.invariant c.self.view_is in
     let p = c.args.place in
@@ -162,7 +162,7 @@ returns-clause-small g c =
     let cur = t.current in
     let olds = t.draining.array in
     let inv = c.self.invariant in
-    let hk = key_hash g.H.BuildHasher g.H.Hasher.Hasher g.E.Key.Hash.hash_input cur in
+    let hk = hash_in g.H.Hashes.hash_of cur in
     let hash = λ (e : g.row.E.Denot). hk (g.E.Keyed.key_of e) in
     let p = c.args.place in
     let at = old-here c.self.invariant c.args.place c.self.view_is c.requires c.bucket_count-count.result c.bucket_count-count.ensures.count c.if-place-count.false in

@@ -1,8 +1,7 @@
 use Rattle.std.proofs.Common.{◌≡◌, ℕ, ◌+◌, ◌^◌, ◌<◌, ◌∷◌, ◌++◌, Some, [], length, map, sym, ap, ◌∙◌, subst, arith}
 use Rattle.std.specs.List.{remove, slice_get, slice_set, IsDistinct}
 use Rattle.scc_buckets.specs.Bounded.{HasList, IsBounded, IsListed}
-use Rattle.scc_common.specs.Contents.{Contents, bucket_count, entries, owed_of, key_hash, list_of, lists_of, overflow_of}
-use Rattle.scc_common.specs.Hashing.{hash_of}
+use Rattle.scc_common.specs.Contents.{Contents, bucket_count, entries, owed_of, hash_in, list_of, lists_of, overflow_of}
 use Rattle.scc_draining.specs.Drainings.{draining_of}
 use Rattle.scc_table.specs.TwoArrays.{together, IsTable}
 use Rattle.scc_table.proofs.arrays.CurrentChanges.{own-fields, own-owed, own-list}
@@ -23,7 +22,7 @@ touch-requires-clause-slot g c =
     let cur = t.current in
     let ws = t.draining.waiting.items in
     let olds = t.draining.array in
-    let hk = key_hash g.H.BuildHasher g.H.Hasher.Hasher g.E.Key.Hash.hash_input cur in
+    let hk = hash_in g.H.Hashes.hash_of cur in
     let key = g.E.Keyed.key_of in
     let view = c.self.view_is in
     let i = c.args.bucket in
@@ -43,7 +42,7 @@ touch-requires-clause-bounded g c =
     let cur = t.current in
     let ws = t.draining.waiting.items in
     let olds = t.draining.array in
-    let hk = key_hash g.H.BuildHasher g.H.Hasher.Hasher g.E.Key.Hash.hash_input cur in
+    let hk = hash_in g.H.Hashes.hash_of cur in
     let key = g.E.Keyed.key_of in
     let view = c.self.view_is in
     let i = c.args.bucket in
@@ -59,7 +58,7 @@ touch-requires-clause-hashed g c =
     let cur = t.current in
     let ws = t.draining.waiting.items in
     let olds = t.draining.array in
-    let hk = key_hash g.H.BuildHasher g.H.Hasher.Hasher g.E.Key.Hash.hash_input cur in
+    let hk = hash_in g.H.Hashes.hash_of cur in
     let key = g.E.Keyed.key_of in
     let view = c.self.view_is in
     let now = c.args.self.now in
@@ -68,7 +67,7 @@ touch-requires-clause-hashed g c =
     let down = flag-free c.self.invariant _ c.self.view_is c.requires.not_waiting in
     let set = settings-seen hash cur ws olds now view in
     let here = ap (λ z. list_of z i) (sym view) ∙ own-list hash cur ws olds i down in
-    λ e got. c.requires.hashed e (ap (λ z. slice_get z c.args.slot) here ∙ got) ∙ ap (λ s. hash_of g.H.BuildHasher g.H.Hasher.Hasher s.hasher (g.E.Key.Hash.hash_input (key e))) (sym set)
+    λ e got. c.requires.hashed e (ap (λ z. slice_get z c.args.slot) here ∙ got) ∙ ap (λ s. g.H.Hashes.hash_of s.hasher (key e)) (sym set)
 
 pub invariant_of-self : goal.invariant_of-self
 invariant_of-self g c =
@@ -77,7 +76,7 @@ invariant_of-self g c =
     let ws = t.draining.waiting.items in
     let olds = t.draining.array in
     let inv = c.self.invariant in
-    let hk = key_hash g.H.BuildHasher g.H.Hasher.Hasher g.E.Key.Hash.hash_input cur in
+    let hk = hash_in g.H.Hashes.hash_of cur in
     let key = g.E.Keyed.key_of in
     let laws = g.met.E.Key.Eq.laws in
     let view = c.self.view_is in
@@ -90,7 +89,7 @@ invariant_of-self g c =
     let x = c.touch.ensures.list in
     let changed = x.2 in
     let stay = changed.settings in
-    let same = ap (λ s. let h : g.row.E-Key.Denot → ℕ = λ k. hash_of g.H.BuildHasher g.H.Hasher.Hasher s.hasher (g.E.Key.Hash.hash_input k) in h) stay in
+    let same = ap (λ s. let h : g.row.E-Key.Denot → ℕ = λ k. g.H.Hashes.hash_of s.hasher k in h) stay in
     let v = together hash d ws olds in
     let first = own-has_list hash cur d ws olds i down bounded (remove (list_of cur i) c.args.slot ++ x.0 ∷ []) changed in
     let own = own-list hash cur ws olds i down in
@@ -107,7 +106,7 @@ returns g c =
     let cur = t.current in
     let ws = t.draining.waiting.items in
     let olds = t.draining.array in
-    let hk = key_hash g.H.BuildHasher g.H.Hasher.Hasher g.E.Key.Hash.hash_input cur in
+    let hk = hash_in g.H.Hashes.hash_of cur in
     let key = g.E.Keyed.key_of in
     let view = c.self.view_is in
     let now = c.args.self.now in
@@ -119,12 +118,12 @@ returns g c =
     let here = ap (λ z. list_of z i) (sym view) ∙ own-list hash cur ws olds i down in
     let bounded : IsBounded u = subst (λ (z : Contents g.row.E.Denot g.row.H.Denot). IsBounded z) (sym view) c.requires.bounded in
     let d = c.touch.new.self in
-    let after = together (λ e. key_hash g.H.BuildHasher g.H.Hasher.Hasher g.E.Key.Hash.hash_input d (key e)) d ws olds in
+    let after = together (λ e. hash_in g.H.Hashes.hash_of d (key e)) d ws olds in
     let inv = c.self.invariant in
     let x = c.touch.ensures.list in
     let changed = x.2 in
     let stay = changed.settings in
-    let same = ap (λ s. let h : g.row.E-Key.Denot → ℕ = λ k. hash_of g.H.BuildHasher g.H.Hasher.Hasher s.hasher (g.E.Key.Hash.hash_input k) in h) stay in
+    let same = ap (λ s. let h : g.row.E-Key.Denot → ℕ = λ k. g.H.Hashes.hash_of s.hasher k in h) stay in
     let first = own-has_list hash cur d ws olds i down bounded (remove (list_of cur i) c.args.slot ++ x.0 ∷ []) changed in
     let moved = subst (λ (h : g.row.E-Key.Denot → ℕ). HasList u i (remove (list_of cur i) c.args.slot ++ x.0 ∷ []) (together (λ e. h (key e)) d ws olds)) (sym same) first in
     let last = subst (λ (z : Contents g.row.E.Denot g.row.H.Denot). HasList z i (remove (list_of cur i) c.args.slot ++ x.0 ∷ []) after) view moved in
@@ -137,12 +136,12 @@ returns g c =
           let within = within-own c.self.invariant c.self.view_is c.requires.within in
           let v = together hash d ws olds in
           λ was.
-          let first : IsListed hash u = subst (λ (z : Contents g.row.E.Denot g.row.H.Denot). IsListed hash z) (sym view) (subst (λ s. IsListed (λ (e : g.row.E.Denot). hash_of g.H.BuildHasher g.H.Hasher.Hasher s.hasher (g.E.Key.Hash.hash_input (key e))) now) (sym set) was) in
-          let ours : IsListed hash d = subst (λ s. IsListed (λ (e : g.row.E.Denot). hash_of g.H.BuildHasher g.H.Hasher.Hasher s.hasher (g.E.Key.Hash.hash_input (key e))) d) stay c.touch.ensures.listed in
+          let first : IsListed hash u = subst (λ (z : Contents g.row.E.Denot g.row.H.Denot). IsListed hash z) (sym view) (subst (λ s. IsListed (λ (e : g.row.E.Denot). g.H.Hashes.hash_of s.hasher (key e)) now) (sym set) was) in
+          let ours : IsListed hash d = subst (λ s. IsListed (λ (e : g.row.E.Denot). g.H.Hashes.hash_of s.hasher (key e)) d) stay c.touch.ensures.listed in
           let both : IsListed hash v = own-listed hash cur d ws olds inv.arrays i down within (remove (list_of cur i) c.args.slot ++ x.0 ∷ []) changed first ours in
           let there = subst (λ (h : g.row.E-Key.Denot → ℕ). IsListed hash (together (λ e. h (key e)) d ws olds)) (sym same) both in
-          subst (λ s. IsListed (λ (e : g.row.E.Denot). hash_of g.H.BuildHasher g.H.Hasher.Hasher s.hasher (g.E.Key.Hash.hash_input (key e))) after) (sym (settings-together (λ e. key_hash g.H.BuildHasher g.H.Hasher.Hasher g.E.Key.Hash.hash_input d (key e)) d ws olds ∙ stay)) there);
-      waiting = (waiting-together (λ e. key_hash g.H.BuildHasher g.H.Hasher.Hasher g.E.Key.Hash.hash_input d (key e)) d ws olds ∙ sym flags);
+          subst (λ s. IsListed (λ (e : g.row.E.Denot). g.H.Hashes.hash_of s.hasher (key e)) after) (sym (settings-together (λ e. hash_in g.H.Hashes.hash_of d (key e)) d ws olds ∙ stay)) there);
+      waiting = (waiting-together (λ e. hash_in g.H.Hashes.hash_of d (key e)) d ws olds ∙ sym flags);
       owed = (ap (λ (h : g.row.E-Key.Denot → ℕ). owed_of (together (λ e. h (key e)) d ws olds)) same ∙ own-owed cur d i (remove (list_of cur i) c.args.slot ++ x.0 ∷ []) changed.lists stay hash ws olds down ∙ ap owed_of view);
       unique = (
           let laws = g.met.E.Key.Eq.laws in

@@ -1,6 +1,6 @@
 use Rattle.std.proofs.Common.{◌∙◌, subst, arith}
 use Rattle.scc_common.specs.Clones.{HasClones}
-use Rattle.scc_common.specs.Contents.{key_hash}
+use Rattle.scc_common.specs.Contents.{hash_in}
 use Rattle.scc_table.specs.TwoArrays.{together}
 use Rattle.scc_table.proofs.arrays.Clones.{clones-together, old-short}
 use Rattle.scc_table.proofs.arrays.Lists.{gathered}
@@ -12,7 +12,7 @@ pub insert_clones_of-requires : goal.insert_clones_of-requires
 insert_clones_of-requires g c =
     let t = c.self.inside in
     let inv = c.self.invariant in
-    let hash = λ (e : g.row.E.Denot). key_hash g.H.BuildHasher g.H.Hasher.Hasher g.E.Key.Hash.hash_input t.current (g.E.Keyed.key_of e) in
+    let hash = λ (e : g.row.E.Denot). hash_in g.H.Hashes.hash_of t.current (g.E.Keyed.key_of e) in
     let few = inv.few in
     record { few = old-short hash _ t.draining.array t.draining.left_overflow inv.arrays.own inv.overflow_is (omega arith) }
 
@@ -20,7 +20,7 @@ pub returns-clause-clones : goal.returns-clause-clones
 returns-clause-clones g c =
     let t = c.self.inside in
     let inv = c.self.invariant in
-    let hash = λ (e : g.row.E.Denot). key_hash g.H.BuildHasher g.H.Hasher.Hasher g.E.Key.Hash.hash_input t.current (g.E.Keyed.key_of e) in
+    let hash = λ (e : g.row.E.Denot). hash_in g.H.Hashes.hash_of t.current (g.E.Keyed.key_of e) in
     let all = together hash t.current t.draining.waiting.items t.draining.array in
     let made = c.insert_clones_of.new.table in
     subst (λ z. HasClones g.E.Clone.is_clone g.H.Clone.is_clone z c.over.result) c.self.view_is

@@ -1,8 +1,7 @@
 use Rattle.std.proofs.Common.{◌≡◌, ◌∙◌, refl, sym, ap, subst, arith}
 use Rattle.std.specs.List.{find}
 use Rattle.scc_array.proofs.Finds.{find-position}
-use Rattle.scc_common.specs.Contents.{Contents, Settings, entries, key_hash, pending_of}
-use Rattle.scc_common.specs.Hashing.{hash_of}
+use Rattle.scc_common.specs.Contents.{Contents, Settings, entries, hash_in, pending_of}
 use Rattle.scc_table.specs.Places.{IsFoundAt, index_of}
 use Rattle.scc_draining.specs.Drainings.{draining_of}
 use Rattle.scc_table.specs.TwoArrays.{together}
@@ -16,16 +15,16 @@ use Rattle.scc_table.proofs.Table.update.Goals as goal
 pub update-requires-clause-hashed : goal.update-requires-clause-hashed
 update-requires-clause-hashed g c =
     let t = c.self.inside in
-    let hk = key_hash g.H.BuildHasher g.H.Hasher.Hasher g.E.Key.Hash.hash_input t.current in
+    let hk = hash_in g.H.Hashes.hash_of t.current in
     let hash = λ (e : g.row.E.Denot). hk (g.E.Keyed.key_of e) in
     let set = settings-seen hash t.current t.draining.waiting.items t.draining.array c.args.self.now c.self.view_is in
-    c.requires.hashed ∙ ap (λ s. hash_of g.H.BuildHasher g.H.Hasher.Hasher s.hasher (g.E.Key.Hash.hash_input c.args.key.now)) (sym set)
+    c.requires.hashed ∙ ap (λ s. g.H.Hashes.hash_of s.hasher c.args.key.now) (sym set)
 
 pub update-requires-clause-takes : goal.update-requires-clause-takes
 update-requires-clause-takes g c = λ e a b found key value.
     let t = c.self.inside in
     let cur = t.current in
-    let hk = key_hash g.H.BuildHasher g.H.Hasher.Hasher g.E.Key.Hash.hash_input cur in
+    let hk = hash_in g.H.Hashes.hash_of cur in
     let hash = λ (x : g.row.E.Denot). hk (g.E.Keyed.key_of x) in
     let passes = λ (x : g.row.E.Denot). g.E.Key.PartialEq.eq c.args.key.now (g.E.Keyed.key_of x) in
     let none = c.self.invariant.none c.if-self-eq0.true in
@@ -37,7 +36,7 @@ invariant_of-self g c =
     let t = c.self.inside in
     let passes = λ (x : g.row.E.Denot). g.E.Key.PartialEq.eq c.args.key.now (g.E.Keyed.key_of x) in
     let laws = g.met.E.Key.Eq.laws in
-    let hash_for = λ (s : Settings g.row.H.Denot) (k : g.row.E-Key.Denot). hash_of g.H.BuildHasher g.H.Hasher.Hasher s.hasher (g.E.Key.Hash.hash_input k) in
+    let hash_for = λ (s : Settings g.row.H.Denot) (k : g.row.E-Key.Denot). g.H.Hashes.hash_of s.hasher k in
     not_waiting-kept g.U.FnOnce c.args.u g.E.Keyed.key_of g.E.Valued.value_of g.E.Valued.with_value passes laws hash_for t.current c.update.new.self (draining_of t.draining) c.self.invariant (c.self.invariant.none c.if-self-eq0.true)
     (λ e w. ap (λ k. g.E.Key.PartialEq.eq k (g.E.Keyed.key_of e)) (g.met.E.Valued.value_keeps_key e w) ∙ laws.refl (g.E.Keyed.key_of e)) c.update.result c.update.ensures
 
@@ -46,8 +45,8 @@ returns-then-self-eq0-clause-step g c =
     let t = c.self.inside in
     let passes = λ (x : g.row.E.Denot). g.E.Key.PartialEq.eq c.args.key.now (g.E.Keyed.key_of x) in
     let laws = g.met.E.Key.Eq.laws in
-    let hash_for = λ (s : Settings g.row.H.Denot) (k : g.row.E-Key.Denot). hash_of g.H.BuildHasher g.H.Hasher.Hasher s.hasher (g.E.Key.Hash.hash_input k) in
-    let new = together (λ (e : g.row.E.Denot). key_hash g.H.BuildHasher g.H.Hasher.Hasher g.E.Key.Hash.hash_input c.update.new.self (g.E.Keyed.key_of e)) c.update.new.self t.draining.waiting.items t.draining.array in
+    let hash_for = λ (s : Settings g.row.H.Denot) (k : g.row.E-Key.Denot). g.H.Hashes.hash_of s.hasher k in
+    let new = together (λ (e : g.row.E.Denot). hash_in g.H.Hashes.hash_of c.update.new.self (g.E.Keyed.key_of e)) c.update.new.self t.draining.waiting.items t.draining.array in
     subst (λ (z : Contents g.row.E.Denot g.row.H.Denot). UpdatesFirst g.U.FnOnce c.args.u g.E.Keyed.key_of g.E.Valued.value_of g.E.Valued.with_value passes z new c.update.result) c.self.view_is
     (not_waiting-first g.U.FnOnce c.args.u g.E.Keyed.key_of g.E.Valued.value_of g.E.Valued.with_value passes laws hash_for t.current c.update.new.self (draining_of t.draining) c.self.invariant (c.self.invariant.none c.if-self-eq0.true) c.update.result c.update.ensures)
 
@@ -55,7 +54,7 @@ pub search_both-place-requires-clause-pending : goal.search_both-place-requires-
 search_both-place-requires-clause-pending g c =
     let t = c.self.inside in
     let inv = c.self.invariant in
-    let hk = key_hash g.H.BuildHasher g.H.Hasher.Hasher g.E.Key.Hash.hash_input t.current in
+    let hk = hash_in g.H.Hashes.hash_of t.current in
     let hash = λ (e : g.row.E.Denot). hk (g.E.Keyed.key_of e) in
     let counted = ap pending_of (sym c.self.view_is) ∙ pending-together hash t.current t.draining.waiting.items t.draining.array in
     omega (arith, counted, inv.counted, c.if-self-eq0.false)

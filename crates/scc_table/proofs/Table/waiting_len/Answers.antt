@@ -2,7 +2,7 @@ use Rattle.std.proofs.Common.{◌∙◌, ◌^◌, ◌<◌, length, sym, ap, arit
 use Rattle.std.specs.List.{flat_map}
 use Rattle.scc_array.specs.Shelf.{shelf_entries}
 use Rattle.scc_buckets.specs.Pour.{destined_for}
-use Rattle.scc_common.specs.Contents.{bucket_count, key_hash, list_of, settings_of}
+use Rattle.scc_common.specs.Contents.{bucket_count, hash_in, list_of, settings_of}
 use Rattle.scc_draining.proofs.FromBuckets.{most-entry_count, within-sources}
 use Rattle.scc_table.proofs.relocations.Preparation.{long-flags, waiting-list}
 use Rattle.scc_buckets.specs.Tables.{overflow_in}
@@ -34,7 +34,7 @@ count_all-requires-clause-sources g c =
     let cur = t.current in
     let olds = t.draining.array in
     let inv = c.self.invariant in
-    let hk = key_hash g.H.BuildHasher g.H.Hasher.Hasher g.E.Key.Hash.hash_input cur in
+    let hk = hash_in g.H.Hashes.hash_of cur in
     let hash = λ (e : g.row.E.Denot). hk (g.E.Keyed.key_of e) in
     let i = c.args.bucket in
     let only = rw (c.len.ensures.count, c.bucket_count-count.ensures.count) at c.sources-first.ensures.only in
@@ -52,7 +52,7 @@ count_all-requires-clause-most g c =
     let cur = t.current in
     let olds = t.draining.array in
     let inv = c.self.invariant in
-    let hk = key_hash g.H.BuildHasher g.H.Hasher.Hasher g.E.Key.Hash.hash_input cur in
+    let hk = hash_in g.H.Hashes.hash_of cur in
     let hash = λ (e : g.row.E.Denot). hk (g.E.Keyed.key_of e) in
     let up = flag-up c.self.invariant _ c.self.view_is c.requires in
     let array = old-sized c.self.invariant _ up in
@@ -68,7 +68,7 @@ returns-clause-len g c =
     let ws = t.draining.waiting.items in
     let olds = t.draining.array in
     let inv = c.self.invariant in
-    let hk = key_hash g.H.BuildHasher g.H.Hasher.Hasher g.E.Key.Hash.hash_input cur in
+    let hk = hash_in g.H.Hashes.hash_of cur in
     let hash = λ (e : g.row.E.Denot). hk (g.E.Keyed.key_of e) in
     let i = c.args.bucket in
     let up = flag-up c.self.invariant _ c.self.view_is c.requires in
@@ -78,4 +78,4 @@ returns-clause-len g c =
     ∙ ap (λ d. length (list_of d i)) c.self.view_is
 
 pub returns-clause-routed : goal.returns-clause-routed
-returns-clause-routed g c = routed-seen g.H.BuildHasher g.H.Hasher.Hasher g.E.Key.Hash.hash_input g.E.Keyed.key_of c.self.invariant c.self.view_is c.bucket_count-count.ensures.routed
+returns-clause-routed g c = routed-seen g.H.Hashes.hash_of g.E.Keyed.key_of c.self.invariant c.self.view_is c.bucket_count-count.ensures.routed

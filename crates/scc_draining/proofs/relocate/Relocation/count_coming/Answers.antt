@@ -1,13 +1,12 @@
 use Rattle.std.proofs.Common.{◌≡◌, ◌+◌, arith, length-append}
 use Rattle.scc_array.specs.Shelves.{shelf_of}
-use Rattle.scc_buckets.specs.Routes.{hash_by}
 use Rattle.scc_draining.proofs.Counted.{one-source}
 use Rattle.scc_draining.proofs.Joined.{total-row}
 use Rattle.scc_draining.proofs.relocate.Relocation.count_coming.Goals as goal
 
 pub returns-then-bucket_len-le32-clause-enough : goal.returns-then-bucket_len-le32-clause-enough
 returns-then-bucket_len-le32-clause-enough g c =
-    let hash = λ (e : g.row.E.Denot). hash_by g.H.BuildHasher g.H.Hasher.Hasher g.E.Key.Hash.hash_input c.args.router.now (g.E.Keyed.key_of e) in
+    let hash = λ (e : g.row.E.Denot). g.H.Hashes.hash_of c.args.router.now.hasher (g.E.Keyed.key_of e) in
     let next : c.args.self.now.first + 1 ≡ c.args.self.now.last = omega (arith, c.requires.drainable.sources.order, c.if-self-eq1.true) in
     let most = one-source hash c.args.router.now.skipped c.args.self.now.count c.args.self.now.target c.args.self.now.first c.args.self.now.last c.args.old.now c.requires.drainable.sources next in
     omega (arith, most, c.bucket_len.ensures, c.if-bucket_len-le32.true)
@@ -15,14 +14,14 @@ returns-then-bucket_len-le32-clause-enough g c =
 pub returns-then-self-clause-enough : goal.returns-then-self-clause-enough
 returns-then-self-clause-enough g c =
     let olds = c.args.old.now in
-    let hash = λ (e : g.row.E.Denot). hash_by g.H.BuildHasher g.H.Hasher.Hasher g.E.Key.Hash.hash_input c.args.router.now (g.E.Keyed.key_of e) in
+    let hash = λ (e : g.row.E.Denot). g.H.Hashes.hash_of c.args.router.now.hasher (g.E.Keyed.key_of e) in
     let all = total-row hash c.args.router.now.skipped c.args.self.now.count c.args.self.now.target c.args.self.now.first c.args.self.now.last olds c.requires.drainable.sources (c.requires.drainable.joined c.if-self.true) in
     omega (arith, all, c.len_between.ensures)
 
 pub returns-then-self-clause-exact : goal.returns-then-self-clause-exact
 returns-then-self-clause-exact g c =
     let olds = c.args.old.now in
-    let hash = λ (e : g.row.E.Denot). hash_by g.H.BuildHasher g.H.Hasher.Hasher g.E.Key.Hash.hash_input c.args.router.now (g.E.Keyed.key_of e) in
+    let hash = λ (e : g.row.E.Denot). g.H.Hashes.hash_of c.args.router.now.hasher (g.E.Keyed.key_of e) in
     let all = total-row hash c.args.router.now.skipped c.args.self.now.count c.args.self.now.target c.args.self.now.first c.args.self.now.last olds c.requires.drainable.sources (c.requires.drainable.joined c.if-self.true) in
     λ _. omega (arith, all, c.len_between.ensures)
 

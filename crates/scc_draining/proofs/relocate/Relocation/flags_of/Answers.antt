@@ -6,7 +6,6 @@ use Rattle.scc_array.proofs.Gets.{get-set, get-set_other, get-within}
 use Rattle.scc_array.proofs.Windows.{same_or_not}
 use Rattle.scc_array.specs.Shelves.{shelf_of}
 use Rattle.scc_array.proofs.ListsLemmas.{get-left}
-use Rattle.scc_buckets.specs.Routes.{hash_by}
 use Rattle.scc_common.specs.Routing.{bucket_number}
 use Rattle.scc_draining.proofs.relocate.Relocation.flags_of.Goals as goal
 use Rattle.scc_array.specs.Sifts.{raised}
@@ -24,9 +23,9 @@ loop-slot-preserved g c =
     let up : (flag == 1) ≡ (c.bucket.result == c.args.self.now.target) = one-or-zero (c.bucket.result == c.args.self.now.target) in
     let next : raised (set c.loop-slot.flags p flag) ≡ set bits p (c.bucket.result == c.args.self.now.target) = map-set (λ x. x == 1) c.loop-slot.flags p flag ∙ ap (λ b. set bits p b) up in
     let xs = (shelf_of c.args.old.now c.args.source).slots in let os = (shelf_of c.args.old.now c.args.source).overflow in
-    let number = λ (e : g.row.E.Denot). bucket_number c.args.router.now.skipped c.args.self.now.count (hash_by g.H.BuildHasher g.H.Hasher.Hasher g.E.Key.Hash.hash_input c.args.router.now (g.E.Keyed.key_of e)) in
+    let number = λ (e : g.row.E.Denot). bucket_number c.args.router.now.skipped c.args.self.now.count (g.H.Hashes.hash_of c.args.router.now.hasher (g.E.Keyed.key_of e)) in
     let x = c.entry_of.result.now in
-    let hashed = c.hash-hash.ensures ∙ ap (λ k. hash_by g.H.BuildHasher g.H.Hasher.Hasher g.E.Key.Hash.hash_input c.args.router.now k) c.key.ensures in
+    let hashed = c.hash-hash.ensures ∙ ap (λ k. g.H.Hashes.hash_of c.args.router.now.hasher k) c.key.ensures in
     let to : c.bucket.result ≡ number x = c.bucket.ensures.value ∙ ap (bucket_number c.args.router.now.skipped c.args.self.now.count) hashed in (
       length-set c.loop-slot.flags p flag ∙ c.loop-slot.invariant.0,
       λ j e l got. ap (λ fs. slice_get fs j) next ∙ elim (same_or_not j p) [

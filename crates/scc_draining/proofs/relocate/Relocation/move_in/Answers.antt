@@ -1,13 +1,11 @@
 use Rattle.std.proofs.Common.{◌≡◌, ◌∙◌, ◌+◌, ◌^◌, ◌<◌, [], length, map, set, refl, sym, ap, subst, arith}
 use Rattle.scc_array.specs.Shelves.{shelf_of}
 use Rattle.scc_array.specs.Shelf.{empty_shelf, shelf_entries}
-use Rattle.scc_buckets.specs.Routes.{hash_by}
 use Rattle.scc_buckets.proofs.Arrays.{shelf-at}
 use Rattle.scc_buckets.proofs.Bounds.{routed-view}
 use Rattle.scc_buckets.proofs.Inserts.{table-bound}
 use Rattle.scc_buckets.proofs.Views.{count-view, entries-view, lists-view, owed-view, refused-view, settings-view, spilled-view, view_of, waiting-view}
-use Rattle.scc_common.specs.Contents.{Settings, bucket_count, key_hash, lists_of, overflow_of, settings_of, IsRouted, IsUniqueBy}
-use Rattle.scc_common.specs.Hashing.{hash_of}
+use Rattle.scc_common.specs.Contents.{Settings, bucket_count, hash_in, lists_of, overflow_of, settings_of, IsRouted, IsUniqueBy}
 use Rattle.scc_draining.specs.Moves.{Drains}
 use Rattle.scc_draining.proofs.Arriving.{is-bare, list-were, lists-set, same-contents, same-lists}
 use Rattle.scc_draining.proofs.Filled.{IsFilled, bucket-filled, distinct-filled, spilled-filled, spilled-none, table-filled, within-filled}
@@ -22,12 +20,12 @@ overflow_room-left-requires g c =
 pub fill-filled-requires-clause-drainable : goal.fill-filled-requires-clause-drainable
 fill-filled-requires-clause-drainable g c =
     let made = settings-view c.current.inside.buckets _ c.args.current.now c.current.view_is in
-    rw c.requires.count (rw made at c.requires.drainable)
+    rw c.requires.count (rw (made, hash_in) at c.requires.drainable)
 
 pub fill-filled-requires-clause-coming : goal.fill-filled-requires-clause-coming
 fill-filled-requires-clause-coming g c =
     let made = settings-view c.current.inside.buckets _ c.args.current.now c.current.view_is in
-    rw c.requires.count (rw made at c.requires.coming)
+    rw c.requires.count (rw (made, hash_in) at c.requires.coming)
 
 pub fill-filled-requires-clause-target : goal.fill-filled-requires-clause-target
 fill-filled-requires-clause-target g c =
@@ -48,7 +46,7 @@ fill-filled-requires-clause-empty g c =
     let b = shelf_of bs i in
     let at = shelf-at bs i l in
     let bare : shelf_entries b ≡ [] = sym (list-were cur bs (lists-view bs _ cur c.current.view_is) i b l at) ∙ c.requires.bare in
-    let hash = λ (e : g.row.E.Denot). hash_by g.H.BuildHasher g.H.Hasher.Hasher g.E.Key.Hash.hash_input c.current.inside.router (g.E.Keyed.key_of e) in
+    let hash = λ (e : g.row.E.Denot). g.H.Hashes.hash_of c.current.inside.router.hasher (g.E.Keyed.key_of e) in
     is-bare hash c.current.inside.router.skipped i bs b (c.current.invariant.table.own i b l at) bare
 
 pub bucket_len-moved-requires-clause-bucket : goal.bucket_len-moved-requires-clause-bucket
@@ -63,11 +61,11 @@ bucket_len-moved-requires-clause-bucket g c =
     let bare : shelf_entries b ≡ [] = sym (list-were cur bs (lists-view bs _ cur c.current.view_is) i b l at) ∙ c.requires.bare in
     let made = settings-view bs _ cur c.current.view_is in
     let t = c.current.inside.router.skipped in
-    let hash = λ (e : g.row.E.Denot). hash_by g.H.BuildHasher g.H.Hasher.Hasher g.E.Key.Hash.hash_input c.current.inside.router (g.E.Keyed.key_of e) in
+    let hash = λ (e : g.row.E.Denot). g.H.Hashes.hash_of c.current.inside.router.hasher (g.E.Keyed.key_of e) in
     let n : c.args.self.now.count ≡ length bs = c.requires.count ∙ counted in
     let ns = c.fill-filled.new.into in
     let x : IsFilled hash t i bs c.args.old.now c.fill-filled.new.old ns c.current.inside.length c.current.inside.overflowing c.overflow_room-left.result c.args.coming c.fill-filled.result =
-    record { table = c.current.invariant.table; within = l; bare = bare; most = rw (made, counted) at c.requires.coming; fills = rw n at c.fill-filled.ensures } in
+    record { table = c.current.invariant.table; within = l; bare = bare; most = rw (made, counted, hash_in) at c.requires.coming; fills = rw n at c.fill-filled.ensures } in
     within-filled x
 
 pub bucket_len-moved-requires-clause-few : goal.bucket_len-moved-requires-clause-few
@@ -82,11 +80,11 @@ bucket_len-moved-requires-clause-few g c =
     let bare : shelf_entries b ≡ [] = sym (list-were cur bs (lists-view bs _ cur c.current.view_is) i b l at) ∙ c.requires.bare in
     let made = settings-view bs _ cur c.current.view_is in
     let t = c.current.inside.router.skipped in
-    let hash = λ (e : g.row.E.Denot). hash_by g.H.BuildHasher g.H.Hasher.Hasher g.E.Key.Hash.hash_input c.current.inside.router (g.E.Keyed.key_of e) in
+    let hash = λ (e : g.row.E.Denot). g.H.Hashes.hash_of c.current.inside.router.hasher (g.E.Keyed.key_of e) in
     let n : c.args.self.now.count ≡ length bs = c.requires.count ∙ counted in
     let ns = c.fill-filled.new.into in
     let x : IsFilled hash t i bs c.args.old.now c.fill-filled.new.old ns c.current.inside.length c.current.inside.overflowing c.overflow_room-left.result c.args.coming c.fill-filled.result =
-    record { table = c.current.invariant.table; within = l; bare = bare; most = rw (made, counted) at c.requires.coming; fills = rw n at c.fill-filled.ensures } in
+    record { table = c.current.invariant.table; within = l; bare = bare; most = rw (made, counted, hash_in) at c.requires.coming; fills = rw n at c.fill-filled.ensures } in
     let few : c.current.inside.overflowing + c.overflow_room-left.result < 2 ^ 62 = omega (arith, c.overflow_room-left.ensures) in
     bucket-filled x few
 
@@ -102,11 +100,11 @@ overflow_add-current g c =
     let bare : shelf_entries b ≡ [] = sym (list-were cur bs (lists-view bs _ cur c.current.view_is) i b l at) ∙ c.requires.bare in
     let made = settings-view bs _ cur c.current.view_is in
     let t = c.current.inside.router.skipped in
-    let hash = λ (e : g.row.E.Denot). hash_by g.H.BuildHasher g.H.Hasher.Hasher g.E.Key.Hash.hash_input c.current.inside.router (g.E.Keyed.key_of e) in
+    let hash = λ (e : g.row.E.Denot). g.H.Hashes.hash_of c.current.inside.router.hasher (g.E.Keyed.key_of e) in
     let n : c.args.self.now.count ≡ length bs = c.requires.count ∙ counted in
     let ns = c.fill-filled.new.into in
     let x : IsFilled hash t i bs c.args.old.now c.fill-filled.new.old ns c.current.inside.length c.current.inside.overflowing c.overflow_room-left.result c.args.coming c.fill-filled.result =
-    record { table = c.current.invariant.table; within = l; bare = bare; most = rw (made, counted) at c.requires.coming; fills = rw n at c.fill-filled.ensures } in
+    record { table = c.current.invariant.table; within = l; bare = bare; most = rw (made, counted, hash_in) at c.requires.coming; fills = rw n at c.fill-filled.ensures } in
     let few : c.current.inside.overflowing + c.overflow_room-left.result < 2 ^ 62 = omega (arith, c.overflow_room-left.ensures) in
     let moved : c.bucket_len-moved.result ≡ length (shelf_entries (shelf_of ns i)) = c.bucket_len-moved.ensures in
     let most = table-bound hash t _ _ ns (table-filled x few) in
@@ -124,11 +122,11 @@ overflow_len-requires g c =
     let bare : shelf_entries b ≡ [] = sym (list-were cur bs (lists-view bs _ cur c.current.view_is) i b l at) ∙ c.requires.bare in
     let made = settings-view bs _ cur c.current.view_is in
     let t = c.current.inside.router.skipped in
-    let hash = λ (e : g.row.E.Denot). hash_by g.H.BuildHasher g.H.Hasher.Hasher g.E.Key.Hash.hash_input c.current.inside.router (g.E.Keyed.key_of e) in
+    let hash = λ (e : g.row.E.Denot). g.H.Hashes.hash_of c.current.inside.router.hasher (g.E.Keyed.key_of e) in
     let n : c.args.self.now.count ≡ length bs = c.requires.count ∙ counted in
     let ns = c.fill-filled.new.into in
     let x : IsFilled hash t i bs c.args.old.now c.fill-filled.new.old ns c.current.inside.length c.current.inside.overflowing c.overflow_room-left.result c.args.coming c.fill-filled.result =
-    record { table = c.current.invariant.table; within = l; bare = bare; most = rw (made, counted) at c.requires.coming; fills = rw n at c.fill-filled.ensures } in
+    record { table = c.current.invariant.table; within = l; bare = bare; most = rw (made, counted, hash_in) at c.requires.coming; fills = rw n at c.fill-filled.ensures } in
     within-filled x
 
 pub overflow_add-current-2 : goal.overflow_add-current-2
@@ -143,11 +141,11 @@ overflow_add-current-2 g c =
     let bare : shelf_entries b ≡ [] = sym (list-were cur bs (lists-view bs _ cur c.current.view_is) i b l at) ∙ c.requires.bare in
     let made = settings-view bs _ cur c.current.view_is in
     let t = c.current.inside.router.skipped in
-    let hash = λ (e : g.row.E.Denot). hash_by g.H.BuildHasher g.H.Hasher.Hasher g.E.Key.Hash.hash_input c.current.inside.router (g.E.Keyed.key_of e) in
+    let hash = λ (e : g.row.E.Denot). g.H.Hashes.hash_of c.current.inside.router.hasher (g.E.Keyed.key_of e) in
     let n : c.args.self.now.count ≡ length bs = c.requires.count ∙ counted in
     let ns = c.fill-filled.new.into in
     let x : IsFilled hash t i bs c.args.old.now c.fill-filled.new.old ns c.current.inside.length c.current.inside.overflowing c.overflow_room-left.result c.args.coming c.fill-filled.result =
-    record { table = c.current.invariant.table; within = l; bare = bare; most = rw (made, counted) at c.requires.coming; fills = rw n at c.fill-filled.ensures } in
+    record { table = c.current.invariant.table; within = l; bare = bare; most = rw (made, counted, hash_in) at c.requires.coming; fills = rw n at c.fill-filled.ensures } in
     let few : c.current.inside.overflowing + c.overflow_room-left.result < 2 ^ 62 = omega (arith, c.overflow_room-left.ensures) in
     let spilled : c.overflow_len.result ≡ length (shelf_of ns i).overflow = c.overflow_len.ensures in
     record { fits = let z = (table-filled x few).few in omega (arith, spilled, z) }
@@ -164,15 +162,15 @@ invariant_of-current g c =
     let bare : shelf_entries b ≡ [] = sym (list-were cur bs (lists-view bs _ cur c.current.view_is) i b l at) ∙ c.requires.bare in
     let made = settings-view bs _ cur c.current.view_is in
     let t = c.current.inside.router.skipped in
-    let hash = λ (e : g.row.E.Denot). hash_by g.H.BuildHasher g.H.Hasher.Hasher g.E.Key.Hash.hash_input c.current.inside.router (g.E.Keyed.key_of e) in
+    let hash = λ (e : g.row.E.Denot). g.H.Hashes.hash_of c.current.inside.router.hasher (g.E.Keyed.key_of e) in
     let n : c.args.self.now.count ≡ length bs = c.requires.count ∙ counted in
     let ns = c.fill-filled.new.into in
     let x : IsFilled hash t i bs c.args.old.now c.fill-filled.new.old ns c.current.inside.length c.current.inside.overflowing c.overflow_room-left.result c.args.coming c.fill-filled.result =
-    record { table = c.current.invariant.table; within = l; bare = bare; most = rw (made, counted) at c.requires.coming; fills = rw n at c.fill-filled.ensures } in
+    record { table = c.current.invariant.table; within = l; bare = bare; most = rw (made, counted, hash_in) at c.requires.coming; fills = rw n at c.fill-filled.ensures } in
     let few : c.current.inside.overflowing + c.overflow_room-left.result < 2 ^ 62 = omega (arith, c.overflow_room-left.ensures) in
     let moved : c.bucket_len-moved.result ≡ length (shelf_entries (shelf_of ns i)) = c.bucket_len-moved.ensures in
     let spilled : c.overflow_len.result ≡ length (shelf_of ns i).overflow = c.overflow_len.ensures in
-    let there = rw (made, counted) at c.requires.unique in
+    let there = rw (made, counted, hash_in) at c.requires.unique in
     let unique : IsUniqueBy g.E.Key.PartialEq.eq g.E.Keyed.key_of cur = rw (entries-view bs _ cur c.current.view_is) c.current.invariant.unique in
     record {
       table = rw (moved, spilled) (table-filled x few);
@@ -192,11 +190,11 @@ returns g c =
     let bare : shelf_entries b ≡ [] = sym (list-were cur bs (lists-view bs _ cur c.current.view_is) i b l at) ∙ c.requires.bare in
     let made = settings-view bs _ cur c.current.view_is in
     let t = c.current.inside.router.skipped in
-    let hash = λ (e : g.row.E.Denot). hash_by g.H.BuildHasher g.H.Hasher.Hasher g.E.Key.Hash.hash_input c.current.inside.router (g.E.Keyed.key_of e) in
+    let hash = λ (e : g.row.E.Denot). g.H.Hashes.hash_of c.current.inside.router.hasher (g.E.Keyed.key_of e) in
     let n : c.args.self.now.count ≡ length bs = c.requires.count ∙ counted in
     let ns = c.fill-filled.new.into in
     let x : IsFilled hash t i bs c.args.old.now c.fill-filled.new.old ns c.current.inside.length c.current.inside.overflowing c.overflow_room-left.result c.args.coming c.fill-filled.result =
-    record { table = c.current.invariant.table; within = l; bare = bare; most = rw (made, counted) at c.requires.coming; fills = rw n at c.fill-filled.ensures } in
+    record { table = c.current.invariant.table; within = l; bare = bare; most = rw (made, counted, hash_in) at c.requires.coming; fills = rw n at c.fill-filled.ensures } in
     let few : c.current.inside.overflowing + c.overflow_room-left.result < 2 ^ 62 = omega (arith, c.overflow_room-left.ensures) in
     let moved : c.bucket_len-moved.result ≡ length (shelf_entries (shelf_of ns i)) = c.bucket_len-moved.ensures in
     let spilled : c.overflow_len.result ≡ length (shelf_of ns i).overflow = c.overflow_len.ensures in
@@ -208,12 +206,12 @@ returns g c =
     let noted = refused-view ns _ d refl ∙ sym (refused-view bs _ cur c.current.view_is) in
     let lists = lists-view ns _ d refl ∙ ap (map shelf_entries) x.fills.others ∙ lists-set g.E.Key.PartialEq.eq g.E.Keyed.key_of cur bs were i (shelf_of ns i) in
     let now = spilled-view ns _ d refl ∙ sym (table-filled x few).spilled in
-    let khash = λ (e : g.row.E.Denot). key_hash g.H.BuildHasher g.H.Hasher.Hasher g.E.Key.Hash.hash_input cur (g.E.Keyed.key_of e) in
-    let routed : IsRouted khash cur = rw made (routed-view hash _ _ bs _ cur c.current.view_is c.current.invariant.table) in
+    let khash = λ (e : g.row.E.Denot). hash_in g.H.Hashes.hash_of cur (g.E.Keyed.key_of e) in
+    let routed : IsRouted khash cur = rw (made, hash_in) (routed-view hash _ _ bs _ cur c.current.view_is c.current.invariant.table) in
     elim c.match-filled.branch [
       | in-Ok w ↦
           let drains : Drains khash (settings_of cur).skipped (bucket_count cur) i c.args.old.now empty_shelf c.fill-filled.new.old (shelf_of ns i) =
-          subst (λ (s : Settings g.row.H.Denot). Drains (λ (e : g.row.E.Denot). hash_of g.H.BuildHasher g.H.Hasher.Hasher s.hasher (g.E.Key.Hash.hash_input (g.E.Keyed.key_of e))) s.skipped (bucket_count cur) i c.args.old.now empty_shelf c.fill-filled.new.old (shelf_of ns i)) (sym made)
+          subst (λ (s : Settings g.row.H.Denot). Drains (λ (e : g.row.E.Denot). g.H.Hashes.hash_of s.hasher (g.E.Keyed.key_of e)) s.skipped (bucket_count cur) i c.args.old.now empty_shelf c.fill-filled.new.old (shelf_of ns i)) (sym made)
           (rw c.requires.count at w.in-Ok.ensures.ok) in
           let es_are = drains.moved.entries_are in
           rw w.result-is (record {

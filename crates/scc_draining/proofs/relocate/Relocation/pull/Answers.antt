@@ -6,7 +6,6 @@ use Rattle.scc_array.proofs.Gets.{get-within}
 use Rattle.scc_array.specs.Sifts.{all_raised, raised}
 use Rattle.scc_array.specs.Shelves.{shelf_of}
 use Rattle.scc_buckets.proofs.Arrays.{put-is}
-use Rattle.scc_buckets.specs.Routes.{hash_by}
 use Rattle.scc_common.specs.Routing.{bucket_number}
 use Rattle.scc_draining.proofs.Joined.{joined-flag}
 use Rattle.scc_draining.proofs.Parted.{no-elements, parted-pulls}
@@ -14,7 +13,7 @@ use Rattle.scc_draining.proofs.relocate.Relocation.pull.Goals as goal
 
 pub returns-then-slot_count-le32-clause-pulls : goal.returns-then-slot_count-le32-clause-pulls
 returns-then-slot_count-le32-clause-pulls g c =
-    let hash = λ (e : g.row.E.Denot). hash_by g.H.BuildHasher g.H.Hasher.Hasher g.E.Key.Hash.hash_input c.args.router.now (g.E.Keyed.key_of e) in
+    let hash = λ (e : g.row.E.Denot). g.H.Hashes.hash_of c.args.router.now.hasher (g.E.Keyed.key_of e) in
     let s = shelf_of c.args.old.now c.args.source in
     let bare : s.overflow ≡ [] = no-elements s.overflow (omega (arith, c.overflow_len.ensures, c.if-overflow_len-eq0.true)) in
     let l1 : c.slot_count.result ≡ length (shelf_of c.args.into.now c.args.self.now.target).slots = c.slot_count.ensures.count in
@@ -24,7 +23,7 @@ returns-then-slot_count-le32-clause-pulls g c =
 
 pub returns-then-self-clause-pulls : goal.returns-then-self-clause-pulls
 returns-then-self-clause-pulls g c =
-    let hash = λ (e : g.row.E.Denot). hash_by g.H.BuildHasher g.H.Hasher.Hasher g.E.Key.Hash.hash_input c.args.router.now (g.E.Keyed.key_of e) in
+    let hash = λ (e : g.row.E.Denot). g.H.Hashes.hash_of c.args.router.now.hasher (g.E.Keyed.key_of e) in
     let s = shelf_of c.args.old.now c.args.source in
     let bare : s.overflow ≡ [] = no-elements s.overflow (omega (arith, c.overflow_len.ensures, c.if-overflow_len-eq0.true)) in
     let l1 : c.slot_count.result ≡ length (shelf_of c.args.into.now c.args.self.now.target).slots = c.slot_count.ensures.count in

@@ -1,7 +1,6 @@
 use Rattle.std.proofs.Common.{◌≡◌, ◌<◌, ◌∙◌, Some, ap, sym, arith, length}
 use Rattle.scc_array.specs.Shelves.{shelf_of}
 use Rattle.scc_array.specs.Shelf.{Shelf, shelf_entries, with_entry}
-use Rattle.scc_buckets.specs.Routes.{hash_by}
 use Rattle.scc_common.specs.Routing.{bucket_number, tag_of}
 use Rattle.scc_draining.proofs.Buckets.{still-within, later-is, later-own}
 use Rattle.scc_draining.proofs.Pulling.{pull-below, pull-room, pull-move, pull-skip}
@@ -10,25 +9,25 @@ use Rattle.scc_draining.proofs.relocate.Relocation.pull_each.Goals.{then-bucket-
 
 pub insert_in_room-requires-clause-room : goal.insert_in_room-requires-clause-room
 insert_in_room-requires-clause-room g c =
-    let hash = λ (e : g.row.E.Denot). hash_by g.H.BuildHasher g.H.Hasher.Hasher g.E.Key.Hash.hash_input c.args.router.now (g.E.Keyed.key_of e) in
+    let hash = λ (e : g.row.E.Denot). g.H.Hashes.hash_of c.args.router.now.hasher (g.E.Keyed.key_of e) in
     let s = shelf_of c.loop-seen.old c.args.source in
     let l : c.loop-seen.seen < length (shelf_entries (shelf_of c.args.old.now c.args.source)) = omega (arith, c.bucket_len-entry_count.ensures) in
-    let hashed = c.hash-hash.ensures ∙ ap (λ k. hash_by g.H.BuildHasher g.H.Hasher.Hasher g.E.Key.Hash.hash_input c.args.router.now k) c.key.ensures in
+    let hashed = c.hash-hash.ensures ∙ ap (λ k. g.H.Hashes.hash_of c.args.router.now.hasher k) c.key.ensures in
     let to = sym c.if-bucket-self.true ∙ c.bucket.ensures.value ∙ ap (bucket_number c.args.router.now.skipped c.args.self.now.count) hashed in
     pull-room hash c.args.router.now.skipped c.args.self.now.count c.args.self.now.target c.args.source c.args.old.now (shelf_of c.args.into.now c.args.self.now.target) c.loop-seen.old (shelf_of c.loop-seen.into c.args.self.now.target) c.loop-seen.seen c.loop-seen.slot c.loop-seen.invariant.0 l
     c.entry_at.result.now c.entry_at.ensures to c.requires.room
 
 pub overflow_add-slot : goal.overflow_add-slot
 overflow_add-slot g c =
-    let hash = λ (e : g.row.E.Denot). hash_by g.H.BuildHasher g.H.Hasher.Hasher g.E.Key.Hash.hash_input c.args.router.now (g.E.Keyed.key_of e) in
+    let hash = λ (e : g.row.E.Denot). g.H.Hashes.hash_of c.args.router.now.hasher (g.E.Keyed.key_of e) in
     let below = pull-below hash c.args.router.now.skipped c.args.self.now.count c.args.self.now.target c.args.source c.args.old.now (shelf_of c.args.into.now c.args.self.now.target) c.loop-seen.old (shelf_of c.loop-seen.into c.args.self.now.target) c.loop-seen.seen c.loop-seen.slot c.loop-seen.invariant.0 in
     omega (arith, c.bucket_len-entry_count.type_inv)
 
 pub loop-seen-preserved : goal.loop-seen-preserved
 loop-seen-preserved g c =
-    let hash = λ (e : g.row.E.Denot). hash_by g.H.BuildHasher g.H.Hasher.Hasher g.E.Key.Hash.hash_input c.args.router.now (g.E.Keyed.key_of e) in
+    let hash = λ (e : g.row.E.Denot). g.H.Hashes.hash_of c.args.router.now.hasher (g.E.Keyed.key_of e) in
     let l : c.loop-seen.seen < length (shelf_entries (shelf_of c.args.old.now c.args.source)) = omega (arith, c.bucket_len-entry_count.ensures) in
-    let hashed = c.hash-hash.ensures ∙ ap (λ k. hash_by g.H.BuildHasher g.H.Hasher.Hasher g.E.Key.Hash.hash_input c.args.router.now k) c.key.ensures in
+    let hashed = c.hash-hash.ensures ∙ ap (λ k. g.H.Hashes.hash_of c.args.router.now.hasher k) c.key.ensures in
     elim c.if-bucket-self.branch [
       | then-bucket-self w ↦
           let e = w.remove_at-entry.result in

@@ -1,7 +1,6 @@
 use Rattle.std.proofs.Common.{◌≡◌, ◌<◌, take}
 use Rattle.std.specs.List.{flat_map}
 use Rattle.scc_array.specs.Shelf.{shelf_entries}
-use Rattle.scc_buckets.specs.Routes.{hash_by}
 use Rattle.scc_buckets.specs.Pour.{destined_for}
 use Rattle.scc_draining.specs.Stepping.{entries_before}
 use Rattle.scc_draining.proofs.relocate.Relocation.spot_from.Given as goal
@@ -9,6 +8,6 @@ use Rattle.scc_draining.proofs.relocate.Relocation.spot_from.Given as goal
 abbrev pub invariant-loop-source : goal.invariant-loop-source
 invariant-loop-source g l = record {
   on : l.self.first < l.source;
-  none : destined_for (λ e. hash_by g.H.BuildHasher g.H.Hasher.Hasher g.E.Key.Hash.hash_input l.router (g.E.Keyed.key_of e)) l.router.skipped l.self.count l.self.target (flat_map shelf_entries (take l.source l.old))
-      ≡ destined_for (λ e. hash_by g.H.BuildHasher g.H.Hasher.Hasher g.E.Key.Hash.hash_input l.router (g.E.Keyed.key_of e)) l.router.skipped l.self.count l.self.target (entries_before l.old l.self.first l.slot);
+  none : destined_for (λ e. g.H.Hashes.hash_of l.router.hasher (g.E.Keyed.key_of e)) l.router.skipped l.self.count l.self.target (flat_map shelf_entries (take l.source l.old))
+      ≡ destined_for (λ e. g.H.Hashes.hash_of l.router.hasher (g.E.Keyed.key_of e)) l.router.skipped l.self.count l.self.target (entries_before l.old l.self.first l.slot);
 }
