@@ -21,7 +21,7 @@ module _ {K V S : Type 0} where
 module _ (K V S H : RattleType) (key : HashMembers K.Denot) (build : builder.Ghosts S.Denot H.Denot) (feed : hasher.Ghosts H.Denot) where
   -- the cache's type, as the logic has it
   abbrev pub cache_row : RattleType
-  cache_row = the_row K V S H (record { eq = key.eq }) (record { hash_input = key.hash_input }) build feed
+  cache_row = the_row K V S H (record {}) (record { eq = key.eq }) (record { hash_input = key.hash_input }) build feed
 
   -- after the borrow r ends, the pair at the place has the last value written through r
   abbrev pub lends_value : MutBor (Cached (K.Denot × V.Denot) S.Denot) → Place → MutBor V.Denot → Fml

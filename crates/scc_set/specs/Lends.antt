@@ -7,4 +7,4 @@ use Rattle.scc_set.specs.contracts.Owned.{the_row}
 
 -- the set's type, as the logic has it
 abbrev pub set_row : (K S H : RattleType) → HashMembers K.Denot → builder.Ghosts S.Denot H.Denot → hasher.Ghosts H.Denot → RattleType
-set_row K S H key build feed = the_row K S H (record { eq = key.eq }) (record { hash_input = key.hash_input }) build feed
+set_row K S H key build feed = the_row K S H (record {}) (record { eq = key.eq }) (record { hash_input = key.hash_input }) build feed
