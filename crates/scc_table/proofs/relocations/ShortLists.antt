@@ -5,7 +5,7 @@ use Rattle.std.proofs.lemmas.List.{append-nil, get_or_past, take_more, take-appe
 use Rattle.std.proofs.lemmas.List.Concat.{flat_map-append}
 use native.Mathlib.Decide.{dec_lt}
 use Rattle.scc_buckets.specs.Bounded.{HasList, IsBounded, IsListed, IsResized, PutsLast}
-use Rattle.scc_common.specs.Contents.{Contents, Settings, entries, bucket_count, list_of, lists_of, notes_of, settings_of, IsRouted}
+use Rattle.scc_common.specs.Contents.{Contents, Settings, entries, bucket_count, list_of, lists_of, notes_of, settings_of}
 use Rattle.scc_buckets.specs.Pour.{destined_for}
 use Rattle.scc_common.specs.Routing.{bucket_number}
 use Rattle.scc_common.specs.Sizes.{IsBucketCount, IsLawful}

@@ -1,9 +1,9 @@
 -- Growths of a table whose lists hold at most 32 entries, to arrays of a greatest size.
-use Rattle.std.proofs.Common.{◌≡◌, ◌≢◌, ◌∙◌, ◌*◌, ◌<◌, ◌≤◌, ℕ, [], inl, inr, length, refl, sym, ap, subst, arith}
+use Rattle.std.proofs.Common.{◌≡◌, ◌≢◌, ◌∙◌, ◌<◌, ◌≤◌, ℕ, [], inl, inr, length, refl, sym, ap, subst, arith}
 use Rattle.std.proofs.lemmas.Bool.{cases_order}
 use Rattle.scc_buckets.specs.Bounded.{HasListsOf}
 use Rattle.scc_common.specs.Contents.{Contents, bucket_count, entries, list_of, pending_of, IsNoteUp}
-use Rattle.scc_table.specs.Bounded.{DoublesBelow, GrowsBelow, IsDoublingDue, denied, doubles, has_room, is_full, makes, stays}
+use Rattle.scc_table.specs.Bounded.{GrowsBelow, IsDoublingDue, denied, doubles, has_room, is_full, makes, stays}
 
 module _ {E S : Type 0} (hash : E → ℕ) (most i : ℕ) (c : Contents E S) where
   -- while a bucket waits, a new key changes nothing

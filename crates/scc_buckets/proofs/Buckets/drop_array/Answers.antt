@@ -1,4 +1,4 @@
-use Rattle.std.proofs.Common.{◌∙◌, refl, sym, arith}
+use Rattle.std.proofs.Common.{◌∙◌, refl, sym}
 use Rattle.scc_common.specs.Contents.{bucket_count, entries, settings_of}
 use Rattle.scc_buckets.proofs.Bare.{all-bare}
 use Rattle.scc_buckets.proofs.MakingLemmas.{kept-none}

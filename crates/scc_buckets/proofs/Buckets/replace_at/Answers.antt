@@ -1,4 +1,4 @@
-use Rattle.std.proofs.Common.{◌<◌, length, ap, rules}
+use Rattle.std.proofs.Common.{◌<◌, length, rules}
 use Rattle.scc_array.specs.ShelfWrites.{put_whole}
 use Rattle.scc_buckets.proofs.Spots.{place-get}
 use Rattle.scc_buckets.proofs.Views.{count-view, list-view}

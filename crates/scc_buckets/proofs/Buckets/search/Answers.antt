@@ -1,5 +1,5 @@
 use Rattle.scc_common.specs.Contents.{hash_in}
-use Rattle.std.proofs.Common.{◌≡◌, ◌∙◌, sym, ap, rules, length, refl}
+use Rattle.std.proofs.Common.{◌≡◌, ◌∙◌, sym, rules, length, refl}
 use Rattle.scc_buckets.proofs.Bounds.{routed-view}
 use Rattle.scc_buckets.proofs.FindingLemmas.{has_tag, found_at, missed_at, no-entries}
 use Rattle.scc_buckets.proofs.Views.{entries-view, settings-view}

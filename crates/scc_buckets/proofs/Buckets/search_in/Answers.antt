@@ -1,5 +1,5 @@
 use Rattle.scc_common.specs.Contents.{hash_in}
-use Rattle.std.proofs.Common.{◌<◌, ◌∙◌, sym, ap, rules, length}
+use Rattle.std.proofs.Common.{◌<◌, ◌∙◌, sym, rules, length}
 use Rattle.scc_buckets.proofs.Bounds.{routed-view}
 use Rattle.scc_buckets.proofs.FindingLemmas.{has_tag, missed_at}
 use Rattle.scc_buckets.proofs.Views.{count-view, list-view, settings-view}

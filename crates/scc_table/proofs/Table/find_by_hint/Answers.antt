@@ -2,7 +2,6 @@ use Rattle.std.proofs.Common.{◌∙◌, sym, ap, arith}
 use Rattle.std.specs.List.{find}
 use Rattle.scc_common.specs.Contents.{entries, hash_in, pending_of}
 use Rattle.scc_table.proofs.arrays.JoinedLists.{pending-together}
-use Rattle.scc_table.proofs.arrays.CurrentParts.{settings-seen}
 use Rattle.scc_table.proofs.places.Searches.{entries-not_waiting}
 use Rattle.scc_table.proofs.Table.find_by_hint.Goals as goal
 

@@ -1,4 +1,4 @@
-use Rattle.std.proofs.Common.{ℕ, ◌≤◌, ◌<◌, ap, arith}
+use Rattle.std.proofs.Common.{ℕ, ◌≤◌, ◌<◌, arith}
 use Rattle.scc_common.specs.Contents.{bucket_count, settings_of}
 use Rattle.scc_array.specs.ShelfWrites.{put_whole}
 use Rattle.scc_table.proofs.arrays.WritesAt.{near-is, near-got, near-kept, near-written, far-bucket, far-slot, far-got, far-kept, far-written}

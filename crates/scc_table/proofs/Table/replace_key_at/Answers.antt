@@ -1,6 +1,5 @@
 use Rattle.std.proofs.Common.{ℕ, ◌≤◌, ◌<◌, ap, ◌∙◌, arith}
 use Rattle.scc_common.specs.Contents.{bucket_count, settings_of}
-use Rattle.scc_common.specs.Hashing.{hash_of}
 use Rattle.scc_table.proofs.arrays.WritesAt.{near-is, near-got, near-kept, near-written, far-bucket, far-slot, far-got, far-kept, far-written}
 use Rattle.scc_table.proofs.Table.replace_key_at.Goals as goal
 

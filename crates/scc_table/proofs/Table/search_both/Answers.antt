@@ -1,4 +1,4 @@
-use Rattle.std.proofs.Common.{◌≡◌, ◌∙◌, ◌+◌, sym, ap, arith}
+use Rattle.std.proofs.Common.{◌∙◌, ◌+◌, sym, ap, arith}
 use Rattle.std.specs.List.{position}
 use Rattle.scc_common.specs.Contents.{bucket_count, list_of}
 use Rattle.scc_buckets.specs.declared.place.Place.{Place}

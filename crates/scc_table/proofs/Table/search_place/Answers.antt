@@ -1,4 +1,4 @@
-use Rattle.std.proofs.Common.{ℕ, ◌<◌, ◌∙◌, Bool, refl, sym, ap, arith}
+use Rattle.std.proofs.Common.{ℕ, ◌<◌, ◌∙◌, Bool, refl, sym, arith}
 use Rattle.scc_common.specs.Contents.{bucket_count, hash_in, settings_of}
 use Rattle.scc_common.specs.Routing.{bucket_number}
 use Rattle.scc_buckets.proofs.FindingLemmas.{HashOf}

@@ -1,4 +1,4 @@
-use Rattle.std.proofs.Common.{◌≡◌, ◌∙◌, true, sym, ap, subst, arith}
+use Rattle.std.proofs.Common.{◌∙◌, sym, subst, arith}
 use Rattle.scc_common.specs.Contents.{Contents, Settings, settings_of}
 use Rattle.scc_draining.specs.Drainings.{draining_of}
 use Rattle.scc_table.specs.Removals.{SwapTakesFirst}
