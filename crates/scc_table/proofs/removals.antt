@@ -1,5 +1,6 @@
 pub mod CurrentArray
 pub mod Fields
 pub mod OldArray
+pub mod OldEntry
 pub mod OneList
 pub mod Shrinks

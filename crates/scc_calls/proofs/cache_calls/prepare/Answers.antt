@@ -1,4 +1,5 @@
 use Rattle.std.proofs.Common.{◌≤◌, ◌*◌, ℕ, List, length, inl, inr, sym, ap, subst, arith, rules}
+use Rattle.scc_common.specs.Hashing.{hash_of}
 use Rattle.scc_common.specs.Contents.{bucket_count, key_hash, lists_of}
 use Rattle.scc_table.proofs.arrays.SameParts.{hash-same}
 use Rattle.scc_cache.specs.CacheSteps.{IsPreparedForPut, list_number}
@@ -16,7 +17,7 @@ returns-in-Ok g c =
     let hash : g.row.K.Denot → ℕ = key_hash g.H.BuildHasher g.H.Hasher.Hasher g.K.Hash.hash_input c.args.cache.now.contents in
     record {
       made = (
-          let like = hash-same g.H.BuildHasher g.H.Hasher.Hasher g.K.Hash.hash_input a.contents d.contents c.in-Ok.ensures.settings in
+          let like = hash-same (λ h k. hash_of g.H.BuildHasher g.H.Hasher.Hasher h (g.K.Hash.hash_input k)) a.contents d.contents c.in-Ok.ensures.settings in
           rw c.in-Put.is (by_place g.K.PartialEq.eq (list_number hash a.contents) (lists_of a.contents) k
           (λ i p at. let same = (c.in-Ok.ensures.present p (i, at)).1 in rw same (inl (p, (i, at))))
           (λ none. inr (subst (λ (h : g.row.K.Denot → ℕ). IsPreparedForPut h d k) (sym like) (c.in-Ok.ensures.ok none).ready))));

@@ -14,7 +14,7 @@ returns-in-Ok g c =
           let a = c.args.map.now in
           let d = c.make_room.new.self in
           let k = c.args.k.now in
-          let like = hash-same g.H.BuildHasher g.H.Hasher.Hasher g.K.Hash.hash_input a d c.make_room.ensures.settings in
+          let like = hash-same (λ h k. hash_of g.H.BuildHasher g.H.Hasher.Hasher h (g.K.Hash.hash_input k)) a d c.make_room.ensures.settings in
           by-find (find g.K.PartialEq.eq (entries a) k)
           (λ p is. let same : d ≡ a = (c.in-Ok.ensures.present (rw is refl)).1 in inl (rw same (rw is refl)))
           (λ none. inr (subst (λ (h : g.row.K.Denot → ℕ). IsPreparedAt h (λ p. p.0) d (h k)) (sym like) (c.in-Ok.ensures.ok none).made)));

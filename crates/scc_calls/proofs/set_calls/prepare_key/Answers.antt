@@ -1,4 +1,5 @@
 use Rattle.std.proofs.Common.{◌≡◌, ℕ, refl, sym, inl, inr, subst, rules}
+use Rattle.scc_common.specs.Hashing.{hash_of}
 use Rattle.scc_common.specs.Contents.{entries}
 use Rattle.scc_set.specs.Keys.{find}
 use Rattle.scc_common.specs.Steps.{IsPreparedAt}
@@ -13,7 +14,7 @@ returns-in-Ok g c =
           let a = c.args.set.now in
           let d = c.make_room.new.self in
           let k = c.args.k.now in
-          let like = hash-same g.H.BuildHasher g.H.Hasher.Hasher g.K.Hash.hash_input a d c.make_room.ensures.settings in
+          let like = hash-same (λ h k. hash_of g.H.BuildHasher g.H.Hasher.Hasher h (g.K.Hash.hash_input k)) a d c.make_room.ensures.settings in
           by-find (find g.K.PartialEq.eq (entries a) k)
           (λ p is. let same : d ≡ a = (c.in-Ok.ensures.present (rw is refl)).1 in inl (rw same (rw is refl)))
           (λ none. inr (subst (λ (h : g.row.K.Denot → ℕ). IsPreparedAt h (λ q. q) d (h k)) (sym like) (c.in-Ok.ensures.ok none).made)));
