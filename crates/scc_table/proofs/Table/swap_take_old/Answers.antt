@@ -1,4 +1,4 @@
-use Rattle.std.proofs.Common.{◌-◌, ◌≤◌, ◌<◌, List, length, sym, subst, arith}
+use Rattle.std.proofs.Common.{◌-◌, ◌<◌, List, length, sym, subst, arith}
 use Rattle.scc_array.specs.Shelves.{shelf_of}
 use Rattle.scc_array.specs.Shelf.{Shelf, shelf_entries}
 use Rattle.scc_common.specs.Contents.{Contents, bucket_count, hash_in}
@@ -6,10 +6,10 @@ use Rattle.scc_buckets.specs.Placed.{at, at-get}
 use Rattle.scc_table.specs.Removals.{SwapTakesAt}
 use Rattle.scc_draining.specs.Drainings.{draining_of}
 use Rattle.scc_table.specs.TwoArrays.{together, IsTable}
-use Rattle.scc_table.proofs.arrays.OldSwaps.{swap-some, swap-table, swap-takes}
+use Rattle.scc_table.proofs.arrays.OldSwaps.{swap-table, swap-takes}
 use Rattle.scc_table.proofs.arrays.OneBucket.{old-here}
+use Rattle.scc_table.proofs.removals.OldEntry.{entry-far, entry-some, entry-there}
 use Rattle.scc_table.proofs.removals.OneList.{swapped-count, swapped-moved, swapped-unique, taken-swapped}
-use Rattle.scc_table.proofs.arrays.Views.{count-seen}
 use Rattle.scc_table.proofs.arrays.Writes.{place-seen}
 use Rattle.scc_table.specs.Places.{spot_of}
 use Rattle.scc_table.proofs.Table.swap_take_old.Goals as goal
@@ -34,66 +34,18 @@ returns-then-len-count g c =
 
 pub overflow_sub-self : goal.overflow_sub-self
 overflow_sub-self g c =
-    let t = c.self.inside in
-    let cur = t.current in
-    let inv = c.self.invariant in
-    let hk = hash_in g.H.Hashes.hash_of cur in
-    let key = g.E.Keyed.key_of in
-    let p = c.args.place in
-    let view = c.self.view_is in
-    let n = c.bucket_count-count.result in
-    let count = c.bucket_count-count.ensures.count in
-    let far : n ≤ p.bucket = omega (arith, count, count-seen (λ e. hk (key e)) cur t.draining.waiting.items t.draining.array c.args.self.now view inv.arrays.flags, c.requires.old) in
-    let there = old-here inv p view c.requires.place n count far in
-    let fewer : bucket_count cur < length t.draining.array = omega (arith, count, c.len.ensures.count, c.if-len-count.false) in
-    let within = place-seen inv p view c.requires.place in
-    let laws = g.met.E.Key.Eq.laws in
-    let es = shelf_entries (shelf_of t.draining.array (p.bucket - n)) in
-    swap-some laws inv p within (p.bucket - n) there.0 there.1 (at es p.slot there.2) (at-get es p.slot there.2) fewer
+    let es = shelf_entries (shelf_of c.self.inside.draining.array (c.args.place.bucket - c.bucket_count-count.result)) in
+    let slot = (entry-there g.met.E.Key.Eq.laws c.self.invariant c.self.view_is c.args.place c.requires.place c.requires.old c.bucket_count-count.ensures.count).1 in
+    entry-some g.met.E.Key.Eq.laws c.self.invariant c.self.view_is c.args.place c.requires.place c.requires.old c.bucket_count-count.ensures.count (at es c.args.place.slot slot) (at-get es c.args.place.slot slot)
 
 pub overflow_sub-place : goal.overflow_sub-place
-overflow_sub-place g c =
-    let t = c.self.inside in
-    let cur = t.current in
-    let inv = c.self.invariant in
-    let hk = hash_in g.H.Hashes.hash_of cur in
-    let key = g.E.Keyed.key_of in
-    let p = c.args.place in
-    let view = c.self.view_is in
-    let n = c.bucket_count-count.result in
-    let count = c.bucket_count-count.ensures.count in
-    let far : n ≤ p.bucket = omega (arith, count, count-seen (λ e. hk (key e)) cur t.draining.waiting.items t.draining.array c.args.self.now view inv.arrays.flags, c.requires.old) in
-    far
+overflow_sub-place g c = entry-far g.met.E.Key.Eq.laws c.self.invariant c.self.view_is c.args.place c.requires.place c.requires.old c.bucket_count-count.ensures.count
 
 pub swap_remove_at-requires-clause-bucket : goal.swap_remove_at-requires-clause-bucket
-swap_remove_at-requires-clause-bucket g c =
-    let t = c.self.inside in
-    let cur = t.current in
-    let inv = c.self.invariant in
-    let hk = hash_in g.H.Hashes.hash_of cur in
-    let key = g.E.Keyed.key_of in
-    let p = c.args.place in
-    let view = c.self.view_is in
-    let n = c.bucket_count-count.result in
-    let count = c.bucket_count-count.ensures.count in
-    let far : n ≤ p.bucket = omega (arith, count, count-seen (λ e. hk (key e)) cur t.draining.waiting.items t.draining.array c.args.self.now view inv.arrays.flags, c.requires.old) in
-    let there = old-here inv p view c.requires.place n count far in
-    there.1
+swap_remove_at-requires-clause-bucket g c = (entry-there g.met.E.Key.Eq.laws c.self.invariant c.self.view_is c.args.place c.requires.place c.requires.old c.bucket_count-count.ensures.count).0
 
 pub swap_remove_at-requires-clause-slot : goal.swap_remove_at-requires-clause-slot
-swap_remove_at-requires-clause-slot g c =
-    let t = c.self.inside in
-    let cur = t.current in
-    let inv = c.self.invariant in
-    let hk = hash_in g.H.Hashes.hash_of cur in
-    let key = g.E.Keyed.key_of in
-    let p = c.args.place in
-    let view = c.self.view_is in
-    let n = c.bucket_count-count.result in
-    let count = c.bucket_count-count.ensures.count in
-    let far : n ≤ p.bucket = omega (arith, count, count-seen (λ e. hk (key e)) cur t.draining.waiting.items t.draining.array c.args.self.now view inv.arrays.flags, c.requires.old) in
-    let there = old-here inv p view c.requires.place n count far in
-    there.2
+swap_remove_at-requires-clause-slot g c = (entry-there g.met.E.Key.Eq.laws c.self.invariant c.self.view_is c.args.place c.requires.place c.requires.old c.bucket_count-count.ensures.count).1
 
 pub invariant_of-self : goal.invariant_of-self
 invariant_of-self g c =
@@ -106,7 +58,7 @@ invariant_of-self g c =
     let view = c.self.view_is in
     let n = c.bucket_count-count.result in
     let count = c.bucket_count-count.ensures.count in
-    let far : n ≤ p.bucket = omega (arith, count, count-seen (λ e. hk (key e)) cur t.draining.waiting.items t.draining.array c.args.self.now view inv.arrays.flags, c.requires.old) in
+    let far = entry-far g.met.E.Key.Eq.laws inv view p c.requires.place c.requires.old count in
     let there = old-here inv p view c.requires.place n count far in
     let fewer : bucket_count cur < length t.draining.array = omega (arith, count, c.len.ensures.count, c.if-len-count.false) in
     let within = place-seen inv p view c.requires.place in
@@ -127,7 +79,7 @@ returns g c =
     let view = c.self.view_is in
     let n = c.bucket_count-count.result in
     let count = c.bucket_count-count.ensures.count in
-    let far : n ≤ p.bucket = omega (arith, count, count-seen (λ e. hk (key e)) cur t.draining.waiting.items t.draining.array c.args.self.now view inv.arrays.flags, c.requires.old) in
+    let far = entry-far g.met.E.Key.Eq.laws inv view p c.requires.place c.requires.old count in
     let there = old-here inv p view c.requires.place n count far in
     let fewer : bucket_count cur < length t.draining.array = omega (arith, count, c.len.ensures.count, c.if-len-count.false) in
     let within = place-seen inv p view c.requires.place in
