@@ -8,3 +8,4 @@ pub mod OldSpots
 pub mod OneList
 pub mod Replies
 pub mod Searches
+pub mod Targets
