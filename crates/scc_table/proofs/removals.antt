@@ -1,4 +1,5 @@
 pub mod CurrentArray
+pub mod CurrentEntry
 pub mod Fields
 pub mod OldArray
 pub mod OldEntry
