@@ -1,8 +1,8 @@
 -- What is known of an entry of the current array, by its place, and after it is taken out.
-use Rattle.std.proofs.Common.{◌≡◌, ℕ, ◌<◌, Bool, Some, List, sym, ap, ◌∙◌, subst, arith}
+use Rattle.std.proofs.Common.{◌≡◌, ℕ, ◌<◌, Bool, Some, sym, ap, ◌∙◌, subst, arith}
 use Rattle.std.specs.Cmp.{IsEquivalence}
 use Rattle.std.specs.List.{remove, slice_get}
-use Rattle.scc_common.specs.Contents.{Contents, bucket_count, entries, hash_in, list_of, owed_of, settings_of, waiting_of}
+use Rattle.scc_common.specs.Contents.{Contents, bucket_count, entries, hash_in, list_of, owed_of, waiting_of}
 use Rattle.scc_buckets.specs.OneList.{IsTakenFrom}
 use Rattle.scc_buckets.specs.Places as spots
 use Rattle.scc_buckets.specs.declared.place.Place.{Place}

@@ -1,7 +1,7 @@
 -- What is known of an entry of the old array, by its place, and after it is taken out.
-use Rattle.std.proofs.Common.{◌≡◌, ℕ, ◌-◌, ◌<◌, ◌≤◌, Bool, Some, List, length, map, set, sym, ap, ◌∙◌, subst, arith}
+use Rattle.std.proofs.Common.{◌≡◌, ℕ, ◌-◌, ◌<◌, ◌≤◌, Bool, Some, List, length, set, sym, ap, ◌∙◌, subst, arith}
 use Rattle.std.specs.Cmp.{IsEquivalence}
-use Rattle.std.specs.List.{slice_get, IsDistinct}
+use Rattle.std.specs.List.{slice_get}
 use Rattle.scc_array.specs.Shelves.{shelf_of}
 use Rattle.scc_array.specs.Shelf.{Shelf, shelf_entries, without_slot}
 use Rattle.scc_common.specs.Contents.{Contents, bucket_count, entries, owed_of, waiting_of}
