@@ -43,22 +43,22 @@ entry_at-entry-requires-clause-slot g c =
 pub returns-clause-value : goal.returns-clause-value
 returns-clause-value g c =
     (target-old c.self.invariant c.self.view_is c.args.place c.requires c.bucket_count-count.ensures.count c.if-place-count.false c.entry_at-entry.result.now c.entry_at-entry.ensures (
-        rw c.router-router.ensures at c.bucket.ensures.value ∙ ap (bucket_number (settings_of c.self.inside.current).skipped c.bucket_count-count.result) (rw c.router-router.ensures at c.hash.ensures ∙ ap (λ k. hash_in g.H.Hashes.hash_of c.self.inside.current k) c.key.ensures))).value
+    rw c.router-router.ensures at c.bucket.ensures.value ∙ ap (bucket_number (settings_of c.self.inside.current).skipped c.bucket_count-count.result) (rw c.router-router.ensures at c.hash.ensures ∙ ap (λ k. hash_in g.H.Hashes.hash_of c.self.inside.current k) c.key.ensures))).value
 
 pub returns-clause-next : goal.returns-clause-next
 returns-clause-next g c =
     (target-old c.self.invariant c.self.view_is c.args.place c.requires c.bucket_count-count.ensures.count c.if-place-count.false c.entry_at-entry.result.now c.entry_at-entry.ensures (
-        rw c.router-router.ensures at c.bucket.ensures.value ∙ ap (bucket_number (settings_of c.self.inside.current).skipped c.bucket_count-count.result) (rw c.router-router.ensures at c.hash.ensures ∙ ap (λ k. hash_in g.H.Hashes.hash_of c.self.inside.current k) c.key.ensures))).next.start
+    rw c.router-router.ensures at c.bucket.ensures.value ∙ ap (bucket_number (settings_of c.self.inside.current).skipped c.bucket_count-count.result) (rw c.router-router.ensures at c.hash.ensures ∙ ap (λ k. hash_in g.H.Hashes.hash_of c.self.inside.current k) c.key.ensures))).next.start
 
 pub returns-clause-index : goal.returns-clause-index
 returns-clause-index g c =
     (target-old c.self.invariant c.self.view_is c.args.place c.requires c.bucket_count-count.ensures.count c.if-place-count.false c.entry_at-entry.result.now c.entry_at-entry.ensures (
-        rw c.router-router.ensures at c.bucket.ensures.value ∙ ap (bucket_number (settings_of c.self.inside.current).skipped c.bucket_count-count.result) (rw c.router-router.ensures at c.hash.ensures ∙ ap (λ k. hash_in g.H.Hashes.hash_of c.self.inside.current k) c.key.ensures))).next.index
+    rw c.router-router.ensures at c.bucket.ensures.value ∙ ap (bucket_number (settings_of c.self.inside.current).skipped c.bucket_count-count.result) (rw c.router-router.ensures at c.hash.ensures ∙ ap (λ k. hash_in g.H.Hashes.hash_of c.self.inside.current k) c.key.ensures))).next.index
 
 pub returns-clause-within : goal.returns-clause-within
 returns-clause-within g c =
     (target-old c.self.invariant c.self.view_is c.args.place c.requires c.bucket_count-count.ensures.count c.if-place-count.false c.entry_at-entry.result.now c.entry_at-entry.ensures (
-        rw c.router-router.ensures at c.bucket.ensures.value ∙ ap (bucket_number (settings_of c.self.inside.current).skipped c.bucket_count-count.result) (rw c.router-router.ensures at c.hash.ensures ∙ ap (λ k. hash_in g.H.Hashes.hash_of c.self.inside.current k) c.key.ensures))).within
+    rw c.router-router.ensures at c.bucket.ensures.value ∙ ap (bucket_number (settings_of c.self.inside.current).skipped c.bucket_count-count.result) (rw c.router-router.ensures at c.hash.ensures ∙ ap (λ k. hash_in g.H.Hashes.hash_of c.self.inside.current k) c.key.ensures))).within
 
 pub returns-clause-small : goal.returns-clause-small
 returns-clause-small g c =
