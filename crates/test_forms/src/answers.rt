@@ -1,6 +1,7 @@
 //! What calls on a container return, by numbers.
 
-use crate::numbered::{Seen, keeps, raise, seen, seen_key};
+use crate::form::Way;
+use crate::numbered::{Seen, keeps, raise, seen, seen_key, value_of};
 use crate::token::Token;
 use scc_common::{InsertError, KeyError, Verdict};
 use scc_fallible::TryInsertError;
@@ -78,6 +79,15 @@ pub fn untried(error: TryInsertError<Token, Token, u64>) -> Answer {
     match error {
         TryInsertError::Failed(number) => Answer::Failed(number),
         TryInsertError::Memory(pair) => Answer::Refused(Some(seen(&pair.0, &pair.1))),
+    }
+}
+
+/// Returns what a closure returns that gets a key and may fail: the value with the key's number or, by `OrFail`, that
+/// number as its error.
+pub fn tried(way: Way, key: &Token, value: Token) -> Result<Token, u64> {
+    match way {
+        Way::OrFail => Err(key.number()),
+        _ => Ok(value_of(key, value)),
     }
 }
 

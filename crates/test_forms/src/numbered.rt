@@ -23,6 +23,30 @@ pub fn seen_pair(pair: Option<(Token, Token)>) -> Option<Seen> {
     }
 }
 
+/// Returns the numbers of a key of a set, if there is one.
+pub fn seen_lone(key: Option<Token>) -> Option<Seen> {
+    match key {
+        Some(key) => Some(seen_key(&key)),
+        None => None,
+    }
+}
+
+/// Returns the number of a value, if there is one.
+pub fn number_of(value: Option<Token>) -> Option<u64> {
+    match value {
+        Some(value) => Some(value.number()),
+        None => None,
+    }
+}
+
+/// Returns the mark of a key, if there is one.
+pub fn mark_of(key: Option<Token>) -> Option<u64> {
+    match key {
+        Some(key) => Some(key.mark()),
+        None => None,
+    }
+}
+
 /// Adds the numbers of `pairs` to `met`. Returns whether there was room.
 pub fn note_pairs(pairs: &[(Token, Token)], met: &mut Vec<Seen>) -> bool {
     for pair in pairs {

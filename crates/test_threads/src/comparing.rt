@@ -1,7 +1,7 @@
 // Whole containers: comparisons beside a writer and in both ways at once, clones, and containers made of items.
 use crate::expect::{expect, expect_eq};
 use crate::kinds::{Cache, Index, Map, Set, Threaded};
-use crate::trials::{Trial, holds_in_each};
+use crate::trials::{Trial, holds_in, holds_in_each};
 use scc_shared::index::HashIndex;
 use scc_shared::map::HashMap;
 use scc_shared_cache::HashCache;
@@ -136,63 +136,47 @@ fn differs<C: Threaded, R: Wait>(rt: &R, one: &C, other: &C, has_values: bool) -
     same && written && again && gone && differ(rt, one, other)
 }
 
-/// Returns whether a map's clone has its slots, and equals it only while their values are equal.
-fn is_clone(rt: &impl Wait, map: &Map, copy: &Map) -> bool {
-    let slots = (
-        map.capacity(rt),
-        copy.capacity(rt),
-        *copy.capacity_range().start(),
-    );
-    let same = copy.eq_sync(rt, map);
-    let written = copy.rewrite(rt, (7 << 57) | 7, 8) && !copy.eq_sync(rt, map);
-    let again = copy.rewrite(rt, (7 << 57) | 7, (7 << 57) | 7);
-    slots == (512, 512, 512) && same && written && again
+/// Fills an empty container. Returns whether it equals its clone and differs from it as it must.
+pub(crate) fn equals_its_copy<C: Threaded + Drop, R: Wait>(
+    rt: &R,
+    container: &C,
+    has_values: bool,
+) -> bool {
+    if !fills(rt, container) {
+        return false;
+    }
+    match container.copied(rt) {
+        Some(copy) => differs(rt, &copy, container, has_values),
+        None => false,
+    }
 }
 
-/// Returns whether a map equals its clone and differs from it as it must.
-fn map_and_clone(rt: &impl Wait, map: &Map) -> bool {
+#[test]
+fn shared_clones_equal(rt: HostRuntime) {
+    let right = [
+        holds_in::<Map, _>(&rt, rt.alloc(), Trial::Copy(true)),
+        holds_in::<Set, _>(&rt, rt.alloc(), Trial::Copy(false)),
+        holds_in::<Index, _>(&rt, rt.alloc(), Trial::Copy(true)),
+    ];
+    expect_eq(&rt, right, [true; 3]);
+}
+
+/// Returns the capacity of a map, and the capacity and the least capacity of its clone.
+fn slots_of_copy(rt: &impl Wait, map: &Map) -> Option<[usize; 3]> {
     match map.try_clone(rt) {
-        Ok(copy) => is_clone(rt, map, &copy) && differs(rt, &copy, map, true),
-        Err(_) => false,
+        Ok(copy) => Some([
+            map.capacity(rt),
+            copy.capacity(rt),
+            *copy.capacity_range().start(),
+        ]),
+        Err(_) => None,
     }
 }
 
 #[test]
-fn shared_map_clone_equals(rt: HostRuntime) {
+fn shared_map_clone_has_its_slots(rt: HostRuntime) {
     match filled::<Map, _>(&rt, rt.alloc()) {
-        Some(map) => expect(&rt, map_and_clone(&rt, &map)),
-        None => expect(&rt, false),
-    }
-}
-
-/// Returns whether a set equals its clone and differs from it as it must.
-fn set_and_clone(rt: &impl Wait, set: &Set) -> bool {
-    match set.try_clone(rt) {
-        Ok(copy) => differs(rt, &copy, set, false),
-        Err(_) => false,
-    }
-}
-
-#[test]
-fn shared_set_clone_equals(rt: HostRuntime) {
-    match filled::<Set, _>(&rt, rt.alloc()) {
-        Some(set) => expect(&rt, set_and_clone(&rt, &set)),
-        None => expect(&rt, false),
-    }
-}
-
-/// Returns whether an index equals its clone and differs from it as it must.
-fn index_and_clone(rt: &impl Wait, index: &Index) -> bool {
-    match index.try_clone(rt) {
-        Ok(copy) => differs(rt, &copy, index, true),
-        Err(_) => false,
-    }
-}
-
-#[test]
-fn shared_index_clone_equals(rt: HostRuntime) {
-    match filled::<Index, _>(&rt, rt.alloc()) {
-        Some(index) => expect(&rt, index_and_clone(&rt, &index)),
+        Some(map) => expect_eq(&rt, slots_of_copy(&rt, &map), Some([512; 3])),
         None => expect(&rt, false),
     }
 }

@@ -1,7 +1,7 @@
 // What is left of a reservation that was dropped: a removal gives its slots back, and a first array is made without
 // them. The number of a bucket shows the size of an array, and asking for it changes nothing.
 use crate::expect::expect_eq;
-use crate::kinds::{HALF, Index, Map, Set, Threaded};
+use crate::kinds::{Bucketed, HALF, Index, Map, Set, Threaded};
 use scc_common::Verdict;
 use std::alloc::Global;
 use std::process::Abort;
@@ -29,12 +29,9 @@ enum Insertion {
 }
 
 // A container of which slots can be reserved. A kind without a way to add or to remove a key does it by another way.
-trait Reserving: Threaded {
+trait Reserving: Bucketed {
     /// Reserves slots, and drops the reservation again. Returns the bucket of `key` before and between.
     fn reserve_and_drop<R: Wait>(&self, rt: &R, slots: usize, key: u64) -> Option<(usize, usize)>;
-
-    /// Returns the bucket of a key.
-    fn bucket<R: Wait>(&self, rt: &R, key: u64) -> usize;
 
     /// Adds a missing key, and returns whether it was added.
     fn insert_by<R: Wait>(&self, rt: &R, way: Insertion, key: u64) -> bool;
@@ -88,10 +85,6 @@ impl Reserving for Map {
         }
     }
 
-    fn bucket<R: Wait>(&self, rt: &R, key: u64) -> usize {
-        self.bucket_index(rt, &key)
-    }
-
     fn insert_by<R: Wait>(&self, rt: &R, way: Insertion, key: u64) -> bool {
         upsert(rt, self, way, key)
     }
@@ -108,10 +101,6 @@ impl Reserving for Set {
             Some(_held) => Some((before, self.bucket_index(rt, &key))),
             None => None,
         }
-    }
-
-    fn bucket<R: Wait>(&self, rt: &R, key: u64) -> usize {
-        self.bucket_index(rt, &key)
     }
 
     fn insert_by<R: Wait>(&self, rt: &R, way: Insertion, key: u64) -> bool {
@@ -162,10 +151,6 @@ impl Reserving for Index {
             Some(_held) => Some((before, self.bucket_index(rt, &key))),
             None => None,
         }
-    }
-
-    fn bucket<R: Wait>(&self, rt: &R, key: u64) -> usize {
-        self.bucket_index(rt, &key)
     }
 
     fn insert_by<R: Wait>(&self, rt: &R, way: Insertion, key: u64) -> bool {
@@ -230,18 +215,13 @@ fn given_back<C: Reserving + Drop, R: Wait>(rt: &R, alloc: Global) -> [Option<[u
 const GIVEN_BACK: [Option<[usize; 4]>; 7] = [Some([1, 32, 32, 1]); 7];
 
 #[test]
-fn shared_map_removal_gives_back(rt: HostRuntime) {
-    expect_eq(&rt, given_back::<Map, _>(&rt, rt.alloc()), GIVEN_BACK);
-}
-
-#[test]
-fn shared_set_removal_gives_back(rt: HostRuntime) {
-    expect_eq(&rt, given_back::<Set, _>(&rt, rt.alloc()), GIVEN_BACK);
-}
-
-#[test]
-fn shared_index_removal_gives_back(rt: HostRuntime) {
-    expect_eq(&rt, given_back::<Index, _>(&rt, rt.alloc()), GIVEN_BACK);
+fn a_removal_gives_back_a_dropped_reservation(rt: HostRuntime) {
+    let found = [
+        given_back::<Map, _>(&rt, rt.alloc()),
+        given_back::<Set, _>(&rt, rt.alloc()),
+        given_back::<Index, _>(&rt, rt.alloc()),
+    ];
+    expect_eq(&rt, found, [GIVEN_BACK; 3]);
 }
 
 const INSERTIONS: [Insertion; 4] = [

@@ -80,4 +80,13 @@ pub trait Threaded: Sized {
 
     /// Returns whether it has exactly what `other` has.
     fn equals<R: Wait>(&self, rt: &R, other: &Self) -> bool;
+
+    /// Returns a clone, or `None` if memory is refused or the kind has no clones.
+    fn copied<R: Wait>(&self, rt: &R) -> Option<Self>;
+}
+
+/// A container that tells the bucket of a key.
+pub trait Bucketed: Threaded {
+    /// Returns the bucket of a key.
+    fn bucket<R: Wait>(&self, rt: &R, key: u64) -> usize;
 }

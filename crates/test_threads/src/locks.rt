@@ -1,7 +1,7 @@
 // Which locks a call holds: a stripe's alone, readers share it, and a walk releases a stripe's lock before it takes
 // the next. So one lock round the whole container fails these tests, and so does one lock for each stripe that readers
 // don't share.
-use crate::expect::{expect, expect_eq};
+use crate::expect::expect_eq;
 use crate::kinds::{Cache, HALF, Index, Map, Set, Threaded, Visit, Way};
 use crate::trials::{Trial, holds_in, holds_in_each};
 use std::alloc::Global;
@@ -192,21 +192,12 @@ fn let_go_first<C: Threaded + Sync + Drop, R: Threads + Wait + Sync>(
 }
 
 #[test]
-fn next_lets_its_stripe_go_first(rt: HostRuntime) {
-    expect(&rt, let_go_first::<Map, _>(&rt, rt.alloc(), 6));
-}
-
-#[test]
-fn next_of_a_set_lets_its_stripe_go_first(rt: HostRuntime) {
-    expect(&rt, let_go_first::<Set, _>(&rt, rt.alloc(), 6));
-}
-
-#[test]
-fn next_of_an_index_lets_its_stripe_go_first(rt: HostRuntime) {
-    expect(&rt, let_go_first::<Index, _>(&rt, rt.alloc(), 6));
-}
-
-#[test]
-fn walk_over_a_cache_lets_its_stripe_go_first(rt: HostRuntime) {
-    expect(&rt, let_go_first::<Cache, _>(&rt, rt.alloc(), 3));
+fn every_way_lets_its_stripe_go_first(rt: HostRuntime) {
+    let right = [
+        let_go_first::<Map, _>(&rt, rt.alloc(), 6),
+        let_go_first::<Set, _>(&rt, rt.alloc(), 6),
+        let_go_first::<Index, _>(&rt, rt.alloc(), 6),
+        let_go_first::<Cache, _>(&rt, rt.alloc(), 3),
+    ];
+    expect_eq(&rt, right, [true; 4]);
 }

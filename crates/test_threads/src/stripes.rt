@@ -1,7 +1,7 @@
 // Which stripe and which bucket a key has, the order of stripes in a walk, and the stripe that an entry tells. Under
 // `Same` the highest bits of a key name its stripe, and the bits after them its bucket.
 use crate::expect::expect_eq;
-use crate::kinds::{Cache, Index, Map, Set, Threaded, Visit, Way};
+use crate::kinds::{Bucketed, Cache, Index, Map, Set, Threaded, Visit, Way};
 use crate::trials::{Trial, holds_in_each};
 use scc_cache::locked::Entry as CacheEntry;
 use scc_owned::index::locked::Entry as IndexEntry;
@@ -13,29 +13,6 @@ use std::sync::Wait;
 
 /// Slots for four stripes of two buckets each.
 const SLOTS: usize = 256;
-
-// A container that tells the bucket of a key.
-trait Bucketed: Threaded {
-    fn bucket<R: Wait>(&self, rt: &R, key: u64) -> usize;
-}
-
-impl Bucketed for Map {
-    fn bucket<R: Wait>(&self, rt: &R, key: u64) -> usize {
-        self.bucket_index(rt, &key)
-    }
-}
-
-impl Bucketed for Set {
-    fn bucket<R: Wait>(&self, rt: &R, key: u64) -> usize {
-        self.bucket_index(rt, &key)
-    }
-}
-
-impl Bucketed for Index {
-    fn bucket<R: Wait>(&self, rt: &R, key: u64) -> usize {
-        self.bucket_index(rt, &key)
-    }
-}
 
 /// Returns the buckets of the least keys of the last stripe whose third bit is 0 and 1. The first two bits of both are
 /// 1, and name the stripe alone.

@@ -1,5 +1,5 @@
 // What is tried on a container of each kind. One function makes the container and tries it.
-use crate::comparing::{compares_both_ways, is_itself};
+use crate::comparing::{compares_both_ways, equals_its_copy, is_itself};
 use crate::kinds::{Cache, Index, Map, Set, Threaded, Way};
 use crate::locks::{leaves_other, lets_go, share};
 use crate::stripes::goes_in_order;
@@ -15,6 +15,8 @@ pub enum Trial {
     EqualsItself,
     /// Two containers that two threads compare with one another come to an end.
     BothWays,
+    /// A container equals its clone and differs from it as it must, whether its kind has values or not.
+    Copy(bool),
     /// A key goes into the second stripe while an entry of the first stripe is held.
     OtherStripe,
     /// Two threads read one key at once.
@@ -31,7 +33,7 @@ impl Trial {
     /// Returns the number of slots of the container.
     fn slots(self) -> usize {
         match self {
-            Trial::EqualsItself | Trial::BothWays => 512,
+            Trial::EqualsItself | Trial::BothWays | Trial::Copy(_) => 512,
             Trial::OtherStripe | Trial::Readers | Trial::LetsGo(_) => 128,
             Trial::InOrder(_) => 1024,
             Trial::Walks(_, slots) => slots,
@@ -49,6 +51,7 @@ fn holds<C: Threaded + Sync + Drop, R: Threads + Wait + Sync>(
     match trial {
         Trial::EqualsItself => is_itself(rt, container),
         Trial::BothWays => compares_both_ways(rt, alloc, container),
+        Trial::Copy(has_values) => equals_its_copy(rt, container, has_values),
         Trial::OtherStripe => leaves_other(rt, container),
         Trial::Readers => share(rt, container),
         Trial::LetsGo(way) => lets_go(rt, alloc, container, way),

@@ -1,6 +1,6 @@
 //! `Form` for the owned cache.
 
-use crate::answers::{Answer, Kind, Rule, raise_and_keep, refused, untried, verdict};
+use crate::answers::{Answer, Kind, Rule, raise_and_keep, refused, tried, untried, verdict};
 use crate::form::{Act, At, Form, Sizes, Way};
 use crate::numbered::{Seen, note_pairs, raise_to_even, seen, seen_pair, value_of};
 use crate::token::Token;
@@ -65,8 +65,7 @@ fn enter_or_fail<'a>(
     let entry = cache.entry_sync(key);
     match way {
         Way::OrTryInsertWith => entry.or_try_put_with(|| Ok(value)),
-        Way::OrTryInsertWithKey => entry.or_try_put_with_key(|key| Ok(value_of(key, value))),
-        _ => entry.or_try_put_with_key(|key| Err(key.number())),
+        _ => entry.or_try_put_with_key(|key| tried(way, key, value)),
     }
 }
 
@@ -210,12 +209,12 @@ impl Form for Owned<Token, Token, Masked> {
     }
 
     fn remove_if(&mut self, key: &Token) -> Answer {
-        let taken = self.remove_if_sync(key, |value| raise_to_even(value));
+        let taken = self.remove_if_sync(key, raise_to_even);
         Answer::Found(seen_pair(taken))
     }
 
     fn read(&self, key: &Token) -> Answer {
-        let found = self.read_sync(key, |key, value| seen(key, value));
+        let found = self.read_sync(key, seen);
         if self.contains_sync(key) == found.is_some() {
             Answer::Found(found)
         } else {

@@ -1,6 +1,6 @@
 //! `Form` for the owned index.
 
-use crate::answers::{Answer, Kind, refused, untried};
+use crate::answers::{Answer, Kind, refused, tried, untried};
 use crate::form::{Act, At, Form, Sizes, Way};
 use crate::numbered::{Seen, keeps, seen, value_of};
 use crate::token::Token;
@@ -44,8 +44,7 @@ fn enter_or_fail<'a>(
     let entry = index.entry_sync(key);
     match way {
         Way::OrTryInsertWith => entry.or_try_insert_with(|| Ok(value)),
-        Way::OrTryInsertWithKey => entry.or_try_insert_with_key(|key| Ok(value_of(key, value))),
-        _ => entry.or_try_insert_with_key(|key| Err(key.number())),
+        _ => entry.or_try_insert_with_key(|key| tried(way, key, value)),
     }
 }
 
@@ -192,8 +191,8 @@ impl Form for Owned<Token, Token, Masked> {
     }
 
     fn read(&self, key: &Token) -> Answer {
-        let found = self.peek_with(key, |key, value| seen(key, value));
-        let read = self.read_sync(key, |key, value| seen(key, value));
+        let found = self.peek_with(key, seen);
+        let read = self.read_sync(key, seen);
         let peeked = match self.peek(key) {
             Some(version) => Some(seen(version.key(), version.value())),
             None => None,

@@ -1,8 +1,8 @@
 //! `Form` for the owned map.
 
-use crate::answers::{Answer, Kind, Rule, raise_and_keep, refused, untried, verdict};
+use crate::answers::{Answer, Kind, Rule, raise_and_keep, refused, tried, untried, verdict};
 use crate::form::{Act, At, Form, Sizes, Way};
-use crate::numbered::{Seen, keeps, note_pairs, raise_to_even, seen, seen_pair, value_of};
+use crate::numbered::{Seen, note_pairs, number_of, raise_to_even, seen, seen_pair, value_of};
 use crate::token::Token;
 use scc_common::InsertError;
 use scc_fallible::TryInsertError;
@@ -46,8 +46,7 @@ fn enter_or_fail<'a>(
     let entry = map.entry_sync(key);
     match way {
         Way::OrTryInsertWith => entry.or_try_insert_with(|| Ok(value)),
-        Way::OrTryInsertWithKey => entry.or_try_insert_with_key(|key| Ok(value_of(key, value))),
-        _ => entry.or_try_insert_with_key(|key| Err(key.number())),
+        _ => entry.or_try_insert_with_key(|key| tried(way, key, value)),
     }
 }
 
@@ -173,7 +172,7 @@ impl Form for Owned<Token, Token, Masked> {
                 Err(error) => refused(error),
             },
             Way::Upsert => match self.upsert_sync(key, value) {
-                Ok(old) => Answer::Old(old.map(|value| value.number())),
+                Ok(old) => Answer::Old(number_of(old)),
                 Err(error) => refused(error),
             },
             Way::Replace => replace_or_fill(self, key, value),
@@ -229,12 +228,12 @@ impl Form for Owned<Token, Token, Masked> {
     }
 
     fn remove_if(&mut self, key: &Token) -> Answer {
-        let taken = self.remove_if_sync(key, |value| raise_to_even(value));
+        let taken = self.remove_if_sync(key, raise_to_even);
         Answer::Found(seen_pair(taken))
     }
 
     fn read(&self, key: &Token) -> Answer {
-        let found = self.read_sync(key, |key, value| seen(key, value));
+        let found = self.read_sync(key, seen);
         if self.contains_sync(key) == found.is_some() {
             Answer::Found(found)
         } else {

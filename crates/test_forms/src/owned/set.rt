@@ -2,7 +2,7 @@
 
 use crate::answers::{Answer, Kind, Rule, key_verdict, refused_key};
 use crate::form::{Act, At, Form, Sizes, Way};
-use crate::numbered::{Seen, keeps, note_keys, seen_key};
+use crate::numbered::{Seen, keeps, mark_of, note_keys, seen_key, seen_lone};
 use crate::token::Token;
 use scc_set::Owned;
 use scc_set::entry::OccupiedEntry;
@@ -70,17 +70,14 @@ impl Form for Owned<Token, Masked> {
                 Ok(()) => Answer::Added(None),
                 Err(error) => refused_key(error),
             },
-            Way::Replace => match self.replace_sync(key) {
-                Ok(old) => Answer::Swapped(old.map(|key| key.mark()), None),
-                Err(error) => refused_key(error),
-            },
+            Way::Replace => self.replace(key),
             _ => Answer::Absent,
         }
     }
 
     fn replace(&mut self, key: Token) -> Answer {
         match self.replace_sync(key) {
-            Ok(old) => Answer::Swapped(old.map(|key| key.mark()), None),
+            Ok(old) => Answer::Swapped(mark_of(old), None),
             Err(error) => refused_key(error),
         }
     }
@@ -98,17 +95,17 @@ impl Form for Owned<Token, Masked> {
     }
 
     fn remove(&mut self, key: &Token) -> Answer {
-        Answer::Found(self.remove_sync(key).map(|key| seen_key(&key)))
+        Answer::Found(seen_lone(self.remove_sync(key)))
     }
 
     fn remove_if(&mut self, key: &Token) -> Answer {
         let is_even = key.number() % 2 == 0;
         let taken = self.remove_if_sync(key, || is_even);
-        Answer::Found(taken.map(|key| seen_key(&key)))
+        Answer::Found(seen_lone(taken))
     }
 
     fn read(&self, key: &Token) -> Answer {
-        let found = self.read_sync(key, |key| seen_key(key));
+        let found = self.read_sync(key, seen_key);
         if self.contains_sync(key) == found.is_some() {
             Answer::Found(found)
         } else {

@@ -8,7 +8,7 @@ use scc_fallible::TryInsertError;
 use scc_shared_cache::HashCache;
 use std::alloc::Global;
 use std::sync::Wait;
-use test_forms::answers::{Answer, Kind, Rule, raise_and_keep, refused, untried, verdict};
+use test_forms::answers::{Answer, Kind, Rule, raise_and_keep, refused, tried, untried, verdict};
 use test_forms::form::{Act, At, Form, Sizes, Way};
 use test_forms::numbered::{Seen, note_pairs, raise_to_even, seen, seen_pair, value_of};
 use test_forms::token::Token;
@@ -81,8 +81,7 @@ fn enter_or_fail(
     let entry = cache.entry_sync(rt, key);
     entered_or_failed(match way {
         Way::OrTryInsertWith => entry.or_try_put_with(|| Ok(value)),
-        Way::OrTryInsertWithKey => entry.or_try_put_with_key(|key| Ok(value_of(key, value))),
-        _ => entry.or_try_put_with_key(|key| Err(key.number())),
+        _ => entry.or_try_put_with_key(|key| tried(way, key, value)),
     })
 }
 
@@ -228,16 +227,12 @@ impl<R: Wait> Form for Held<'_, R, HashCache<Token, Token, Masked>> {
     }
 
     fn remove_if(&mut self, key: &Token) -> Answer {
-        let taken = self
-            .shared
-            .remove_if_sync(self.rt, key, |value| raise_to_even(value));
+        let taken = self.shared.remove_if_sync(self.rt, key, raise_to_even);
         Answer::Found(seen_pair(taken))
     }
 
     fn read(&self, key: &Token) -> Answer {
-        let found = self
-            .shared
-            .read_sync(self.rt, key, |key, value| seen(key, value));
+        let found = self.shared.read_sync(self.rt, key, seen);
         if self.shared.contains_sync(self.rt, key) == found.is_some() {
             Answer::Found(found)
         } else {

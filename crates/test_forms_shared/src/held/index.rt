@@ -6,7 +6,7 @@ use scc_fallible::TryInsertError;
 use scc_owned::index::locked::{Entry, OccupiedEntry};
 use scc_shared::index::HashIndex;
 use std::sync::Wait;
-use test_forms::answers::{Answer, Kind, refused, untried};
+use test_forms::answers::{Answer, Kind, refused, tried, untried};
 use test_forms::form::{Act, At, Form, Sizes, Way};
 use test_forms::numbered::{Seen, keeps, seen, value_of};
 use test_forms::token::Token;
@@ -66,8 +66,7 @@ fn enter_or_fail(
     let entry = index.entry_sync(rt, key);
     entered_or_failed(match way {
         Way::OrTryInsertWith => entry.or_try_insert_with(|| Ok(value)),
-        Way::OrTryInsertWithKey => entry.or_try_insert_with_key(|key| Ok(value_of(key, value))),
-        _ => entry.or_try_insert_with_key(|key| Err(key.number())),
+        _ => entry.or_try_insert_with_key(|key| tried(way, key, value)),
     })
 }
 
@@ -276,12 +275,8 @@ impl<R: Wait> Form for Held<'_, R, HashIndex<Token, Token, Masked>> {
     }
 
     fn read(&self, key: &Token) -> Answer {
-        let found = self
-            .shared
-            .peek_with(self.rt, key, |key, value| seen(key, value));
-        let read = self
-            .shared
-            .read_sync(self.rt, key, |key, value| seen(key, value));
+        let found = self.shared.peek_with(self.rt, key, seen);
+        let read = self.shared.read_sync(self.rt, key, seen);
         let peeked = match self.shared.peek(self.rt, key) {
             Ok(Some(version)) => Some(seen(version.key(), version.value())),
             Ok(None) => None,

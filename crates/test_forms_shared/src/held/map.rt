@@ -7,9 +7,9 @@ use scc_owned::map::locked::{Entry, OccupiedEntry, ReplaceResult};
 use scc_shared::map::HashMap;
 use std::alloc::Global;
 use std::sync::Wait;
-use test_forms::answers::{Answer, Kind, Rule, raise_and_keep, refused, untried, verdict};
+use test_forms::answers::{Answer, Kind, Rule, raise_and_keep, refused, tried, untried, verdict};
 use test_forms::form::{Act, At, Form, Sizes, Way};
-use test_forms::numbered::{Seen, note_pairs, raise_to_even, seen, seen_pair, value_of};
+use test_forms::numbered::{Seen, note_pairs, number_of, raise_to_even, seen, seen_pair, value_of};
 use test_forms::token::Token;
 use test_kit::masked::Masked;
 
@@ -68,8 +68,7 @@ fn enter_or_fail(
     let entry = map.entry_sync(rt, key);
     entered_or_failed(match way {
         Way::OrTryInsertWith => entry.or_try_insert_with(|| Ok(value)),
-        Way::OrTryInsertWithKey => entry.or_try_insert_with_key(|key| Ok(value_of(key, value))),
-        _ => entry.or_try_insert_with_key(|key| Err(key.number())),
+        _ => entry.or_try_insert_with_key(|key| tried(way, key, value)),
     })
 }
 
@@ -263,7 +262,7 @@ impl<R: Wait> Form for Held<'_, R, HashMap<Token, Token, Masked>> {
                 Err(error) => refused(error),
             },
             Way::Upsert => match self.shared.upsert_sync(self.rt, key, value) {
-                Ok(old) => Answer::Old(old.map(|value| value.number())),
+                Ok(old) => Answer::Old(number_of(old)),
                 Err(error) => refused(error),
             },
             Way::Replace => swap(self.rt, &self.shared, key, Some(value)),
@@ -302,16 +301,12 @@ impl<R: Wait> Form for Held<'_, R, HashMap<Token, Token, Masked>> {
     }
 
     fn remove_if(&mut self, key: &Token) -> Answer {
-        let taken = self
-            .shared
-            .remove_if_sync(self.rt, key, |value| raise_to_even(value));
+        let taken = self.shared.remove_if_sync(self.rt, key, raise_to_even);
         Answer::Found(seen_pair(taken))
     }
 
     fn read(&self, key: &Token) -> Answer {
-        let found = self
-            .shared
-            .read_sync(self.rt, key, |key, value| seen(key, value));
+        let found = self.shared.read_sync(self.rt, key, seen);
         if self.shared.contains_sync(self.rt, key) == found.is_some() {
             Answer::Found(found)
         } else {

@@ -6,7 +6,7 @@ use std::alloc::Global;
 use std::sync::Wait;
 use test_forms::answers::{Answer, Kind, Rule, key_verdict, refused_key};
 use test_forms::form::{Act, At, Form, Sizes, Way};
-use test_forms::numbered::{Seen, keeps, note_keys, seen_key};
+use test_forms::numbered::{Seen, keeps, mark_of, note_keys, seen_key, seen_lone};
 use test_forms::token::Token;
 use test_kit::masked::Masked;
 
@@ -114,7 +114,7 @@ impl<R: Wait> Form for Held<'_, R, HashSet<Token, Masked>> {
                 Err(error) => refused_key(error),
             },
             Way::Replace => match self.shared.replace_sync(self.rt, key) {
-                Ok(old) => Answer::Swapped(old.map(|key| key.mark()), None),
+                Ok(old) => Answer::Swapped(mark_of(old), None),
                 Err(error) => refused_key(error),
             },
             _ => Answer::Absent,
@@ -123,7 +123,7 @@ impl<R: Wait> Form for Held<'_, R, HashSet<Token, Masked>> {
 
     fn replace(&mut self, key: Token) -> Answer {
         match self.shared.replace_sync(self.rt, key) {
-            Ok(old) => Answer::Swapped(old.map(|key| key.mark()), None),
+            Ok(old) => Answer::Swapped(mark_of(old), None),
             Err(error) => refused_key(error),
         }
     }
@@ -134,17 +134,17 @@ impl<R: Wait> Form for Held<'_, R, HashSet<Token, Masked>> {
 
     fn remove(&mut self, key: &Token) -> Answer {
         let taken = self.shared.remove_sync(self.rt, key);
-        Answer::Found(taken.map(|key| seen_key(&key)))
+        Answer::Found(seen_lone(taken))
     }
 
     fn remove_if(&mut self, key: &Token) -> Answer {
         let is_even = key.number() % 2 == 0;
         let taken = self.shared.remove_if_sync(self.rt, key, || is_even);
-        Answer::Found(taken.map(|key| seen_key(&key)))
+        Answer::Found(seen_lone(taken))
     }
 
     fn read(&self, key: &Token) -> Answer {
-        let found = self.shared.read_sync(self.rt, key, |key| seen_key(key));
+        let found = self.shared.read_sync(self.rt, key, seen_key);
         if self.shared.contains_sync(self.rt, key) == found.is_some() {
             Answer::Found(found)
         } else {

@@ -90,4 +90,8 @@ impl Threaded for Cache {
     fn equals<R: Wait>(&self, rt: &R, other: &Cache) -> bool {
         self.eq_sync(rt, other)
     }
+
+    fn copied<R: Wait>(&self, _rt: &R) -> Option<Cache> {
+        None
+    }
 }

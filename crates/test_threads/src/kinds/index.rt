@@ -1,5 +1,5 @@
 // The index.
-use super::{Index, MOST, Threaded, Visit, Way};
+use super::{Bucketed, Index, MOST, Threaded, Visit, Way};
 use scc_script::same::Same;
 use scc_shared::index::HashIndex;
 use std::alloc::Global;
@@ -92,9 +92,9 @@ impl Threaded for Index {
             Way::Next => step_on(rt, self, visit),
             Way::Remove => remove_on(rt, self, visit),
             Way::Snapshot => snapshot(rt, self, visit),
-            Way::Copy => match self.try_clone(rt) {
-                Ok(copy) => walk(rt, &copy, visit),
-                Err(_) => false,
+            Way::Copy => match self.copied(rt) {
+                Some(copy) => walk(rt, &copy, visit),
+                None => false,
             },
         }
     }
@@ -120,5 +120,15 @@ impl Threaded for Index {
 
     fn equals<R: Wait>(&self, rt: &R, other: &Index) -> bool {
         self.eq_sync(rt, other)
+    }
+
+    fn copied<R: Wait>(&self, rt: &R) -> Option<Index> {
+        self.try_clone(rt).ok()
+    }
+}
+
+impl Bucketed for Index {
+    fn bucket<R: Wait>(&self, rt: &R, key: u64) -> usize {
+        self.bucket_index(rt, &key)
     }
 }

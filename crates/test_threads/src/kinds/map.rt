@@ -1,5 +1,5 @@
 // The map.
-use super::{MOST, Map, Threaded, Visit, Way};
+use super::{Bucketed, MOST, Map, Threaded, Visit, Way};
 use scc_common::Verdict;
 use scc_script::same::Same;
 use scc_shared::map::HashMap;
@@ -93,9 +93,9 @@ impl Threaded for Map {
             Way::Ask => ask(rt, self, visit),
             Way::Next => step_on(rt, self, visit),
             Way::Remove => remove_on(rt, self, visit),
-            Way::Copy => match self.try_clone(rt) {
-                Ok(copy) => walk(rt, &copy, visit),
-                Err(_) => false,
+            Way::Copy => match self.copied(rt) {
+                Some(copy) => walk(rt, &copy, visit),
+                None => false,
             },
         }
     }
@@ -121,5 +121,15 @@ impl Threaded for Map {
 
     fn equals<R: Wait>(&self, rt: &R, other: &Map) -> bool {
         self.eq_sync(rt, other)
+    }
+
+    fn copied<R: Wait>(&self, rt: &R) -> Option<Map> {
+        self.try_clone(rt).ok()
+    }
+}
+
+impl Bucketed for Map {
+    fn bucket<R: Wait>(&self, rt: &R, key: u64) -> usize {
+        self.bucket_index(rt, &key)
     }
 }
