@@ -5,10 +5,11 @@ use Rattle.std.specs.List.{IsDistinct, flat_map, remove, slice_get, slice_set, s
 use Rattle.std.specs.Option.{option_map}
 use native.Mathlib.Decide.{dec_lt}
 use lib.Pow.{pow_mono, pow-add}
+use Rattle.scc_buckets.specs.Pour.{IsRegrouped}
 use Rattle.scc_buckets.specs.Bounded.{HasList, IsUnlisted, PutsLast, IsListed, ShrinksBounded, stays_wide, denied_narrow, narrows}
 use Rattle.scc_common.specs.Contents.{Contents, entries, bucket_count, settings_of, notes_of, minimum_of, list_of, lists_of, waiting_of, owed_of}
 use Rattle.scc_common.specs.Pairs.{IsUnique}
-use Rattle.scc_buckets.proofs.Bounds.{absent-rest, has-list-of, keeps-count}
+use Rattle.scc_buckets.proofs.Bounds.{absent-rest, has-list-of, keeps-count, keeps-entries}
 use Rattle.scc_buckets.proofs.FindingLemmas.{position_hit, position_cons}
 use Rattle.scc_buckets.proofs.Inserts.{by_answer}
 use Rattle.scc_buckets.specs.Places as spots
@@ -17,7 +18,9 @@ use Rattle.scc_table.specs.Bounded.{IsListedAt, IsPreparedBelow, GrowsBelow, mak
 use Rattle.scc_table.specs.Places.{IsPlace, spot_of}
 use Rattle.scc_table.specs.TwoArrays.{waits_at}
 use Rattle.scc_table.proofs.places.OldSpots.{spot-own}
-use Rattle.scc_cache.specs.CacheSteps.{IsFound, IsLacking, IsPresent, TakesAt, TakesThen, list_number}
+use Rattle.scc_table.proofs.places.Searches.{absent-filter}
+use Rattle.scc_table.proofs.resizes.Installation.{number-within}
+use Rattle.scc_cache.specs.CacheSteps.{IsAbsent, IsFound, IsLacking, IsPresent, TakesAt, TakesThen, list_number}
 use Rattle.scc_cache.specs.Caches.{Cached, IsCacheState}
 use Rattle.scc_cache.specs.ListSteps.{list_for, with_list, IsMissing, IsThere, PutsPair}
 
@@ -254,3 +257,18 @@ shows-pair hash eq c k p x f got =
 -- the key of the entry at the place of k equals k
 pub found-equal : {K V S : Type 0} (hash : K → ℕ) (eq : K → K → Bool) (c : Contents (K × V) S) (k : K) (p : Place) (x : K × V) → IsFound hash eq c k p → slice_get (list_of c (spot_of c p).bucket) (spot_of c p).slot ≡ Some x → eq k x.0 ≡ true
 found-equal hash eq c k p x f got = let s = shows-pair hash eq c k p x f got in position-passes (λ q. eq k q.0) _ s.0 x s.1.first s.1.pair
+
+module _ {K V S : Type 0} (eq : K → K → Bool) (hash : K → ℕ) (c d : Contents (K × V) S) (k : K) where
+  missing-regrouped : IsRegrouped (λ p. hash p.0) (bucket_count d) c d → 0 < bucket_count d → position (λ p. eq k p.0) (entries c) ≡ None → IsAbsent hash eq d k
+  missing-regrouped r some gone =
+      let i = list_number hash d (bucket_count d) k in
+      let moved = r.each i (number-within _ _ _ some) in
+      is-missing eq (list_number hash d) d k i refl (ap (position (λ p. eq k p.0)) moved ∙ absent-filter (λ p. eq k p.0) _ (entries c) gone)
+
+  -- a key that is missing is missing after the growth that a put makes first
+  pub missing-made : (m i : ℕ) → GrowsBelow (λ p. hash p.0) m i c d → 0 < bucket_count d → position (λ p. eq k p.0) (entries c) ≡ None → IsAbsent hash eq d k
+  missing-made m i (makes none size noted r) some gone = missing-regrouped r.lists some gone
+  missing-made m i (has_room there room e) some gone = subst (λ x. IsAbsent hash eq x k) (sym e) (missing-grown eq (list_number hash c) c k gone)
+  missing-made m i (is_full there full (stays due e)) some gone = subst (λ x. IsAbsent hash eq x k) (sym e) (missing-grown eq (list_number hash c) c k gone)
+  missing-made m i (is_full there full (denied due up h)) some gone = missing-grown eq (list_number hash d) d k (ap (position (λ p. eq k p.0)) (keeps-entries c d h) ∙ gone)
+  missing-made m i (is_full there full (doubles due untried down twice r)) some gone = missing-regrouped r.lists some gone

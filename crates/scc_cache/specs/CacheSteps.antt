@@ -1,5 +1,6 @@
 -- What each call does to a cache, by the reply.
-use Rattle.std.specs.Prelude.{◌≡◌, ◌≢◌, ℕ, ◌+◌, ◌<◌, ◌≤◌, ◌⊎◌, Bool, false, List, [], length, Option, None, Some, Result, Ok, Err, map, remove, slice_get}
+use Rattle.std.specs.Prelude.{◌≡◌, ◌≢◌, ℕ, ◌+◌, ◌<◌, ◌≤◌, ◌⊎◌, Bool, false, List, [], length, Option, None, Some, Result, Ok, Err, IsOk, map, remove, slice_get}
+use Rattle.std.specs.Result.{OnErr, OnOk}
 use Rattle.std.specs.List.{position, slice_index_or, slice_set}
 use Rattle.std.specs.Borrow.{Bor}
 use Rattle.std.specs.Fn.{Once}
@@ -89,6 +90,18 @@ module _ {K V S : Type 0} (hash : K → ℕ) where
     -- p is the pair of k
     abbrev pub IsPresent : Contents (K × V) S → K → K × V → Type 0
     IsPresent c k p = (i : ℕ) × IsPresentAt c k i p
+
+    -- what a call that makes room for a put of k, with this result, does to the cache c, which becomes d
+    pub record MakesRoomForPut {X R : Type 0} (c : Cached (K × V) S) (k : K) (result : Result X R) (d : Cached (K × V) S) : Type 0 where
+      -- if k is there, nothing is made
+      pub present : (p : K × V) → IsPresent c.contents k p → IsOk result × (d ≡ c)
+      -- if k is missing and the call succeeds, a put of k is prepared
+      pub ok : IsAbsent c.contents k → OnOk result (PreparesPut c k d)
+      -- it fails only if k is missing and there is no array, and then nothing changes
+      pub err : OnErr result (IsAbsent c.contents k × (bucket_count c.contents ≡ 0))
+      pub same : OnErr result (d ≡ c)
+      pub settings : settings_of d.contents ≡ settings_of c.contents
+      pub maximum : d.maximum ≡ c.maximum
 
     -- a put of k without a growth would evict nothing: the key is there, or its list has room
     abbrev pub DrivesNoneOut : Contents (K × V) S → K → Type 0

@@ -1,12 +1,12 @@
 //! What a put would have to make first, made before it, and what the put would evict.
-ghost use Rattle.scc_cache.specs.CacheSteps.{DrivesNoneOut, DrivesOut, IsAbsent, IsPresent, PreparesPut};
+ghost use Rattle.scc_cache.specs.CacheSteps.{DrivesNoneOut, DrivesOut, IsAbsent, IsFound, MakesRoomForPut};
 ghost use Rattle.scc_cache.specs.Caches.{IsCacheState};
 ghost use Rattle.scc_common.specs.Contents.{bucket_count, hash_in, list_of, lists_of, notes_of, settings_of, waiting_of, note_of};
 ghost use Rattle.scc_common.specs.Routing.{bucket_number};
-ghost use Rattle.std.specs.Prelude.{◌≡◌, ◌<◌, ◌≤◌, false, length, Some, IsOk, IfSome, IfNone, slice_get};
-ghost use Rattle.std.specs.Result.{OnErr, OnOk};
+ghost use Rattle.std.specs.Prelude.{◌≡◌, ◌<◌, ◌≤◌, false, length, Some, IfOk, IfSome, IfNone, MatchOption, slice_get};
 
 use crate::Owned;
+use scc_buckets::Place;
 use scc_common::{Hashes, MakeError};
 use std::hash::{BuildHasher, Hash};
 
@@ -17,22 +17,30 @@ impl<K: Eq + Hash, V, H: BuildHasher> Owned<K, V, H> {
     /// again, so it makes no resize in any case. A doubling that is made takes note and mark away; if no doubling is
     /// due, both stay. Fails only if memory for the first array is refused, and then nothing changes.
     pub fn make_room(&mut self, k: &K) -> Result<(), MakeError>
-        ensures present { (p : K × V) → IsPresent (hash_in ⟦<H as Hashes<K>>⟧.hash_of self.old.contents) K.eq
-            self.old.contents k.now p → IsOk result × (self.new ≡ self.old) }
-        ensures ok { IsAbsent (hash_in ⟦<H as Hashes<K>>⟧.hash_of self.old.contents) K.eq self.old.contents k.now
-            → OnOk result (PreparesPut (hash_in ⟦<H as Hashes<K>>⟧.hash_of self.old.contents) self.old k.now self.new) }
-        ensures err { OnErr result (IsAbsent (hash_in ⟦<H as Hashes<K>>⟧.hash_of self.old.contents) K.eq
-            self.old.contents k.now × (bucket_count self.old.contents ≡ 0)) }
-        ensures same { OnErr result (self.new ≡ self.old) }
-        ensures settings { settings_of self.new.contents ≡ settings_of self.old.contents }
-        ensures maximum { self.new.maximum ≡ self.old.maximum }
+        ensures room { MakesRoomForPut (hash_in ⟦<H as Hashes<K>>⟧.hash_of self.old.contents) K.eq self.old k.now result
+            self.new }
+        ensures state { IsCacheState K.eq (hash_in ⟦<H as Hashes<K>>⟧.hash_of self.new.contents) self.new }
+    {
+        match self.find_or_make_room(k) {
+            Ok(_) => Ok(()),
+            Err(e) => Err(e),
+        }
+    }
+
+    /// Does what `make_room` does, and returns the place of the pair of `k`, or `None`.
+    pub fn find_or_make_room(&mut self, k: &K) -> Result<Option<Place>, MakeError>
+        ensures room { MakesRoomForPut (hash_in ⟦<H as Hashes<K>>⟧.hash_of self.old.contents) K.eq self.old k.now result
+            self.new }
+        ensures found { IfOk result (λ found. MatchOption found
+            (IsAbsent (hash_in ⟦<H as Hashes<K>>⟧.hash_of self.new.contents) K.eq self.new.contents k.now)
+            (IsFound (hash_in ⟦<H as Hashes<K>>⟧.hash_of self.new.contents) K.eq self.new.contents k.now)) }
         ensures state { IsCacheState K.eq (hash_in ⟦<H as Hashes<K>>⟧.hash_of self.new.contents) self.new }
     {
         let hash = self.table.hash(k);
         match self.place_of(hash, k) {
-            Some(_) => Ok(()),
+            Some(place) => Ok(Some(place)),
             None => match self.table.prepare(hash, self.maximum) {
-                Ok(()) => Ok(()),
+                Ok(()) => Ok(None),
                 Err(_) => Err(MakeError),
             },
         }

@@ -1,17 +1,19 @@
 -- The calls of a map as calls on its state.
 use Rattle.std.proofs.Common.{◌≡◌, ℕ, suc, arith, length, List, [], Bool, ◌∷◌, Option, None, Some, Ok, refl, sym, subst, inl, inr, ap}
+use Rattle.std.specs.Prelude.{◌==◌, ◌<◌, count_by}
 use Rattle.std.specs.List.Sorted.{IsPermutation}
 use Rattle.std.proofs.lemmas.List.Sorted.{length_permutation}
 use Rattle.std.specs.Map.{set_value}
 use Rattle.std.proofs.lemmas.Bool.{cases_order}
 use Rattle.scc_common.specs.Contents.{Contents, bucket_count, entries, settings_of}
 use Rattle.scc_common.specs.Pairs.{find, without}
+use Rattle.scc_common.specs.Routing.{bucket_number}
 use Rattle.scc_common.specs.Steps.{Holds, Prepares}
 use Rattle.scc_table.proofs.arrays.SameParts.{entries-same}
 use Rattle.scc_owned.specs.MapSteps.{Inserts, Upserts, Removes}
 use Rattle.scc_calls.specs.Resized.{MovesResized}
 use Rattle.scc_calls.specs.States.{State, ResizesTo, state_of, run_setting, run_setting_by}
-use Rattle.scc_calls.specs.MapCalls.{MapHasRoom, MapMoves, MapRefuses}
+use Rattle.scc_calls.specs.MapCalls.{MapMoves}
 use Rattle.scc_calls.specs.declared.calls_as_values.MapCall.TheVariants.{Insert, Upsert, Remove, Clear}
 use Rattle.scc_calls.specs.declared.replies.Reply.TheVariants.{Inserted, Old, Pair, Cleared}
 use Rattle.scc_calls.proofs.States.{holds-changes, exactly-changes, unchanged-changes}
@@ -52,16 +54,19 @@ pub by-find : {X : Type 0} {P : Type 0} (o : Option X) → ((x : X) → o ≡ So
 by-find (Some x) f n = f x refl
 by-find None f n = n refl
 
--- if memory may be refused after room was made, it may be refused before too
-pub refuses-still : {K V H : Type 0} (eq : K → K → Bool) (hash : H → K → ℕ) (c d : Contents (K × V) H) (k : K) → find eq (entries c) k ≡ None → Prepares (hash (settings_of c).hasher) (λ p. p.0) c (hash (settings_of c).hasher k) d
-    → MapRefuses eq hash (run_setting c) (state_of d) k → MapRefuses eq hash (run_setting c) (state_of c) k
-refuses-still {K} {V} {H} eq hash c d k none room h = (
-  none,
-  λ has. elim (cases_order (bucket_count d) (bucket_count c)) as (λ _. ⊥) [
-    | inl e ↦
-        let same : state_of d ≡ state_of c = let l = entries-same c d (room.same has.0 e).0 in cc in
-        let P : State (K × V) → Type 0 = λ s. MapHasRoom eq hash (run_setting c) s k in
-        h.1 (subst P (sym same) has)
-    | inr o ↦ room.due (λ e. elim o as (λ _. ⊥) [ inl less ↦ omega (arith, less, e) | inr more ↦ omega (arith, more, e) ]) has
-  ],
-)
+module _ {E K H : Type 0} (key : E → K) (absent : List E → Type 0) (hash : H → K → ℕ) (c d : Contents E H) (k : K) where
+  -- there is an array, and the bucket of k holds fewer than 32 entries
+  abbrev has_room : State E → Type 0
+  has_room s = (0 < s.1) × (count_by (λ e. bucket_number (run_setting c).skipped s.1 (hash (run_setting c).hasher (key e)) == bucket_number (run_setting c).skipped s.1 (hash (run_setting c).hasher k)) s.0 < 32)
+
+  -- if memory may be refused after room was made, it may be refused before too
+  pub refuses-still : absent (entries c) → Prepares (hash (settings_of c).hasher) key c (hash (settings_of c).hasher k) d → absent (entries d) × (has_room (state_of d) → ⊥) → absent (entries c) × (has_room (state_of c) → ⊥)
+  refuses-still none room h = (
+    none,
+    λ has. elim (cases_order (bucket_count d) (bucket_count c)) as (λ _. ⊥) [
+      | inl e ↦
+          let same : state_of d ≡ state_of c = let l = entries-same c d (room.same has.0 e).0 in cc in
+          h.1 (subst has_room (sym same) has)
+      | inr o ↦ room.due (λ e. elim o as (λ _. ⊥) [ inl less ↦ omega (arith, less, e) | inr more ↦ omega (arith, more, e) ]) has
+    ],
+  )

@@ -1,13 +1,14 @@
 -- What the calls of a cache do to its lists, by the reply. The state of a cache is its lists, each from the least to
 -- the most recent pair.
-use Rattle.std.specs.Prelude.{◌≡◌, ◌==◌, ℕ, ◌+◌, ◌*◌, ◌<◌, ◌≤◌, ◌⊎◌, nat_lt, Bool, true, false, cond, List, [], length, map, Option, None, Some, is_some, slice_get}
+use Rattle.std.specs.Prelude.{◌≡◌, ◌==◌, ℕ, ◌+◌, ◌*◌, ◌<◌, ◌≤◌, ◌⊎◌, nat_lt, Bool, true, false, cond, List, [], length, map, Option, None, Some, MatchOption, is_some, slice_get}
 use Rattle.std.specs.List.{filter, flat_map, slice_index_or}
 use Rattle.std.specs.Option.{option_map}
 use Rattle.std.specs.Map.{keys_of}
+use Rattle.scc_buckets.specs.declared.place.Place.{Place}
 use Rattle.scc_common.specs.Contents.{lists_of, settings_of}
 use Rattle.scc_common.specs.Routing.{bucket_number}
 use Rattle.scc_common.specs.Sizes.{IsBucketCount}
-use Rattle.scc_cache.specs.CacheSteps.{list_number, IsPresent, IsPreparedForPut}
+use Rattle.scc_cache.specs.CacheSteps.{list_number, IsAbsent, IsFound, IsPresent, IsPreparedForPut}
 use Rattle.scc_cache.specs.Caches.{Cached}
 use Rattle.scc_cache.specs.ListSteps.{list_for, pair_for, IsMissing, IsThere, PutsPair, Refreshes, RefreshesAs, TakesOut}
 use Rattle.scc_calls.specs.declared.fixed.Setting.{Setting}
@@ -99,6 +100,11 @@ module _ {K V : Type 0} where
     cache_answer s Len = Count (length (flat_map (λ l. l) s))
 
   module _ {S : Type 0} (eq : K → K → Bool) (hash : K → ℕ) (c : Cached (K × V) S) where
+    -- if the call may add a key, the pair of this key stands at the place that was found, or the key is missing
+    abbrev pub CacheKnows : CacheCall K V → Option Place → Type 0
+    CacheKnows (Put k v) found = MatchOption found (IsAbsent hash eq c.contents k) (IsFound hash eq c.contents k)
+    CacheKnows call found = Unit {0}
+
     -- the call makes no growth: a put of k finds k or is prepared
     abbrev pub CacheIsMade : CacheCall K V → Type 0
     CacheIsMade (Put k v) = ((p : K × V) × IsPresent hash eq c.contents k p) ⊎ IsPreparedForPut hash c k

@@ -4,7 +4,8 @@ use Rattle.std.specs.Option.{option_map}
 use Rattle.scc_common.specs.Contents.{Contents, entries}
 use Rattle.scc_common.specs.Pairs.{find}
 use Rattle.scc_common.specs.Steps.{IsPreparedFor}
-use Rattle.scc_calls.specs.MapCalls.{MapMoves}
+use Rattle.scc_buckets.specs.declared.place.Place.{Place}
+use Rattle.scc_calls.specs.MapCalls.{MapFinds, MapMoves}
 use Rattle.scc_calls.specs.States.{State}
 use Rattle.scc_calls.specs.declared.calls_as_values.IndexCall.{IndexCall}
 use Rattle.scc_calls.specs.declared.calls_as_values.IndexCall.TheVariants.{Insert, Update, Remove, Read, Contains, Clear, Len}
@@ -59,6 +60,12 @@ module _ {K V : Type 0} where
     index_answer es (Contains k) = Has (is_some (find eq es k))
     index_answer es Clear = Cleared
     index_answer es Len = Count (length es)
+
+    module _ {S : Type 0} (c : Contents (K × V) S) where
+      -- if the call may add a key, the pair of this key stands at the place that was found, or the key is missing
+      abbrev pub IndexKnows : IndexCall K V → Option Place → Type 0
+      IndexKnows (Insert k v) found = MapFinds eq c k found
+      IndexKnows call found = Unit {0}
 
     module _ {S : Type 0} (hash : K → ℕ) (c : Contents (K × V) S) where
       -- an insertion of k makes no resize: k is present, or the insertion is prepared

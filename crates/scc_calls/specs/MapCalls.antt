@@ -1,12 +1,14 @@
 -- What the calls of a map do to its state, by the reply.
-use Rattle.std.specs.Prelude.{◌≡◌, ℕ, ◌<◌, ◌==◌, ◌⊎◌, Bool, true, cond, List, [], length, count_by, Option, None, Some, is_some, IsSome}
+use Rattle.std.specs.Prelude.{◌≡◌, ℕ, ◌<◌, ◌==◌, ◌⊎◌, Bool, true, cond, List, [], length, count_by, Option, None, Some, MatchOption, is_some, IsSome}
 use Rattle.std.specs.Option.{option_map}
 use Rattle.std.specs.List.Sorted.{IsPermutation}
 use Rattle.scc_common.specs.PairSteps.{AddsPair, HandsBack, SetsValue, SwapsKey, LacksKey, TakesPair}
+use Rattle.scc_buckets.specs.declared.place.Place.{Place}
 use Rattle.scc_common.specs.Contents.{Contents, entries}
 use Rattle.scc_common.specs.Pairs.{find}
 use Rattle.scc_common.specs.Steps.{IsPreparedFor}
 use Rattle.scc_common.specs.Routing.{bucket_number}
+use Rattle.scc_table.specs.Places.{IsFoundAt}
 use Rattle.scc_calls.specs.States.{State}
 use Rattle.scc_calls.specs.declared.fixed.Setting.{Setting}
 use Rattle.scc_calls.specs.declared.calls_as_values.MapCall.{MapCall}
@@ -67,6 +69,17 @@ module _ {K V : Type 0} where
     map_answer es (Remove k) = Pair (find eq es k)
     map_answer es Clear = Cleared
     map_answer es Len = Count (length es)
+
+    module _ {S : Type 0} (c : Contents (K × V) S) where
+      -- the pair of k stands at the place that was found, or k is missing
+      abbrev pub MapFinds : K → Option Place → Type 0
+      MapFinds k found = MatchOption found (find eq (entries c) k ≡ None) (IsFoundAt (λ p. eq k p.0) c)
+
+      -- if the call may add a key, the pair of this key stands at the place that was found, or the key is missing
+      abbrev pub MapKnows : MapCall K V → Option Place → Type 0
+      MapKnows (Insert k v) found = MapFinds k found
+      MapKnows (Upsert k v) found = MapFinds k found
+      MapKnows call found = Unit {0}
 
     module _ {S : Type 0} (hash : K → ℕ) (c : Contents (K × V) S) where
       -- an insertion of k makes no resize: k is present, or the insertion is prepared

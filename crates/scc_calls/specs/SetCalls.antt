@@ -1,10 +1,12 @@
 -- What the calls of a set do to its state, by the reply.
-use Rattle.std.specs.Prelude.{◌≡◌, ℕ, ◌<◌, ◌==◌, ◌⊎◌, Bool, true, cond, List, [], ◌∷◌, length, count_by, Option, None, Some, IsSome, is_some}
+use Rattle.std.specs.Prelude.{◌≡◌, ℕ, ◌<◌, ◌==◌, ◌⊎◌, Bool, true, cond, List, [], ◌∷◌, length, count_by, Option, None, Some, IsSome, MatchOption, is_some}
 use Rattle.std.specs.List.Sorted.{IsPermutation}
+use Rattle.scc_buckets.specs.declared.place.Place.{Place}
 use Rattle.scc_common.specs.Contents.{Contents, entries}
 use Rattle.scc_common.specs.Routing.{bucket_number}
 use Rattle.scc_common.specs.Steps.{IsPreparedFor}
 use Rattle.scc_set.specs.Keys.{find, without, with_key}
+use Rattle.scc_table.specs.Places.{IsFoundAt}
 use Rattle.scc_calls.specs.States.{State}
 use Rattle.scc_calls.specs.declared.fixed.Setting.{Setting}
 use Rattle.scc_calls.specs.declared.calls_as_values.SetCall.{SetCall}
@@ -53,6 +55,17 @@ module _ {K : Type 0} where
     set_answer ks (Contains k) = Has (is_some (find eq ks k))
     set_answer ks Clear = Cleared
     set_answer ks Len = Count (length ks)
+
+    module _ {S : Type 0} (c : Contents K S) where
+      -- the key that equals k stands at the place that was found, or k is missing
+      abbrev pub SetFinds : K → Option Place → Type 0
+      SetFinds k found = MatchOption found (find eq (entries c) k ≡ None) (IsFoundAt (eq k) c)
+
+      -- if the call may add a key, this key stands at the place that was found, or it is missing
+      abbrev pub SetKnows : SetCall K → Option Place → Type 0
+      SetKnows (Insert k) found = SetFinds k found
+      SetKnows (Replace k) found = SetFinds k found
+      SetKnows call found = Unit {0}
 
     module _ {S : Type 0} (hash : K → ℕ) (c : Contents K S) where
       -- an insertion of k makes no resize: k is present, or the insertion is prepared

@@ -1,7 +1,6 @@
 //! The calls of the owned cache as values.
 ghost use Rattle.std.specs.Prelude.{◌≡◌, true, IfOk, OnErr};
-ghost use Rattle.scc_common.specs.Contents.{bucket_count, list_of, key_hash, mark_of};
-ghost use Rattle.scc_common.specs.Hashing.{hash_of};
+ghost use Rattle.scc_common.specs.Contents.{bucket_count, list_of, hash_in, mark_of};
 ghost use Rattle.scc_cache.specs.CacheSteps.{list_number, IsAbsent};
 ghost use Rattle.scc_calls.specs.CacheCalls.{first_of_full};
 ghost use Rattle.scc_calls.specs.Copies.{ClonesEqual, MayNotClone};
@@ -10,9 +9,10 @@ ghost use Rattle.scc_calls.specs.declared.replies.Reply.TheVariants.{Evicted};
 
 use crate::replies::{CopiesReply, clone_pair, copies, equals};
 use crate::{CacheCall, Calls, Refused, Reply};
+use scc_buckets::Place;
 use scc_cache::Owned;
 use scc_cache::borrowed::{Entry, ReplaceResult};
-use scc_common::{InsertError, MakeError};
+use scc_common::{Hashes, InsertError, MakeError};
 use std::alloc::Global;
 use std::hash::{BuildHasher, Hash};
 
@@ -29,7 +29,7 @@ impl<K: Eq + Hash + Clone, V: Clone + PartialEq, H: BuildHasher> Calls for Owned
     ghost use Rattle.scc_common.specs.Contents.{lists_of};
     ghost use Rattle.scc_common.specs.Hashing.{hash_of};
     ghost use Rattle.scc_common.specs.Sizes.{IsArraySize};
-    ghost use Rattle.scc_common.specs.Contents.{key_hash, notes_of};
+    ghost use Rattle.scc_common.specs.Contents.{hash_in, notes_of};
     ghost use Rattle.scc_calls.specs.CacheCalls.{cache_adds, cache_answer, cache_key, cache_setting, keys_in, number_by, CacheIsPrepared, CacheMoves, CacheMayRefuse, CacheResizes};
     ghost use Rattle.scc_calls.specs.Copies.{Answers, Means};
     ghost use Rattle.scc_calls.specs.Means.{means_alike, means_answer, means_keeps, means_whole};
@@ -58,24 +58,20 @@ impl<K: Eq + Hash + Clone, V: Clone + PartialEq, H: BuildHasher> Calls for Owned
 
     ghost key_of = { cache_key };
 
-    ghost answer = { λ g. cache_answer K.eq (number_by (λ h k. hash_of H.BuildHasher H.Hasher.Hasher h
-        (K.hash_input k)) g) };
+    ghost answer = { λ g. cache_answer K.eq (number_by ⟦<H as Hashes<K>>⟧.hash_of g) };
 
-    ghost moves = { λ g. Answers (CacheStems V.is_clone) (CacheMoves K.eq (number_by (λ h k. hash_of H.BuildHasher
-        H.Hasher.Hasher h (K.hash_input k)) g)) };
+    ghost moves = { λ g. Answers (CacheStems V.is_clone) (CacheMoves K.eq (number_by ⟦<H as Hashes<K>>⟧.hash_of g)) };
 
-    ghost means = { λ g. Means ⟦<CacheCall<K, V> as PartialEq>⟧.eq ⟦<Reply<K, V> as PartialEq>⟧.eq
-        (CacheMoves K.eq (number_by (λ h k. hash_of H.BuildHasher H.Hasher.Hasher h (K.hash_input k)) g)) };
+    ghost means = { λ g. Means ⟦<CacheCall<K, V> as PartialEq>⟧.eq ⟦<Reply<K, V> as PartialEq>⟧.eq (CacheMoves K.eq
+        (number_by ⟦<H as Hashes<K>>⟧.hash_of g)) };
 
-    ghost resizes = { λ g. CacheResizes g (number_by (λ h k. hash_of H.BuildHasher H.Hasher.Hasher h (K.hash_input k))
-        g) };
+    ghost resizes = { λ g. CacheResizes g (number_by ⟦<H as Hashes<K>>⟧.hash_of g) };
 
-    ghost may_refuse = { λ g. CacheMayRefuse K.eq (number_by (λ h k. hash_of H.BuildHasher H.Hasher.Hasher h
-        (K.hash_input k)) g) };
+    ghost may_refuse = { λ g. CacheMayRefuse K.eq (number_by ⟦<H as Hashes<K>>⟧.hash_of g) };
 
     ghost adds = { cache_adds };
 
-    ghost is_prepared = { λ c. CacheIsPrepared K.eq (key_hash H.BuildHasher H.Hasher.Hasher K.hash_input c.contents) c
+    ghost is_prepared = { λ c. CacheIsPrepared K.eq (hash_in ⟦<H as Hashes<K>>⟧.hash_of c.contents) c
         ⟦<Reply<K, V> as PartialEq>⟧.eq };
 
     ghost is_marked = { λ c. mark_of c.contents };
@@ -83,11 +79,10 @@ impl<K: Eq + Hash + Clone, V: Clone + PartialEq, H: BuildHasher> Calls for Owned
     ghost whole = { λ parts. parts };
 
     ghost whole_means = { λ g n i. PartMoves (Means ⟦<CacheCall<K, V> as PartialEq>⟧.eq ⟦<Reply<K, V> as PartialEq>⟧.eq
-        (CacheMoves K.eq (number_by (λ h k. hash_of H.BuildHasher H.Hasher.Hasher h (K.hash_input k)) g))) cache_key
-        (λ k. stripe_number n (hash_of H.BuildHasher H.Hasher.Hasher g.hasher (K.hash_input k))) i };
+        (CacheMoves K.eq (number_by ⟦<H as Hashes<K>>⟧.hash_of g))) cache_key (λ k. stripe_number n
+        (⟦<H as Hashes<K>>⟧.hash_of g.hasher k)) i };
 
-    ghost whole_resizes = { λ g n i. PartResizes (CacheResizes g (number_by (λ h k. hash_of H.BuildHasher
-        H.Hasher.Hasher h (K.hash_input k)) g)) i };
+    ghost whole_resizes = { λ g n i. PartResizes (CacheResizes g (number_by ⟦<H as Hashes<K>>⟧.hash_of g)) i };
 
     fn key(call: &CacheCall<K, V>) -> Option<&K> {
         match call {
@@ -104,8 +99,8 @@ impl<K: Eq + Hash + Clone, V: Clone + PartialEq, H: BuildHasher> Calls for Owned
     }
 
     fn ready(&mut self, call: &CacheCall<K, V>) -> Result<(Reply<K, V>, Reply<K, V>), Refused> {
-        prepare(self, call)?;
-        match copies(self, call) {
+        let found = prepare(self, call)?;
+        match copies(self, call, found) {
             Ok(both) => Ok(both),
             Err(Refused) => {
                 self.drop_room();
@@ -177,57 +172,48 @@ impl<K: Eq + Hash + Clone, V: Clone + PartialEq, H: BuildHasher> Calls for Owned
     ghost one_limit = { λ asked slots m n p q. one_size (max asked slots) m n p q };
 
     ghost moves_mean = { λ clones g old new call reply m. means_answer ⟦<CacheCall<K, V> as PartialEq>⟧.eq
-        ⟦<Reply<K, V> as PartialEq>⟧.eq (CacheMoves K.eq (number_by (λ h k. hash_of H.BuildHasher H.Hasher.Hasher h
-        (K.hash_input k)) g)) (CacheStems V.is_clone) (cache_stems_alike clones V.is_clone refl (λ x y h. h)) old new
-        call reply m };
+        ⟦<Reply<K, V> as PartialEq>⟧.eq (CacheMoves K.eq (number_by ⟦<H as Hashes<K>>⟧.hash_of g)) (CacheStems
+        V.is_clone) (cache_stems_alike clones V.is_clone refl (λ x y h. h)) old new call reply m };
 
     ghost means_alike = { λ g old new call copy reply given pc pr c r m. means_alike ⟦<CacheCall<K, V> as PartialEq>⟧.eq
-        ⟦<Reply<K, V> as PartialEq>⟧.eq (CacheMoves K.eq (number_by (λ h k. hash_of H.BuildHasher H.Hasher.Hasher h
-        (K.hash_input k)) g)) pc pr old new call copy reply given c r m };
+        ⟦<Reply<K, V> as PartialEq>⟧.eq (CacheMoves K.eq (number_by ⟦<H as Hashes<K>>⟧.hash_of g)) pc pr old new call
+        copy reply given c r m };
 
-    ghost call_is_whole = { λ g n before after old new call reply routed key s. parted_call
-        (Means ⟦<CacheCall<K, V> as PartialEq>⟧.eq ⟦<Reply<K, V> as PartialEq>⟧.eq
-        (CacheMoves K.eq (number_by (λ h k. hash_of H.BuildHasher H.Hasher.Hasher h (K.hash_input k)) g))) cache_key
-        (λ k. stripe_number n (hash_of H.BuildHasher H.Hasher.Hasher g.hasher (K.hash_input k))) before after old new
-        call reply key s };
+    ghost call_is_whole = { λ g n before after old new call reply routed key s. parted_call (Means
+        ⟦<CacheCall<K, V> as PartialEq>⟧.eq ⟦<Reply<K, V> as PartialEq>⟧.eq (CacheMoves K.eq (number_by
+        ⟦<H as Hashes<K>>⟧.hash_of g))) cache_key (λ k. stripe_number n (⟦<H as Hashes<K>>⟧.hash_of g.hasher k)) before
+        after old new call reply key s };
 
-    ghost resize_is_whole = { λ g n before after old new buckets routed s. parted_resize
-        (CacheResizes g (number_by (λ h k. hash_of H.BuildHasher H.Hasher.Hasher h (K.hash_input k)) g)) before after
-        old new buckets s };
+    ghost resize_is_whole = { λ g n before after old new buckets routed s. parted_resize (CacheResizes g (number_by
+        ⟦<H as Hashes<K>>⟧.hash_of g)) before after old new buckets s };
 
     ghost call_keeps = { λ g n i old new call reply routed key s. means_keeps ⟦<CacheCall<K, V> as PartialEq>⟧.eq
-        ⟦<Reply<K, V> as PartialEq>⟧.eq (CacheMoves K.eq (number_by (λ h k. hash_of H.BuildHasher H.Hasher.Hasher h
-        (K.hash_input k)) g)) K.eq cache_key (Prim.search rules) (λ k. stripe_number n
-        (hash_of H.BuildHasher H.Hasher.Hasher g.hasher (K.hash_input k))) (routes_alike K.eq K.hash_input
-        (λ w. stripe_number n (hash_of H.BuildHasher H.Hasher.Hasher g.hasher w)) K.Hash.respects_eq) i old new call
-        reply key (λ made given k m. cache_call_keeps K.eq (number_by (λ h k. hash_of H.BuildHasher H.Hasher.Hasher h
-        (K.hash_input k)) g) (λ k. stripe_number n (hash_of H.BuildHasher H.Hasher.Hasher g.hasher (K.hash_input k))) i
-        old new made given routed k m) s };
+        ⟦<Reply<K, V> as PartialEq>⟧.eq (CacheMoves K.eq (number_by ⟦<H as Hashes<K>>⟧.hash_of g)) K.eq cache_key
+        (Prim.search rules) (λ k. stripe_number n (⟦<H as Hashes<K>>⟧.hash_of g.hasher k)) (routes_alike K.eq
+        K.hash_input (λ w. stripe_number n (hash_of H.BuildHasher H.Hasher.Hasher g.hasher w)) K.Hash.respects_eq) i old
+        new call reply key (λ made given k m. cache_call_keeps K.eq (number_by ⟦<H as Hashes<K>>⟧.hash_of g) (λ k.
+        stripe_number n (⟦<H as Hashes<K>>⟧.hash_of g.hasher k)) i old new made given routed k m) s };
 
-    ghost resize_keeps = { λ g n i old new buckets routed s. cache_resize_keeps g
-        (number_by (λ h k. hash_of H.BuildHasher H.Hasher.Hasher h (K.hash_input k)) g)
-        (λ k. stripe_number n (hash_of H.BuildHasher H.Hasher.Hasher g.hasher (K.hash_input k))) i old new buckets
-        routed s };
+    ghost resize_keeps = { λ g n i old new buckets routed s. cache_resize_keeps g (number_by ⟦<H as Hashes<K>>⟧.hash_of
+        g) (λ k. stripe_number n (⟦<H as Hashes<K>>⟧.hash_of g.hasher k)) i old new buckets routed s };
 
-    ghost empty_keeps = { λ h n i b. empty_keys V (λ k. stripe_number n (hash_of H.BuildHasher H.Hasher.Hasher h
-        (K.hash_input k))) i b };
+    ghost empty_keeps = { λ h n i b. empty_keys V (λ k. stripe_number n (⟦<H as Hashes<K>>⟧.hash_of h k)) i b };
 }
 
-/// Makes the first array or the growth that `call` would have to make, if `call` may add a key. Fails if memory is
-/// refused.
+/// Makes the first array or the growth that `call` would have to make, if `call` may add a key, and returns the
+/// place of its key, or `None`. Returns `None` for a call that adds none. Fails if memory is refused.
 fn prepare<K: Eq + Hash, V, H: BuildHasher>(
     cache: &mut Owned<K, V, H>,
     call: &CacheCall<K, V>,
-) -> Result<(), Refused>
-    ensures { CachePreparesCall K.eq (λ h k. hash_of H.BuildHasher H.Hasher.Hasher h (K.hash_input k))
-        cache.old call.now result cache.new }
+) -> Result<Option<Place>, Refused>
+    ensures { CachePreparesCall K.eq ⟦<H as Hashes<K>>⟧.hash_of cache.old call.now result cache.new }
 {
     match call {
-        CacheCall::Put(k, _) => match cache.make_room(k) {
-            Ok(()) => Ok(()),
+        CacheCall::Put(k, _) => match cache.find_or_make_room(k) {
+            Ok(found) => Ok(found),
             Err(_) => Err(Refused),
         },
-        _ => Ok(()),
+        _ => Ok(None),
     }
 }
 
@@ -237,24 +223,26 @@ impl<K: Eq + Hash + Clone, V: Clone + PartialEq, H: BuildHasher> CopiesReply for
     type Reply = Reply<K, V>;
 
     ghost use Rattle.std.specs.Prelude.{IsSome};
-    ghost use Rattle.scc_common.specs.Contents.{key_hash, lists_of};
+    ghost use Rattle.scc_common.specs.Contents.{hash_in, lists_of};
     ghost use Rattle.scc_cache.specs.CacheSteps.{list_number};
-    ghost use Rattle.scc_calls.specs.CacheCalls.{cache_answer, cache_key};
+    ghost use Rattle.scc_calls.specs.CacheCalls.{cache_answer, cache_key, CacheKnows};
 
-    ghost next_reply = { λ c. cache_answer K.eq (list_number (key_hash H.BuildHasher H.Hasher.Hasher K.hash_input c.contents)
-        c.contents) (lists_of c.contents) };
+    ghost next_reply = { λ c. cache_answer K.eq (list_number (hash_in ⟦<H as Hashes<K>>⟧.hash_of c.contents) c.contents)
+        (lists_of c.contents) };
+
+    ghost knows = { λ c. CacheKnows K.eq (hash_in ⟦<H as Hashes<K>>⟧.hash_of c.contents) c };
 
     ghost has_key = { λ call. IsSome (cache_key call) };
 
-    fn copy(&self, call: &CacheCall<K, V>) -> Result<Reply<K, V>, Refused> {
+    fn copy(&self, call: &CacheCall<K, V>, found: Option<Place>) -> Result<Reply<K, V>, Refused> {
         match call {
-            CacheCall::Put(k, v) => {
-                if !self.contains_sync(k) {
-                    return copy_evicted(self, k);
+            CacheCall::Put(k, v) => match found {
+                Some(_) => {
+                    let (key, value) = clone_pair(k, v)?;
+                    Ok(Reply::Exists(key, value))
                 }
-                let (key, value) = clone_pair(k, v)?;
-                Ok(Reply::Exists(key, value))
-            }
+                None => copy_evicted(self, k),
+            },
             CacheCall::Get(k) => Ok(Reply::Value(self.cloned_value(k)?)),
             CacheCall::Write(k, _) => Ok(Reply::Old(self.cloned_value(k)?)),
             CacheCall::Replace(k) => Ok(Reply::Key(self.cloned_key(k)?)),
@@ -274,15 +262,12 @@ fn copy_evicted<K: Eq + Hash + Clone, V: Clone + PartialEq, H: BuildHasher>(
     k: &K,
 ) -> Result<Reply<K, V>, Refused>
     requires clones { ClonesEqual ⟦<Reply<K, V> as Clone>⟧.is_clone ⟦<Reply<K, V> as PartialEq>⟧.eq }
-    requires absent { IsAbsent (key_hash H.BuildHasher H.Hasher.Hasher K.hash_input cache.now.contents) K.eq
-        cache.now.contents k.now }
-    ensures ok { IfOk result (λ r. ⟦<Reply<K, V> as PartialEq>⟧.eq
-        (Evicted (first_of_full (list_of cache.now.contents
-        (list_number (key_hash H.BuildHasher H.Hasher.Hasher K.hash_input cache.now.contents) cache.now.contents
-        (bucket_count cache.now.contents) k.now)))) r ≡ true) }
-    ensures refused { OnErr result (MayNotClone ⟦<Reply<K, V> as Clone>⟧.is_infallible
-        (Evicted (first_of_full (list_of cache.now.contents
-        (list_number (key_hash H.BuildHasher H.Hasher.Hasher K.hash_input cache.now.contents) cache.now.contents
+    requires absent { IsAbsent (hash_in ⟦<H as Hashes<K>>⟧.hash_of cache.now.contents) K.eq cache.now.contents k.now }
+    ensures ok { IfOk result (λ r. ⟦<Reply<K, V> as PartialEq>⟧.eq (Evicted (first_of_full (list_of cache.now.contents
+        (list_number (hash_in ⟦<H as Hashes<K>>⟧.hash_of cache.now.contents) cache.now.contents (bucket_count
+        cache.now.contents) k.now)))) r ≡ true) }
+    ensures refused { OnErr result (MayNotClone ⟦<Reply<K, V> as Clone>⟧.is_infallible (Evicted (first_of_full (list_of
+        cache.now.contents (list_number (hash_in ⟦<H as Hashes<K>>⟧.hash_of cache.now.contents) cache.now.contents
         (bucket_count cache.now.contents) k.now))))) }
 {
     match cache.next_evicted(k) {

@@ -1,10 +1,10 @@
 //! The calls of the owned index as values.
-ghost use Rattle.scc_common.specs.Hashing.{hash_of};
 ghost use Rattle.scc_calls.specs.Preparations.{IndexPreparesCall, IndexPreparesKey};
 
 use crate::replies::{CopiesReply, clone_pair, copies, equals};
 use crate::{Calls, IndexCall, Refused, Reply};
-use scc_common::{InsertError, MakeError};
+use scc_buckets::Place;
+use scc_common::{Hashes, InsertError, MakeError};
 use scc_owned::index::Owned;
 use std::alloc::Global;
 use std::hash::{BuildHasher, Hash};
@@ -32,7 +32,7 @@ impl<K: Eq + Hash + Clone, V: Clone + PartialEq, H: BuildHasher> Calls for Owned
     ghost use Rattle.scc_calls.specs.Means.{means_alike, means_answer, means_keeps, means_whole};
     ghost use Rattle.scc_calls.specs.Stems.{index_stems_alike, IndexStems};
     ghost use Rattle.std.proofs.Common.{refl, rules};
-    ghost use Rattle.scc_common.specs.Contents.{key_hash, mark_of};
+    ghost use Rattle.scc_common.specs.Contents.{hash_in, mark_of};
     ghost use Rattle.scc_calls.specs.States.{State, state_of, run_setting, ResizesTo};
 
     ghost State = { State (K × V) };
@@ -66,7 +66,7 @@ impl<K: Eq + Hash + Clone, V: Clone + PartialEq, H: BuildHasher> Calls for Owned
 
     ghost adds = { index_adds };
 
-    ghost is_prepared = { λ m. IndexIsPrepared K.eq (key_hash H.BuildHasher H.Hasher.Hasher K.hash_input m) m
+    ghost is_prepared = { λ m. IndexIsPrepared K.eq (hash_in ⟦<H as Hashes<K>>⟧.hash_of m) m
         ⟦<Reply<K, V> as PartialEq>⟧.eq };
 
     ghost is_marked = { λ m. mark_of m };
@@ -74,8 +74,7 @@ impl<K: Eq + Hash + Clone, V: Clone + PartialEq, H: BuildHasher> Calls for Owned
     ghost whole = { joined };
 
     ghost whole_means = { λ g n i. Means ⟦<IndexCall<K, V> as PartialEq>⟧.eq ⟦<Reply<K, V> as PartialEq>⟧.eq
-        (IndexWholeMoves K.eq K.is_clone (λ k. stripe_number n
-        (hash_of H.BuildHasher H.Hasher.Hasher g.hasher (K.hash_input k)) == i)) };
+        (IndexWholeMoves K.eq K.is_clone (λ k. stripe_number n (⟦<H as Hashes<K>>⟧.hash_of g.hasher k) == i)) };
 
     ghost whole_resizes = { λ _ _ _ w _ v. IsPermutation w v };
 
@@ -92,8 +91,8 @@ impl<K: Eq + Hash + Clone, V: Clone + PartialEq, H: BuildHasher> Calls for Owned
     }
 
     fn ready(&mut self, call: &IndexCall<K, V>) -> Result<(Reply<K, V>, Reply<K, V>), Refused> {
-        prepare(self, call)?;
-        match copies(self, call) {
+        let found = prepare(self, call)?;
+        match copies(self, call, found) {
             Ok(both) => Ok(both),
             Err(Refused) => {
                 self.drop_room();
@@ -159,59 +158,55 @@ impl<K: Eq + Hash + Clone, V: Clone + PartialEq, H: BuildHasher> Calls for Owned
 
     ghost call_is_whole = { λ g n before after old new call reply routed key s. means_whole
         ⟦<IndexCall<K, V> as PartialEq>⟧.eq ⟦<Reply<K, V> as PartialEq>⟧.eq (IndexMoves K.eq K.is_clone) K.eq index_key
-        (Prim.search rules) (λ k. stripe_number n (hash_of H.BuildHasher H.Hasher.Hasher g.hasher (K.hash_input k)))
-        (routes_alike K.eq K.hash_input (λ w. stripe_number n (hash_of H.BuildHasher H.Hasher.Hasher g.hasher w))
-        K.Hash.respects_eq) (IndexWholeMoves K.eq K.is_clone (λ k. stripe_number n
-        (hash_of H.BuildHasher H.Hasher.Hasher g.hasher (K.hash_input k)) == length before)) (length before) old new
-        (joined (before ++ old ∷ after)) (joined (before ++ new ∷ after)) call reply key (λ made given k m. index_call_is_whole K.eq
-        K.is_clone (λ k. stripe_number n (hash_of H.BuildHasher H.Hasher.Hasher g.hasher (K.hash_input k)))
-        (routes_alike K.eq K.hash_input (λ w. stripe_number n (hash_of H.BuildHasher H.Hasher.Hasher g.hasher w))
-        K.Hash.respects_eq) before after old new made given routed k m) s };
+        (Prim.search rules) (λ k. stripe_number n (⟦<H as Hashes<K>>⟧.hash_of g.hasher k)) (routes_alike K.eq
+        K.hash_input (λ w. stripe_number n (hash_of H.BuildHasher H.Hasher.Hasher g.hasher w)) K.Hash.respects_eq)
+        (IndexWholeMoves K.eq K.is_clone (λ k. stripe_number n (⟦<H as Hashes<K>>⟧.hash_of g.hasher k) == length
+        before)) (length before) old new (joined (before ++ old ∷ after)) (joined (before ++ new ∷ after)) call reply
+        key (λ made given k m. index_call_is_whole K.eq K.is_clone (λ k. stripe_number n (⟦<H as Hashes<K>>⟧.hash_of
+        g.hasher k)) (routes_alike K.eq K.hash_input (λ w. stripe_number n (hash_of H.BuildHasher H.Hasher.Hasher
+        g.hasher w)) K.Hash.respects_eq) before after old new made given routed k m) s };
 
     ghost resize_is_whole = { λ g n before after old new buckets routed s. resize_joined g before after old new buckets
         s };
 
     ghost call_keeps = { λ g n i old new call reply routed key s. means_keeps ⟦<IndexCall<K, V> as PartialEq>⟧.eq
-        ⟦<Reply<K, V> as PartialEq>⟧.eq (IndexMoves K.eq K.is_clone) K.eq index_key (Prim.search rules)
-        (λ k. stripe_number n (hash_of H.BuildHasher H.Hasher.Hasher g.hasher (K.hash_input k)))
-        (routes_alike K.eq K.hash_input (λ w. stripe_number n (hash_of H.BuildHasher H.Hasher.Hasher g.hasher w))
-        K.Hash.respects_eq) i old new call reply key (λ made given k m. index_call_keeps K.eq
-        K.is_clone (λ k. stripe_number n (hash_of H.BuildHasher H.Hasher.Hasher g.hasher (K.hash_input k)))
-        (routes_alike K.eq K.hash_input (λ w. stripe_number n (hash_of H.BuildHasher H.Hasher.Hasher g.hasher w))
-        K.Hash.respects_eq) i old new made given routed k m) s };
+        ⟦<Reply<K, V> as PartialEq>⟧.eq (IndexMoves K.eq K.is_clone) K.eq index_key (Prim.search rules) (λ k.
+        stripe_number n (⟦<H as Hashes<K>>⟧.hash_of g.hasher k)) (routes_alike K.eq K.hash_input (λ w. stripe_number n
+        (hash_of H.BuildHasher H.Hasher.Hasher g.hasher w)) K.Hash.respects_eq) i old new call reply key (λ made given k
+        m. index_call_keeps K.eq K.is_clone (λ k. stripe_number n (⟦<H as Hashes<K>>⟧.hash_of g.hasher k)) (routes_alike
+        K.eq K.hash_input (λ w. stripe_number n (hash_of H.BuildHasher H.Hasher.Hasher g.hasher w)) K.Hash.respects_eq)
+        i old new made given routed k m) s };
 
     ghost resize_keeps = { λ g n i old new buckets routed s. map_resize_keeps g (λ k. stripe_number n
-        (hash_of H.BuildHasher H.Hasher.Hasher g.hasher (K.hash_input k))) i old new buckets routed s };
+        (⟦<H as Hashes<K>>⟧.hash_of g.hasher k)) i old new buckets routed s };
 
     ghost empty_keeps = { λ _ _ _ _. tt };
 }
 
-/// Makes the first array or the growth that `call` would have to make, if `call` may add a key. Doesn't make its
-/// version. Fails if memory is refused.
+/// Makes the first array or the growth that `call` would have to make, if `call` may add a key, and returns the
+/// place of its key, or `None`. Returns `None` for a call that adds none. Doesn't make its version. Fails if memory is refused.
 fn prepare<K: Eq + Hash, V, H: BuildHasher>(
     index: &mut Owned<K, V, H>,
     call: &IndexCall<K, V>,
-) -> Result<(), Refused>
-    ensures { IndexPreparesCall K.eq (λ h k. hash_of H.BuildHasher H.Hasher.Hasher h (K.hash_input k))
-        index.old call.now result index.new }
+) -> Result<Option<Place>, Refused>
+    ensures { IndexPreparesCall K.eq ⟦<H as Hashes<K>>⟧.hash_of index.old call.now result index.new }
 {
     match call {
         IndexCall::Insert(k, _) => prepare_key(index, k),
-        _ => Ok(()),
+        _ => Ok(None),
     }
 }
 
-/// Makes the first array or the growth that an insertion of `k` would have to make. Doesn't make its version. Fails if
-/// memory is refused.
+/// Makes the first array or the growth that an insertion of `k` would have to make, and returns the place of the
+/// entry of `k`, or `None`. Doesn't make its version. Fails if memory is refused.
 fn prepare_key<K: Eq + Hash, V, H: BuildHasher>(
     index: &mut Owned<K, V, H>,
     k: &K,
-) -> Result<(), Refused>
-    ensures { IndexPreparesKey K.eq (λ h k. hash_of H.BuildHasher H.Hasher.Hasher h (K.hash_input k))
-        index.old k.now result index.new }
+) -> Result<Option<Place>, Refused>
+    ensures { IndexPreparesKey K.eq ⟦<H as Hashes<K>>⟧.hash_of index.old k.now result index.new }
 {
-    match index.make_room(k) {
-        Ok(()) => Ok(()),
+    match index.find_or_make_room(k) {
+        Ok(found) => Ok(found),
         Err(_) => Err(Refused),
     }
 }
@@ -223,21 +218,23 @@ impl<K: Eq + Hash + Clone, V: Clone + PartialEq, H: BuildHasher> CopiesReply for
 
     ghost use Rattle.std.specs.Prelude.{IsSome};
     ghost use Rattle.scc_common.specs.Contents.{entries};
-    ghost use Rattle.scc_calls.specs.IndexCalls.{index_answer, index_key};
+    ghost use Rattle.scc_calls.specs.IndexCalls.{index_answer, index_key, IndexKnows};
 
     ghost next_reply = { λ x. index_answer K.eq (entries x) };
 
+    ghost knows = { λ x. IndexKnows K.eq x };
+
     ghost has_key = { λ call. IsSome (index_key call) };
 
-    fn copy(&self, call: &IndexCall<K, V>) -> Result<Reply<K, V>, Refused> {
+    fn copy(&self, call: &IndexCall<K, V>, found: Option<Place>) -> Result<Reply<K, V>, Refused> {
         match call {
-            IndexCall::Insert(k, v) => {
-                if !self.contains(k) {
-                    return Ok(Reply::Inserted);
+            IndexCall::Insert(k, v) => match found {
+                Some(_) => {
+                    let (key, value) = clone_pair(k, v)?;
+                    Ok(Reply::Exists(key, value))
                 }
-                let (key, value) = clone_pair(k, v)?;
-                Ok(Reply::Exists(key, value))
-            }
+                None => Ok(Reply::Inserted),
+            },
             IndexCall::Update(k, _) => Ok(Reply::Has(self.contains(k))),
             IndexCall::Remove(k) => Ok(Reply::Has(self.contains(k))),
             IndexCall::Read(k) => Ok(Reply::Value(self.cloned_value(k)?)),

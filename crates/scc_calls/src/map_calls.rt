@@ -1,10 +1,10 @@
 //! The calls of the owned map as values.
-ghost use Rattle.scc_common.specs.Hashing.{hash_of};
 ghost use Rattle.scc_calls.specs.Preparations.{MapPreparesCall, MapPreparesKey};
 
 use crate::replies::{CopiesReply, clone_pair, copies, equals};
 use crate::{Calls, MapCall, Refused, Reply};
-use scc_common::{InsertError, MakeError};
+use scc_buckets::Place;
+use scc_common::{Hashes, InsertError, MakeError};
 use scc_owned::map::Owned;
 use scc_owned::map::borrowed::ReplaceResult;
 use std::alloc::Global;
@@ -31,7 +31,7 @@ impl<K: Eq + Hash + Clone, V: Clone + PartialEq, H: BuildHasher> Calls for Owned
     ghost use Rattle.scc_calls.specs.Means.{means_alike, means_answer, means_keeps, means_whole};
     ghost use Rattle.scc_calls.specs.Stems.{map_stems_alike, MapStems};
     ghost use Rattle.std.proofs.Common.{refl, rules};
-    ghost use Rattle.scc_common.specs.Contents.{key_hash, mark_of};
+    ghost use Rattle.scc_common.specs.Contents.{hash_in, mark_of};
     ghost use Rattle.scc_calls.specs.States.{State, state_of, run_setting, ResizesTo};
 
     ghost State = { State (K × V) };
@@ -60,11 +60,11 @@ impl<K: Eq + Hash + Clone, V: Clone + PartialEq, H: BuildHasher> Calls for Owned
 
     ghost resizes = { ResizesTo };
 
-    ghost may_refuse = { MapMayRefuse K.eq (λ h k. hash_of H.BuildHasher H.Hasher.Hasher h (K.hash_input k)) };
+    ghost may_refuse = { MapMayRefuse K.eq ⟦<H as Hashes<K>>⟧.hash_of };
 
     ghost adds = { map_adds };
 
-    ghost is_prepared = { λ m. MapIsPrepared K.eq (key_hash H.BuildHasher H.Hasher.Hasher K.hash_input m) m
+    ghost is_prepared = { λ m. MapIsPrepared K.eq (hash_in ⟦<H as Hashes<K>>⟧.hash_of m) m
         ⟦<Reply<K, V> as PartialEq>⟧.eq };
 
     ghost is_marked = { λ m. mark_of m };
@@ -72,8 +72,7 @@ impl<K: Eq + Hash + Clone, V: Clone + PartialEq, H: BuildHasher> Calls for Owned
     ghost whole = { joined };
 
     ghost whole_means = { λ g n i. Means ⟦<MapCall<K, V> as PartialEq>⟧.eq ⟦<Reply<K, V> as PartialEq>⟧.eq
-        (MapWholeMoves K.eq (λ k. stripe_number n (hash_of H.BuildHasher H.Hasher.Hasher g.hasher (K.hash_input k))
-        == i)) };
+        (MapWholeMoves K.eq (λ k. stripe_number n (⟦<H as Hashes<K>>⟧.hash_of g.hasher k) == i)) };
 
     ghost whole_resizes = { λ _ _ _ w _ v. IsPermutation w v };
 
@@ -91,8 +90,8 @@ impl<K: Eq + Hash + Clone, V: Clone + PartialEq, H: BuildHasher> Calls for Owned
     }
 
     fn ready(&mut self, call: &MapCall<K, V>) -> Result<(Reply<K, V>, Reply<K, V>), Refused> {
-        prepare(self, call)?;
-        match copies(self, call) {
+        let found = prepare(self, call)?;
+        match copies(self, call, found) {
             Ok(both) => Ok(both),
             Err(Refused) => {
                 self.drop_room();
@@ -161,60 +160,57 @@ impl<K: Eq + Hash + Clone, V: Clone + PartialEq, H: BuildHasher> Calls for Owned
         ⟦<Reply<K, V> as PartialEq>⟧.eq (MapMoves K.eq) pc pr old new call copy reply given c r m };
 
     ghost call_is_whole = { λ g n before after old new call reply routed key s. means_whole
-        ⟦<MapCall<K, V> as PartialEq>⟧.eq ⟦<Reply<K, V> as PartialEq>⟧.eq (MapMoves K.eq) K.eq map_key
-        (Prim.search rules) (λ k. stripe_number n (hash_of H.BuildHasher H.Hasher.Hasher g.hasher (K.hash_input k)))
-        (routes_alike K.eq K.hash_input (λ w. stripe_number n (hash_of H.BuildHasher H.Hasher.Hasher g.hasher w))
-        K.Hash.respects_eq) (MapWholeMoves K.eq (λ k. stripe_number n (hash_of H.BuildHasher H.Hasher.Hasher g.hasher
-        (K.hash_input k)) == length before)) (length before) old new (joined (before ++ old ∷ after))
-        (joined (before ++ new ∷ after)) call reply key (λ made given k m. map_call_is_whole K.eq
-        (λ k. stripe_number n (hash_of H.BuildHasher H.Hasher.Hasher g.hasher (K.hash_input k)))
-        (routes_alike K.eq K.hash_input (λ w. stripe_number n (hash_of H.BuildHasher H.Hasher.Hasher g.hasher w))
-        K.Hash.respects_eq) before after old new made given routed k m) s };
+        ⟦<MapCall<K, V> as PartialEq>⟧.eq ⟦<Reply<K, V> as PartialEq>⟧.eq (MapMoves K.eq) K.eq map_key (Prim.search
+        rules) (λ k. stripe_number n (⟦<H as Hashes<K>>⟧.hash_of g.hasher k)) (routes_alike K.eq K.hash_input (λ w.
+        stripe_number n (hash_of H.BuildHasher H.Hasher.Hasher g.hasher w)) K.Hash.respects_eq) (MapWholeMoves K.eq (λ
+        k. stripe_number n (⟦<H as Hashes<K>>⟧.hash_of g.hasher k) == length before)) (length before) old new (joined
+        (before ++ old ∷ after)) (joined (before ++ new ∷ after)) call reply key (λ made given k m. map_call_is_whole
+        K.eq (λ k. stripe_number n (⟦<H as Hashes<K>>⟧.hash_of g.hasher k)) (routes_alike K.eq K.hash_input (λ w.
+        stripe_number n (hash_of H.BuildHasher H.Hasher.Hasher g.hasher w)) K.Hash.respects_eq) before after old new
+        made given routed k m) s };
 
     ghost resize_is_whole = { λ g n before after old new buckets routed s. resize_joined g before after old new buckets
         s };
 
     ghost call_keeps = { λ g n i old new call reply routed key s. means_keeps ⟦<MapCall<K, V> as PartialEq>⟧.eq
-        ⟦<Reply<K, V> as PartialEq>⟧.eq (MapMoves K.eq) K.eq map_key (Prim.search rules)
-        (λ k. stripe_number n (hash_of H.BuildHasher H.Hasher.Hasher g.hasher (K.hash_input k)))
-        (routes_alike K.eq K.hash_input (λ w. stripe_number n (hash_of H.BuildHasher H.Hasher.Hasher g.hasher w))
-        K.Hash.respects_eq) i old new call reply key (λ made given k m. map_call_keeps K.eq
-        (λ k. stripe_number n (hash_of H.BuildHasher H.Hasher.Hasher g.hasher (K.hash_input k)))
-        (routes_alike K.eq K.hash_input (λ w. stripe_number n (hash_of H.BuildHasher H.Hasher.Hasher g.hasher w))
-        K.Hash.respects_eq) i old new made given routed k m) s };
+        ⟦<Reply<K, V> as PartialEq>⟧.eq (MapMoves K.eq) K.eq map_key (Prim.search rules) (λ k. stripe_number n
+        (⟦<H as Hashes<K>>⟧.hash_of g.hasher k)) (routes_alike K.eq K.hash_input (λ w. stripe_number n (hash_of
+        H.BuildHasher H.Hasher.Hasher g.hasher w)) K.Hash.respects_eq) i old new call reply key (λ made given k m.
+        map_call_keeps K.eq (λ k. stripe_number n (⟦<H as Hashes<K>>⟧.hash_of g.hasher k)) (routes_alike K.eq
+        K.hash_input (λ w. stripe_number n (hash_of H.BuildHasher H.Hasher.Hasher g.hasher w)) K.Hash.respects_eq) i old
+        new made given routed k m) s };
 
     ghost resize_keeps = { λ g n i old new buckets routed s. map_resize_keeps g (λ k. stripe_number n
-        (hash_of H.BuildHasher H.Hasher.Hasher g.hasher (K.hash_input k))) i old new buckets routed s };
+        (⟦<H as Hashes<K>>⟧.hash_of g.hasher k)) i old new buckets routed s };
 
     ghost empty_keeps = { λ _ _ _ _. tt };
 }
 
-/// Makes the first array or the growth that `call` would have to make, if `call` may add a key. Fails if memory is
-/// refused.
+/// Makes the first array or the growth that `call` would have to make, if `call` may add a key, and returns the
+/// place of its key, or `None`. Returns `None` for a call that adds none. Fails if memory is refused.
 fn prepare<K: Eq + Hash, V, H: BuildHasher>(
     map: &mut Owned<K, V, H>,
     call: &MapCall<K, V>,
-) -> Result<(), Refused>
-    ensures { MapPreparesCall K.eq (λ h k. hash_of H.BuildHasher H.Hasher.Hasher h (K.hash_input k))
-        map.old call.now result map.new }
+) -> Result<Option<Place>, Refused>
+    ensures { MapPreparesCall K.eq ⟦<H as Hashes<K>>⟧.hash_of map.old call.now result map.new }
 {
     match call {
         MapCall::Insert(k, _) => prepare_key(map, k),
         MapCall::Upsert(k, _) => prepare_key(map, k),
-        _ => Ok(()),
+        _ => Ok(None),
     }
 }
 
-/// Makes the first array or the growth that an insertion of `k` would have to make. Fails if memory is refused.
+/// Makes the first array or the growth that an insertion of `k` would have to make, and returns the place of the
+/// entry of `k`, or `None`. Fails if memory is refused.
 fn prepare_key<K: Eq + Hash, V, H: BuildHasher>(
     map: &mut Owned<K, V, H>,
     k: &K,
-) -> Result<(), Refused>
-    ensures { MapPreparesKey K.eq (λ h k. hash_of H.BuildHasher H.Hasher.Hasher h (K.hash_input k))
-        map.old k.now result map.new }
+) -> Result<Option<Place>, Refused>
+    ensures { MapPreparesKey K.eq ⟦<H as Hashes<K>>⟧.hash_of map.old k.now result map.new }
 {
-    match map.make_room(k) {
-        Ok(()) => Ok(()),
+    match map.find_or_make_room(k) {
+        Ok(found) => Ok(found),
         Err(_) => Err(Refused),
     }
 }
@@ -226,22 +222,30 @@ impl<K: Eq + Hash + Clone, V: Clone + PartialEq, H: BuildHasher> CopiesReply for
 
     ghost use Rattle.std.specs.Prelude.{IsSome};
     ghost use Rattle.scc_common.specs.Contents.{entries};
-    ghost use Rattle.scc_calls.specs.MapCalls.{map_answer, map_key};
+    ghost use Rattle.scc_calls.specs.MapCalls.{map_answer, map_key, MapKnows};
 
     ghost next_reply = { λ m. map_answer K.eq (entries m) };
 
+    ghost knows = { λ m. MapKnows K.eq m };
+
     ghost has_key = { λ call. IsSome (map_key call) };
 
-    fn copy(&self, call: &MapCall<K, V>) -> Result<Reply<K, V>, Refused> {
+    fn copy(&self, call: &MapCall<K, V>, found: Option<Place>) -> Result<Reply<K, V>, Refused> {
         match call {
-            MapCall::Insert(k, v) => {
-                if !self.contains_sync(k) {
-                    return Ok(Reply::Inserted);
+            MapCall::Insert(k, v) => match found {
+                Some(_) => {
+                    let (key, value) = clone_pair(k, v)?;
+                    Ok(Reply::Exists(key, value))
                 }
-                let (key, value) = clone_pair(k, v)?;
-                Ok(Reply::Exists(key, value))
-            }
-            MapCall::Upsert(k, _) => Ok(Reply::Old(self.cloned_value(k)?)),
+                None => Ok(Reply::Inserted),
+            },
+            MapCall::Upsert(_, _) => match found {
+                Some(place) => match self.pair_at(place).1.clone() {
+                    Ok(value) => Ok(Reply::Old(Some(value))),
+                    Err(_) => Err(Refused),
+                },
+                None => Ok(Reply::Old(None)),
+            },
             MapCall::Replace(k) => Ok(Reply::Key(self.cloned_key(k)?)),
             MapCall::Read(k) => Ok(Reply::Value(self.cloned_value(k)?)),
             MapCall::Contains(k) => Ok(Reply::Has(self.contains_sync(k))),

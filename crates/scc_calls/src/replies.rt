@@ -1,9 +1,11 @@
 //! The replies of calls as values, and copies of a reply that are made before its call.
-ghost use Rattle.std.specs.Prelude.{◌≡◌, true, IfOk, OnErr};
+ghost use Rattle.scc_buckets.specs.declared.place.Place.{Place};
+ghost use Rattle.std.specs.Prelude.{◌≡◌, Option, true, IfOk, OnErr};
 ghost use Rattle.std.specs.Cmp.{IsPartialEquivalence};
 ghost use Rattle.scc_calls.specs.Copies.{ClonesEqual, MayNotClone};
 
 use crate::Refused;
+use scc_buckets::Place;
 use std::fmt::Debug;
 
 /// The reply of a call. One type serves all kinds of container; in a set, `V` is `()`.
@@ -43,28 +45,39 @@ pub(crate) trait CopiesReply {
     // The call has a key.
     ghost has_key: { Self.Call → Type 0 };
 
-    /// Returns a copy of the reply that `call` gives next. Fails if a clone is refused.
-    fn copy(&self, call: &Self::Call) -> Result<Self::Reply, Refused>
+    // If the call may add a key, this is the place of its key, or `None`.
+    ghost knows: { Self → Self.Call → Option Place → Type 0 };
+
+    /// Returns a copy of the reply that `call` gives next. If the call may add a key, `found` must be the place of
+    /// its key, or `None` if the key is missing. Fails if a clone is refused.
+    fn copy(&self, call: &Self::Call, found: Option<Place>) -> Result<Self::Reply, Refused>
         requires clones { ClonesEqual Self.Reply.is_clone Self.Reply.eq }
+        requires known { knows self.now call.now found }
         ensures ok { IfOk result (λ r. Self.Reply.eq (next_reply self.now call.now) r ≡ true) }
         ensures refused { OnErr result (has_key call.now
             × MayNotClone Self.Reply.is_infallible (next_reply self.now call.now)) };
 }
 
-/// Returns two copies of the reply that `call` gives next. Fails if a clone is refused.
-pub(crate) fn copies<C: CopiesReply>(c: &C, call: &C::Call) -> Result<(C::Reply, C::Reply), Refused>
+/// Returns two copies of the reply that `call` gives next. If the call may add a key, `found` must be the place of
+/// its key, or `None` if the key is missing. Fails if a clone is refused.
+pub(crate) fn copies<C: CopiesReply>(
+    c: &C,
+    call: &C::Call,
+    found: Option<Place>,
+) -> Result<(C::Reply, C::Reply), Refused>
     requires clones { ClonesEqual C.Reply.is_clone C.Reply.eq }
+    requires known { C.knows c.now call.now found }
     ensures ok { IfOk result (λ r. (C.Reply.eq (C.next_reply c.now call.now) r.0 ≡ true)
         × (C.Reply.eq (C.next_reply c.now call.now) r.1 ≡ true)) }
     ensures refused { OnErr result (C.has_key call.now
         × MayNotClone C.Reply.is_infallible (C.next_reply c.now call.now)) }
 {
-    let first = c.copy(call)?;
+    let first = c.copy(call, found)?;
     if let Ok(second) = first.clone() {
         return Ok((first, second));
     }
     // A refused clone of the copy says nothing of the reply, so the reply is copied once more.
-    let second = c.copy(call)?;
+    let second = c.copy(call, found)?;
     Ok((first, second))
 }
 

@@ -1,7 +1,6 @@
 //! The calls of the owned set as values.
 ghost use Rattle.std.specs.Prelude.{◌≡◌, true, IfOk, OnErr};
 ghost use Rattle.scc_common.specs.Contents.{entries, mark_of};
-ghost use Rattle.scc_common.specs.Hashing.{hash_of};
 ghost use Rattle.scc_set.specs.Keys.{find};
 ghost use Rattle.scc_calls.specs.Copies.{ClonesEqual, MayNotClone};
 ghost use Rattle.scc_calls.specs.Preparations.{SetPreparesCall, SetPreparesKey};
@@ -9,7 +8,8 @@ ghost use Rattle.scc_calls.specs.declared.replies.Reply.TheVariants.{Key};
 
 use crate::replies::{CopiesReply, copies, equals};
 use crate::{Calls, Refused, Reply, SetCall};
-use scc_common::{KeyError, MakeError};
+use scc_buckets::Place;
+use scc_common::{Hashes, KeyError, MakeError};
 use scc_set::Owned;
 use std::alloc::Global;
 use std::hash::{BuildHasher, Hash};
@@ -34,7 +34,7 @@ impl<K: Eq + Hash + Clone, H: BuildHasher> Calls for Owned<K, H> {
     ghost use Rattle.scc_calls.specs.Means.{means_alike, means_answer, means_keeps, means_whole};
     ghost use Rattle.scc_calls.specs.Stems.{set_stems_alike, SetStems};
     ghost use Rattle.std.proofs.Common.{refl, rules};
-    ghost use Rattle.scc_common.specs.Contents.{key_hash, notes_of};
+    ghost use Rattle.scc_common.specs.Contents.{hash_in, notes_of};
     ghost use Rattle.scc_calls.specs.SetLaws.{set_call_is_whole, set_call_keeps, set_resize_keeps};
     ghost use Rattle.scc_calls.specs.SetWhole.{SetWholeMoves};
     ghost use Rattle.scc_calls.specs.States.{State, state_of, run_setting, ResizesTo};
@@ -65,20 +65,19 @@ impl<K: Eq + Hash + Clone, H: BuildHasher> Calls for Owned<K, H> {
 
     ghost resizes = { ResizesTo };
 
-    ghost may_refuse = { SetMayRefuse K.eq (λ h k. hash_of H.BuildHasher H.Hasher.Hasher h (K.hash_input k)) };
+    ghost may_refuse = { SetMayRefuse K.eq ⟦<H as Hashes<K>>⟧.hash_of };
 
     ghost adds = { set_adds };
 
-    ghost is_prepared = { λ m. SetIsPrepared K.eq (key_hash H.BuildHasher H.Hasher.Hasher K.hash_input m) m
+    ghost is_prepared = { λ m. SetIsPrepared K.eq (hash_in ⟦<H as Hashes<K>>⟧.hash_of m) m
         ⟦<Reply<K, ()> as PartialEq>⟧.eq };
 
     ghost is_marked = { λ m. mark_of m };
 
     ghost whole = { joined };
 
-    ghost whole_means = { λ g n i. Means ⟦<SetCall<K> as PartialEq>⟧.eq ⟦<Reply<K, ()> as PartialEq>⟧.eq
-        (SetWholeMoves K.eq (λ k. stripe_number n (hash_of H.BuildHasher H.Hasher.Hasher g.hasher (K.hash_input k))
-        == i)) };
+    ghost whole_means = { λ g n i. Means ⟦<SetCall<K> as PartialEq>⟧.eq ⟦<Reply<K, ()> as PartialEq>⟧.eq (SetWholeMoves
+        K.eq (λ k. stripe_number n (⟦<H as Hashes<K>>⟧.hash_of g.hasher k) == i)) };
 
     ghost whole_resizes = { λ _ _ _ w _ v. IsPermutation w v };
 
@@ -95,8 +94,8 @@ impl<K: Eq + Hash + Clone, H: BuildHasher> Calls for Owned<K, H> {
     }
 
     fn ready(&mut self, call: &SetCall<K>) -> Result<(Reply<K, ()>, Reply<K, ()>), Refused> {
-        prepare(self, call)?;
-        match copies(self, call) {
+        let found = prepare(self, call)?;
+        match copies(self, call, found) {
             Ok(both) => Ok(both),
             Err(Refused) => {
                 self.drop_room();
@@ -158,57 +157,57 @@ impl<K: Eq + Hash + Clone, H: BuildHasher> Calls for Owned<K, H> {
         ⟦<Reply<K, ()> as PartialEq>⟧.eq (SetMoves K.eq) pc pr old new call copy reply given c r m };
 
     ghost call_is_whole = { λ g n before after old new call reply routed key s. means_whole
-        ⟦<SetCall<K> as PartialEq>⟧.eq ⟦<Reply<K, ()> as PartialEq>⟧.eq (SetMoves K.eq) K.eq key_of_set
-        (Prim.search rules) (λ k. stripe_number n (hash_of H.BuildHasher H.Hasher.Hasher g.hasher (K.hash_input k)))
-        (routes_alike K.eq K.hash_input (λ w. stripe_number n (hash_of H.BuildHasher H.Hasher.Hasher g.hasher w))
-        K.Hash.respects_eq) (SetWholeMoves K.eq (λ k. stripe_number n (hash_of H.BuildHasher H.Hasher.Hasher g.hasher
-        (K.hash_input k)) == length before)) (length before) old new (joined (before ++ old ∷ after))
-        (joined (before ++ new ∷ after)) call reply key (λ made given k m. set_call_is_whole K.eq
-        (λ k. stripe_number n (hash_of H.BuildHasher H.Hasher.Hasher g.hasher (K.hash_input k)))
-        (routes_alike K.eq K.hash_input (λ w. stripe_number n (hash_of H.BuildHasher H.Hasher.Hasher g.hasher w))
-        K.Hash.respects_eq) before after old new made given routed k m) s };
+        ⟦<SetCall<K> as PartialEq>⟧.eq ⟦<Reply<K, ()> as PartialEq>⟧.eq (SetMoves K.eq) K.eq key_of_set (Prim.search
+        rules) (λ k. stripe_number n (⟦<H as Hashes<K>>⟧.hash_of g.hasher k)) (routes_alike K.eq K.hash_input (λ w.
+        stripe_number n (hash_of H.BuildHasher H.Hasher.Hasher g.hasher w)) K.Hash.respects_eq) (SetWholeMoves K.eq (λ
+        k. stripe_number n (⟦<H as Hashes<K>>⟧.hash_of g.hasher k) == length before)) (length before) old new (joined
+        (before ++ old ∷ after)) (joined (before ++ new ∷ after)) call reply key (λ made given k m. set_call_is_whole
+        K.eq (λ k. stripe_number n (⟦<H as Hashes<K>>⟧.hash_of g.hasher k)) (routes_alike K.eq K.hash_input (λ w.
+        stripe_number n (hash_of H.BuildHasher H.Hasher.Hasher g.hasher w)) K.Hash.respects_eq) before after old new
+        made given routed k m) s };
 
     ghost resize_is_whole = { λ g n before after old new buckets routed s. resize_joined g before after old new buckets
         s };
 
     ghost call_keeps = { λ g n i old new call reply routed key s. means_keeps ⟦<SetCall<K> as PartialEq>⟧.eq
-        ⟦<Reply<K, ()> as PartialEq>⟧.eq (SetMoves K.eq) K.eq key_of_set (Prim.search rules)
-        (λ k. stripe_number n (hash_of H.BuildHasher H.Hasher.Hasher g.hasher (K.hash_input k)))
-        (routes_alike K.eq K.hash_input (λ w. stripe_number n (hash_of H.BuildHasher H.Hasher.Hasher g.hasher w))
-        K.Hash.respects_eq) i old new call reply key (λ made given k m. set_call_keeps K.eq
-        (λ k. stripe_number n (hash_of H.BuildHasher H.Hasher.Hasher g.hasher (K.hash_input k)))
-        (routes_alike K.eq K.hash_input (λ w. stripe_number n (hash_of H.BuildHasher H.Hasher.Hasher g.hasher w))
-        K.Hash.respects_eq) i old new made given routed k m) s };
+        ⟦<Reply<K, ()> as PartialEq>⟧.eq (SetMoves K.eq) K.eq key_of_set (Prim.search rules) (λ k. stripe_number n
+        (⟦<H as Hashes<K>>⟧.hash_of g.hasher k)) (routes_alike K.eq K.hash_input (λ w. stripe_number n (hash_of
+        H.BuildHasher H.Hasher.Hasher g.hasher w)) K.Hash.respects_eq) i old new call reply key (λ made given k m.
+        set_call_keeps K.eq (λ k. stripe_number n (⟦<H as Hashes<K>>⟧.hash_of g.hasher k)) (routes_alike K.eq
+        K.hash_input (λ w. stripe_number n (hash_of H.BuildHasher H.Hasher.Hasher g.hasher w)) K.Hash.respects_eq) i old
+        new made given routed k m) s };
 
     ghost resize_keeps = { λ g n i old new buckets routed s. set_resize_keeps g (λ k. stripe_number n
-        (hash_of H.BuildHasher H.Hasher.Hasher g.hasher (K.hash_input k))) i old new buckets routed s };
+        (⟦<H as Hashes<K>>⟧.hash_of g.hasher k)) i old new buckets routed s };
 
     ghost empty_keeps = { λ _ _ _ _. tt };
 }
 
-/// Makes the first array or the growth that `call` would have to make, if `call` may add a key. Fails if memory is
-/// refused.
+/// Makes the first array or the growth that `call` would have to make, if `call` may add a key, and returns the
+/// place of its key, or `None`. Returns `None` for a call that adds none. Fails if memory is refused.
 fn prepare<K: Eq + Hash, H: BuildHasher>(
     set: &mut Owned<K, H>,
     call: &SetCall<K>,
-) -> Result<(), Refused>
-    ensures { SetPreparesCall K.eq (λ h k. hash_of H.BuildHasher H.Hasher.Hasher h (K.hash_input k))
-        set.old call.now result set.new }
+) -> Result<Option<Place>, Refused>
+    ensures { SetPreparesCall K.eq ⟦<H as Hashes<K>>⟧.hash_of set.old call.now result set.new }
 {
     match call {
         SetCall::Insert(k) => prepare_key(set, k),
         SetCall::Replace(k) => prepare_key(set, k),
-        _ => Ok(()),
+        _ => Ok(None),
     }
 }
 
-/// Makes the first array or the growth that an insertion of `k` would have to make. Fails if memory is refused.
-fn prepare_key<K: Eq + Hash, H: BuildHasher>(set: &mut Owned<K, H>, k: &K) -> Result<(), Refused>
-    ensures { SetPreparesKey K.eq (λ h k. hash_of H.BuildHasher H.Hasher.Hasher h (K.hash_input k))
-        set.old k.now result set.new }
+/// Makes the first array or the growth that an insertion of `k` would have to make, and returns the place of the
+/// entry of `k`, or `None`. Fails if memory is refused.
+fn prepare_key<K: Eq + Hash, H: BuildHasher>(
+    set: &mut Owned<K, H>,
+    k: &K,
+) -> Result<Option<Place>, Refused>
+    ensures { SetPreparesKey K.eq ⟦<H as Hashes<K>>⟧.hash_of set.old k.now result set.new }
 {
-    match set.make_room(k) {
-        Ok(()) => Ok(()),
+    match set.find_or_make_room(k) {
+        Ok(found) => Ok(found),
         Err(_) => Err(Refused),
     }
 }
@@ -220,24 +219,30 @@ impl<K: Eq + Hash + Clone, H: BuildHasher> CopiesReply for Owned<K, H> {
 
     ghost use Rattle.std.specs.Prelude.{IsSome};
     ghost use Rattle.scc_common.specs.Contents.{entries};
-    ghost use Rattle.scc_calls.specs.SetCalls.{key_of_set, set_answer};
+    ghost use Rattle.scc_calls.specs.SetCalls.{key_of_set, set_answer, SetKnows};
 
     ghost next_reply = { λ s. set_answer K.eq (entries s) };
 
+    ghost knows = { λ s. SetKnows K.eq s };
+
     ghost has_key = { λ call. IsSome (key_of_set call) };
 
-    fn copy(&self, call: &SetCall<K>) -> Result<Reply<K, ()>, Refused> {
+    fn copy(&self, call: &SetCall<K>, found: Option<Place>) -> Result<Reply<K, ()>, Refused> {
         match call {
-            SetCall::Insert(k) => {
-                if !self.contains_sync(k) {
-                    return Ok(Reply::Inserted);
-                }
-                match k.clone() {
+            SetCall::Insert(k) => match found {
+                Some(_) => match k.clone() {
                     Ok(key) => Ok(Reply::Exists(key, ())),
                     Err(_) => Err(Refused),
-                }
-            }
-            SetCall::Replace(k) => copy_key(self, k),
+                },
+                None => Ok(Reply::Inserted),
+            },
+            SetCall::Replace(_) => match found {
+                Some(place) => match self.key_at(place).clone() {
+                    Ok(key) => Ok(Reply::Key(Some(key))),
+                    Err(_) => Err(Refused),
+                },
+                None => Ok(Reply::Key(None)),
+            },
             SetCall::Remove(k) => copy_key(self, k),
             SetCall::Read(k) => copy_key(self, k),
             SetCall::Contains(k) => Ok(Reply::Has(self.contains_sync(k))),

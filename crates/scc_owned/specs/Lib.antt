@@ -14,6 +14,7 @@ pub mod MapCollections
 pub mod MapEntries
 pub mod MapInsertions
 pub mod MapSteps
+pub mod Rooms
 pub mod Seats
 pub mod Shrinking
 pub mod Sinks

@@ -1,12 +1,12 @@
 //! Calls that look a key up, alike for maps and indexes.
-ghost use Rattle.scc_common.specs.Contents.{entries, bucket_count, settings_of, hash_in, IsMarked, IsNoteUp, IsUniqueBy};
-ghost use Rattle.scc_common.specs.Steps.{Prepares};
-ghost use Rattle.scc_table.specs.Marks.{MarksPreparation};
-ghost use Rattle.std.specs.Result.{OnErr, OnOk};
-ghost use Rattle.std.specs.Prelude.{◌≡◌, ◌↔◌, ◌⊎◌, None, IsTrue, IsSome, IsOk};
+ghost use Rattle.scc_common.specs.Contents.{entries, hash_in, IsUniqueBy};
+ghost use Rattle.scc_owned.specs.Rooms.{MakesRoom};
+ghost use Rattle.scc_table.specs.Places.{IsFoundAt};
+ghost use Rattle.std.specs.Prelude.{◌≡◌, ◌↔◌, IfOk, IsTrue, IsSome, MatchOption, None};
 
 use crate::Owned;
 use crate::stored::Stored;
+use scc_buckets::Place;
 use scc_buckets::sizes::GREATEST_CAPACITY;
 use scc_common::{Hashes, MakeError};
 use std::hash::{BuildHasher, Hash};
@@ -45,24 +45,30 @@ where
     /// it makes no resize in any case. A growth that is made takes note and mark away; if no growth is due, both stay.
     /// Fails only if memory for the first array is refused, and then nothing changes.
     pub fn make_room(&mut self, k: &E::Key) -> Result<(), MakeError>
-        ensures present { IsSome (E.lookups.find (E.Key.eq k.now) (entries self.old)) → IsOk result × (self.new ≡ self.old) }
-        ensures ok { E.lookups.find (E.Key.eq k.now) (entries self.old) ≡ None
-            → OnOk result (Prepares (hash_in ⟦<H as Hashes<E::Key>>⟧.hash_of self.old) E.key_of self.old
-            (hash_in ⟦<H as Hashes<E::Key>>⟧.hash_of self.old k.now) self.new) }
-        ensures marks { E.lookups.find (E.Key.eq k.now) (entries self.old) ≡ None
-            → MarksPreparation (hash_in ⟦<H as Hashes<E::Key>>⟧.hash_of self.old) E.key_of self.old
-            (hash_in ⟦<H as Hashes<E::Key>>⟧.hash_of self.old k.now) self.new }
-        ensures marked { IsMarked self.new → IsMarked self.old ⊎ IsNoteUp self.new }
-        ensures err { OnErr result ((E.lookups.find (E.Key.eq k.now) (entries self.old) ≡ None) × (bucket_count self.old ≡ 0)) }
-        ensures same { OnErr result (self.new ≡ self.old) }
-        ensures settings { settings_of self.new ≡ settings_of self.old }
+        ensures room { MakesRoom (hash_in ⟦<H as Hashes<E::Key>>⟧.hash_of self.old) E.key_of
+            (E.lookups.find (E.Key.eq k.now) (entries self.old)) self.old k.now result self.new }
+        ensures unique { IsUniqueBy E.Key.eq E.key_of self.new }
+    {
+        match self.find_or_make_room(k) {
+            Ok(_) => Ok(()),
+            Err(e) => Err(e),
+        }
+    }
+
+    /// Does what `make_room` does, and returns the place of the entry of `k`, or `None`.
+    pub fn find_or_make_room(&mut self, k: &E::Key) -> Result<Option<Place>, MakeError>
+        ensures room { MakesRoom (hash_in ⟦<H as Hashes<E::Key>>⟧.hash_of self.old) E.key_of
+            (E.lookups.find (E.Key.eq k.now) (entries self.old)) self.old k.now result self.new }
+        ensures found { IfOk result (λ found. MatchOption found
+            (E.lookups.find (E.Key.eq k.now) (entries self.new) ≡ None)
+            (IsFoundAt (λ e. E.Key.eq k.now (E.key_of e)) self.new)) }
         ensures unique { IsUniqueBy E.Key.eq E.key_of self.new }
     {
         let hash = self.table.hash(k);
         match self.table.search(hash, k) {
-            Some(_) => Ok(()),
+            Some(place) => Ok(Some(place)),
             None => match self.table.prepare(hash, GREATEST_CAPACITY) {
-                Ok(()) => Ok(()),
+                Ok(()) => Ok(None),
                 Err(_) => Err(MakeError),
             },
         }

@@ -1,18 +1,22 @@
 -- Places of pairs with unit values as places of their keys.
-use Rattle.std.proofs.Common.{◌≡◌, ℕ, zero, suc, Bool, List, [], ◌∷◌, length, map, take, Option, None, Some, MatchOption, refl, sym, ap, subst, ◌∙◌}
-use Rattle.std.specs.List.{slice_get, remove}
+use Rattle.std.proofs.Common.{◌≡◌, ℕ, zero, suc, Bool, List, [], ◌∷◌, length, map, take, Option, None, Some, Ok, Err, MatchOption, refl, sym, ap, subst, ◌∙◌}
+use Rattle.std.specs.Prelude.{Result, IfOk}
+use Rattle.std.specs.List.{position, slice_get, remove}
 use Rattle.std.specs.Map.{keys_of}
 use Rattle.std.specs.Option.{option_map}
 use Rattle.scc_common.specs.Contents.{Contents, entries}
+use Rattle.scc_buckets.proofs.FindingLemmas.{position_cons, position_hit}
+use Rattle.scc_buckets.proofs.Inserts.{by_answer}
 use Rattle.scc_buckets.specs.Placed as spots
 use Rattle.scc_table.specs.Placed.{front_of}
-use Rattle.scc_table.specs.Places.{index_of}
-use Rattle.scc_table.specs.Places.{StandsAt}
+use Rattle.scc_table.specs.Places.{IsFoundAt, StandsAt, index_of}
 use Rattle.scc_common.specs.Steps.{Holds, HoldsExactly}
 use Rattle.scc_buckets.specs.declared.place.Place.{Place}
 use Rattle.scc_buckets.proofs.Mapped.{entries-mapped, length-mapped, Holds-mapped, HoldsExactly-mapped}
-use Rattle.scc_table.proofs.places.Mapped.{index_of-mapped, StandsAt-mapped}
-use Rattle.scc_set.specs.Keys.{of_map}
+use Rattle.scc_table.proofs.places.Mapped.{index_of-mapped, IsPlace-mapped, StandsAt-mapped}
+use Rattle.scc_common.specs.Pairs.{find as find_pair}
+use Rattle.scc_set.specs.Keys.{find, of_map}
+use Rattle.scc_set.proofs.Sets.{found-none}
 use Rattle.scc_set.specs.SetWalks.{Declines}
 
 get-map : {E F : Type 0} (f : E → F) (es : List E) (i : ℕ) → slice_get (map f es) i ≡ option_map f (slice_get es i)
@@ -59,6 +63,23 @@ module _ {K S : Type 0} (c : Contents (K × Unit {0}) S) where
       → MatchOption r (suc (index_of (of_map c) place) ≡ length (entries (of_map c))) (StandsAt (of_map d) (index_of (of_map c) place))
   follows-taken place d None h = rw (index_of-mapped key_of c place, length-mapped key_of c) h
   follows-taken place d (Some q) h = rw (index_of-mapped key_of c place) (StandsAt-mapped key_of d (index_of c place) q h)
+
+position-map : {E F : Type 0} (f : E → F) (test : F → Bool) (es : List E) → position test (map f es) ≡ position (λ e. test (f e)) es
+position-map f test [] = refl
+position-map f test (e ∷ es) =
+    by_answer (test (f e))
+    (λ y. position_hit test (f e) (map f es) y ∙ sym (position_hit (λ x. test (f x)) e es y))
+    (λ n. position_cons test (f e) (map f es) n ∙ ap (option_map suc) (position-map f test es) ∙ sym (position_cons (λ x. test (f x)) e es n))
+
+-- the place that a search of the map found, or none, is what a search of the set finds
+pub found-place : {K S R : Type 0} (eq : K → K → Bool) (c : Contents (K × Unit {0}) S) (k : K) (result : Result (Option Place) R) → IfOk result (λ found. MatchOption found (find_pair eq (entries c) k ≡ None) (IsFoundAt (λ p. eq k p.0) c))
+    → IfOk result (λ found. MatchOption found (find eq (entries (of_map c)) k ≡ None) (IsFoundAt (eq k) (of_map c)))
+found-place eq c k (Ok None) h = found-none eq c k h
+found-place eq c k (Ok (Some place)) h = record {
+  within = IsPlace-mapped (λ p. p.0) c place h.within;
+  found = ap (position (eq k)) (entries-mapped (λ p. p.0) c) ∙ position-map (λ p. p.0) (eq k) (entries c) ∙ h.found ∙ ap (λ i. Some i) (sym (index_of-mapped (λ p. p.0) c place));
+}
+found-place eq c k (Err e) h = tt
 
 -- a closure that declined the keys before a place declined the front of the place
 pub declines-front : {F K S : Type 0} {T : F → K → Bool → F → Type 0} {f t : F} (c : Contents K S) (place : Place) → Declines T f (take (index_of c place) (entries c)) t → Declines T f (front_of c place) t

@@ -1,15 +1,18 @@
 -- The map's words about room say of pairs what the set's words say of keys.
-use Rattle.std.proofs.Common.{◌≡◌, ◌⊎◌, ℕ, inl, inr, map, sym, ap, subst, ◌∙◌}
+use Rattle.std.proofs.Common.{◌≡◌, ◌⊎◌, ℕ, Bool, inl, inr, map, sym, ap, subst, ◌∙◌}
+use Rattle.std.specs.Prelude.{Result}
 use Rattle.std.specs.Hash.{HashWrites}
 use Rattle.std.specs.declared.hash.Hasher as hasher
 use Rattle.std.specs.declared.hash.BuildHasher as builder
-use Rattle.scc_common.specs.Contents.{Contents, lists_of, key_hash, IsMarked, IsNoteUp}
+use Rattle.scc_common.specs.Contents.{Contents, entries, lists_of, key_hash, IsMarked, IsNoteUp}
 use Rattle.scc_common.specs.Mapped.{mapped}
+use Rattle.scc_common.specs.Pairs.{find as find_pair}
 use Rattle.scc_common.specs.Steps.{IsPreparedFor, Prepares, IsGrowthDue}
 use Rattle.scc_buckets.proofs.Mapped.{Rests-mapped, Grows-mapped, HasRoomBy-mapped, HasRoomBy-from_mapped}
 use Rattle.scc_table.specs.Marks.{MarksPreparation}
-use Rattle.scc_set.specs.Keys.{of_map}
-use Rattle.scc_set.proofs.Sets.{hash-same, shows, waiting-keys}
+use Rattle.scc_owned.specs.Rooms.{MakesRoom}
+use Rattle.scc_set.specs.Keys.{find, of_map}
+use Rattle.scc_set.proofs.Sets.{found-is, found-none, hash-same, none-found, on-err, on-ok, shows, waiting-keys}
 
 pub lists-keys : {K S : Type 0} (c d : Contents (K × Unit {0}) S) → lists_of d ≡ lists_of c → lists_of (of_map d) ≡ lists_of (of_map c)
 unfolding mapped lists_of
@@ -106,3 +109,16 @@ module _ {K S T : Type 0} (build : builder.Ghosts S T) (feed : hasher.Ghosts T) 
   pub marks-hashed : (d : Contents (K × Unit {0}) S) → MarksPreparation (key_hash build feed input c) (λ (p : K × Unit {0}). p.0) c (key_hash build feed input c k) d
       → MarksPreparation (key_hash build feed input (of_map c)) (λ q. q) (of_map c) (key_hash build feed input (of_map c) k) (of_map d)
   marks-hashed d h = subst (λ (hash : K → ℕ). MarksPreparation hash (λ q. q) (of_map c) (hash k) (of_map d)) (sym (hash-same build feed input c)) (marks-keys (key_hash build feed input c) k c d h)
+
+  -- room that is made in the map is made in the set
+  pub makes-hashed : {X R : Type 0} (eq : K → K → Bool) (result : Result X R) (d : Contents (K × Unit {0}) S) → MakesRoom (key_hash build feed input c) (λ (p : K × Unit {0}). p.0) (find_pair eq (entries c) k) c k result d
+      → MakesRoom (key_hash build feed input (of_map c)) (λ q. q) (find eq (entries (of_map c)) k) (of_map c) k result (of_map d)
+  makes-hashed eq result d h = record {
+    present = λ there. let p = h.present (found-is eq c k there) in (p.0, ap of_map p.1);
+    ok = λ none. on-ok result (room-hashed d) (h.ok (none-found eq c k none));
+    marks = λ none. marks-hashed d (h.marks (none-found eq c k none));
+    marked = marked-keys c d h.marked;
+    err = on-err result (λ e. (found-none eq c k e.0, (shows c).buckets ∙ e.1)) h.err;
+    same = on-err result (ap of_map) h.same;
+    settings = (shows d).settings ∙ h.settings ∙ sym (shows c).settings;
+  }

@@ -31,7 +31,7 @@ impl<K: Eq + Hash, H: BuildHasher> Owned<K, H> {
     }
 
     /// Returns the key at `place`.
-    pub(crate) fn key_at(&self, place: Place) -> &K
+    pub fn key_at(&self, place: Place) -> &K
         requires { IsPlace self.now place }
         ensures { slice_get (entries self.now) (index_of self.now place) ≡ Some result.now }
     {

@@ -1,20 +1,21 @@
 //! A hash set for one owner, over the map of `scc_owned`.
 #![tactic(auto)]
 
-ghost use Rattle.scc_common.specs.Contents.{entries, bucket_count, lists_of, settings_of, notes_of, waiting_of, hash_in, IsMarked, IsNoteUp, note_of};
+ghost use Rattle.scc_common.specs.Contents.{entries, bucket_count, lists_of, settings_of, notes_of, waiting_of, hash_in, note_of};
 ghost use Rattle.scc_common.specs.Pairs.{IsUnique as IsUniqueMap};
 ghost use Rattle.scc_common.specs.Pairs.{find as find_pair};
-ghost use Rattle.scc_common.specs.Steps.{HoldsExactly, IsUnchanged, Prepares};
+ghost use Rattle.scc_common.specs.Steps.{HoldsExactly, IsUnchanged};
+ghost use Rattle.scc_owned.specs.Rooms.{MakesRoom};
 ghost use Rattle.scc_set.specs.Keys.{find, with_key, FindsInstead, HasRoom, IsUnique};
 ghost use Rattle.scc_set.specs.SetSteps.{Inserts, Reads, Removes, RemovesIf, Replaces};
 ghost use Rattle.scc_set.specs.SetSteps.{key_answer as key_answer_of};
 ghost use Rattle.std.specs.Fn.{FnOnceTakesAt, FnOnceReturnsAt};
 ghost use Rattle.std.specs.Map.{set_key};
 ghost use Rattle.std.specs.Option.{option_map};
-ghost use Rattle.std.specs.Prelude.{◌≡◌, ◌<◌, ◌*◌, ◌↔◌, ◌⊎◌, [], length, Some, None, IsTrue, IsSome, IsOk, IfErr, IfOk, OnSome, true, false};
+ghost use Rattle.std.specs.Prelude.{◌≡◌, ◌<◌, ◌*◌, ◌↔◌, ◌⊎◌, [], length, Some, None, IsTrue, IsSome, IsOk, IfErr, IfOk, MatchOption, OnSome, true, false};
 ghost use Rattle.std.specs.Result.{OnErr, OnOk};
 ghost use Rattle.scc_table.specs.Arrays.{GrowsByRule, ShrinksByRule};
-ghost use Rattle.scc_table.specs.Marks.{MarksPreparation};
+ghost use Rattle.scc_table.specs.Places.{IsFoundAt};
 
 pub mod entry;
 mod key_places;
@@ -24,6 +25,7 @@ mod walk;
 mod whole;
 
 pub use entry::{OccupiedEntry, Removed};
+use scc_buckets::Place;
 use scc_common::{Hashes, InsertError, KeyError, MakeError};
 use scc_owned::map::borrowed::ReplaceResult;
 use std::hash::{BuildHasher, BuildHasherDefault, FoldHasher, Hash};
@@ -138,20 +140,22 @@ impl<K: Eq + Hash, H: BuildHasher> Owned<K, H> {
     /// it makes no resize in any case. A growth that is made takes note and mark away; if no growth is due, both stay.
     /// Fails only if memory for the first array is refused, and then nothing changes.
     pub fn make_room(&mut self, k: &K) -> Result<(), MakeError>
-        ensures present { IsSome (find K.eq (entries self.old) k.now) → IsOk result × (self.new ≡ self.old) }
-        ensures ok { find K.eq (entries self.old) k.now ≡ None
-            → OnOk result (Prepares (hash_in ⟦<H as Hashes<K>>⟧.hash_of self.old) (λ q. q) self.old
-            (hash_in ⟦<H as Hashes<K>>⟧.hash_of self.old k.now) self.new) }
-        ensures marks { find K.eq (entries self.old) k.now ≡ None
-            → MarksPreparation (hash_in ⟦<H as Hashes<K>>⟧.hash_of self.old) (λ q. q) self.old
-            (hash_in ⟦<H as Hashes<K>>⟧.hash_of self.old k.now) self.new }
-        ensures marked { IsMarked self.new → IsMarked self.old ⊎ IsNoteUp self.new }
-        ensures err { OnErr result ((find K.eq (entries self.old) k.now ≡ None) × (bucket_count self.old ≡ 0)) }
-        ensures same { OnErr result (self.new ≡ self.old) }
-        ensures settings { settings_of self.new ≡ settings_of self.old }
+        ensures room { MakesRoom (hash_in ⟦<H as Hashes<K>>⟧.hash_of self.old) (λ q. q)
+            (find K.eq (entries self.old) k.now) self.old k.now result self.new }
         ensures unique { IsUnique K.eq self.new }
     {
         self.map.make_room(k)
+    }
+
+    /// Does what `make_room` does, and returns the place of the key that equals `k`, or `None`.
+    pub fn find_or_make_room(&mut self, k: &K) -> Result<Option<Place>, MakeError>
+        ensures room { MakesRoom (hash_in ⟦<H as Hashes<K>>⟧.hash_of self.old) (λ q. q)
+            (find K.eq (entries self.old) k.now) self.old k.now result self.new }
+        ensures found { IfOk result (λ found. MatchOption found (find K.eq (entries self.new) k.now ≡ None)
+            (IsFoundAt (K.eq k.now) self.new)) }
+        ensures unique { IsUnique K.eq self.new }
+    {
+        self.map.find_or_make_room(k)
     }
 
     /// Takes the mark of a refused growth away, and changes nothing else. An insertion then tries a growth that is

@@ -4,6 +4,7 @@ pub returns-in-Insert : goal.returns-in-Insert
 returns-in-Insert g c =
     record {
       made = (rw c.in-Insert.is c.prepare_key.ensures.made);
+      known = (rw c.in-Insert.is c.prepare_key.ensures.known);
       stays = c.prepare_key.ensures.stays;
       settings = c.prepare_key.ensures.settings;
       grows = c.prepare_key.ensures.grows;

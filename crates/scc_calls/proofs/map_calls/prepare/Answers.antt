@@ -4,6 +4,7 @@ pub returns-in-Insert : goal.returns-in-Insert
 returns-in-Insert g c =
     record {
       made = (rw c.in-Insert.is c.prepare_key.ensures.made);
+      known = (rw c.in-Insert.is c.prepare_key.ensures.known);
       stays = c.prepare_key.ensures.stays;
       settings = c.prepare_key.ensures.settings;
       grows = c.prepare_key.ensures.grows;
@@ -17,6 +18,7 @@ pub returns-in-Upsert : goal.returns-in-Upsert
 returns-in-Upsert g c =
     record {
       made = (rw c.in-Upsert.is c.prepare_key-in-Upsert.ensures.made);
+      known = (rw c.in-Upsert.is c.prepare_key-in-Upsert.ensures.known);
       stays = c.prepare_key-in-Upsert.ensures.stays;
       settings = c.prepare_key-in-Upsert.ensures.settings;
       grows = c.prepare_key-in-Upsert.ensures.grows;

@@ -1,4 +1,4 @@
-use Rattle.std.proofs.Common.{◌≡◌, ℕ, refl, sym, inl, inr, subst, rules}
+use Rattle.std.proofs.Common.{◌≡◌, ℕ, None, refl, sym, inl, inr, subst, rules}
 use Rattle.scc_common.specs.Contents.{entries}
 use Rattle.scc_common.specs.Hashing.{hash_of}
 use Rattle.scc_common.specs.Pairs.{find}
@@ -12,12 +12,13 @@ returns-in-Ok g c =
     record {
       made = (
           let a = c.args.map.now in
-          let d = c.make_room.new.self in
+          let d = c.find_or_make_room.new.self in
           let k = c.args.k.now in
-          let like = hash-same (λ h k. hash_of g.H.BuildHasher g.H.Hasher.Hasher h (g.K.Hash.hash_input k)) a d c.make_room.ensures.settings in
+          let like = hash-same (λ h k. hash_of g.H.BuildHasher g.H.Hasher.Hasher h (g.K.Hash.hash_input k)) a d c.find_or_make_room.ensures.room.settings in
           by-find (find g.K.PartialEq.eq (entries a) k)
-          (λ p is. let same : d ≡ a = (c.in-Ok.ensures.present (rw is refl)).1 in inl (rw same (rw is refl)))
-          (λ none. inr (subst (λ (h : g.row.K.Denot → ℕ). IsPreparedAt h (λ p. p.0) d (h k)) (sym like) (c.in-Ok.ensures.ok none).made)));
+          (λ p is. let same : d ≡ a = (c.in-Ok.ensures.room.present (rw is refl)).1 in inl (rw same (rw is refl)))
+          (λ none. inr (subst (λ (h : g.row.K.Denot → ℕ). IsPreparedAt h (λ p. p.0) d (h k)) (sym like) (c.in-Ok.ensures.room.ok none).made)));
+      known = c.in-Ok.ensures.found;
       stays = (search rules);
       settings = (search rules);
       grows = (search rules);
@@ -25,9 +26,9 @@ returns-in-Ok g c =
       unmarked = (search rules);
       still = (
           let a = c.args.map.now in
-          let d = c.make_room.new.self in
+          let d = c.find_or_make_room.new.self in
           let k = c.args.k.now in
           by-find (find g.K.PartialEq.eq (entries a) k)
-          (λ p is. let same : d ≡ a = (c.in-Ok.ensures.present (rw is refl)).1 in rw same (λ h. h))
-          (λ none. refuses-still g.K.PartialEq.eq (λ h k. hash_of g.H.BuildHasher g.H.Hasher.Hasher h (g.K.Hash.hash_input k)) a d k none (c.in-Ok.ensures.ok none)));
+          (λ p is. let same : d ≡ a = (c.in-Ok.ensures.room.present (rw is refl)).1 in rw same (λ h. h))
+          (λ none. refuses-still (λ p. p.0) (λ es. find g.K.PartialEq.eq es k ≡ None) (λ h k. hash_of g.H.BuildHasher g.H.Hasher.Hasher h (g.K.Hash.hash_input k)) a d k none (c.in-Ok.ensures.room.ok none)));
     }

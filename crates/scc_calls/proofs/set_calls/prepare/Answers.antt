@@ -4,6 +4,7 @@ pub returns-in-Insert : goal.returns-in-Insert
 returns-in-Insert g c =
     record {
       made = (rw c.in-Insert.is c.prepare_key.ensures.made);
+      known = (rw c.in-Insert.is c.prepare_key.ensures.known);
       stays = c.prepare_key.ensures.stays;
       settings = c.prepare_key.ensures.settings;
       grows = c.prepare_key.ensures.grows;
@@ -17,6 +18,7 @@ pub returns-in-Replace : goal.returns-in-Replace
 returns-in-Replace g c =
     record {
       made = (rw c.in-Replace.is c.prepare_key-in-Replace.ensures.made);
+      known = (rw c.in-Replace.is c.prepare_key-in-Replace.ensures.known);
       stays = c.prepare_key-in-Replace.ensures.stays;
       settings = c.prepare_key-in-Replace.ensures.settings;
       grows = c.prepare_key-in-Replace.ensures.grows;
