@@ -27,8 +27,8 @@ impl<K: Eq + Hash + Clone, V: Clone + PartialEq, H: BuildHasher> Calls for Owned
 
     ghost use Rattle.std.specs.Prelude.{List, [], length, max, replicate};
     ghost use Rattle.scc_common.specs.Contents.{lists_of};
-    ghost use Rattle.scc_common.specs.Hashing.{hash_of};
     ghost use Rattle.scc_common.specs.Sizes.{IsArraySize};
+    ghost use Rattle.scc_common.specs.Hashing.{hash_of};
     ghost use Rattle.scc_common.specs.Contents.{hash_in, notes_of};
     ghost use Rattle.scc_calls.specs.CacheCalls.{cache_adds, cache_answer, cache_key, cache_setting, keys_in, number_by, CacheIsPrepared, CacheMoves, CacheMayRefuse, CacheResizes};
     ghost use Rattle.scc_calls.specs.Copies.{Answers, Means};
@@ -62,8 +62,8 @@ impl<K: Eq + Hash + Clone, V: Clone + PartialEq, H: BuildHasher> Calls for Owned
 
     ghost moves = { λ g. Answers (CacheStems V.is_clone) (CacheMoves K.eq (number_by ⟦<H as Hashes<K>>⟧.hash_of g)) };
 
-    ghost means = { λ g. Means ⟦<CacheCall<K, V> as PartialEq>⟧.eq ⟦<Reply<K, V> as PartialEq>⟧.eq (CacheMoves K.eq
-        (number_by ⟦<H as Hashes<K>>⟧.hash_of g)) };
+    ghost means = { λ g. Means ⟦<CacheCall<K, V> as PartialEq>⟧.eq ⟦<Reply<K, V> as PartialEq>⟧.eq
+        (CacheMoves K.eq (number_by ⟦<H as Hashes<K>>⟧.hash_of g)) };
 
     ghost resizes = { λ g. CacheResizes g (number_by ⟦<H as Hashes<K>>⟧.hash_of g) };
 
@@ -79,8 +79,8 @@ impl<K: Eq + Hash + Clone, V: Clone + PartialEq, H: BuildHasher> Calls for Owned
     ghost whole = { λ parts. parts };
 
     ghost whole_means = { λ g n i. PartMoves (Means ⟦<CacheCall<K, V> as PartialEq>⟧.eq ⟦<Reply<K, V> as PartialEq>⟧.eq
-        (CacheMoves K.eq (number_by ⟦<H as Hashes<K>>⟧.hash_of g))) cache_key (λ k. stripe_number n
-        (⟦<H as Hashes<K>>⟧.hash_of g.hasher k)) i };
+        (CacheMoves K.eq (number_by ⟦<H as Hashes<K>>⟧.hash_of g))) cache_key
+        (λ k. stripe_number n (⟦<H as Hashes<K>>⟧.hash_of g.hasher k)) i };
 
     ghost whole_resizes = { λ g n i. PartResizes (CacheResizes g (number_by ⟦<H as Hashes<K>>⟧.hash_of g)) i };
 
@@ -172,30 +172,32 @@ impl<K: Eq + Hash + Clone, V: Clone + PartialEq, H: BuildHasher> Calls for Owned
     ghost one_limit = { λ asked slots m n p q. one_size (max asked slots) m n p q };
 
     ghost moves_mean = { λ clones g old new call reply m. means_answer ⟦<CacheCall<K, V> as PartialEq>⟧.eq
-        ⟦<Reply<K, V> as PartialEq>⟧.eq (CacheMoves K.eq (number_by ⟦<H as Hashes<K>>⟧.hash_of g)) (CacheStems
-        V.is_clone) (cache_stems_alike clones V.is_clone refl (λ x y h. h)) old new call reply m };
+        ⟦<Reply<K, V> as PartialEq>⟧.eq (CacheMoves K.eq (number_by ⟦<H as Hashes<K>>⟧.hash_of g))
+        (CacheStems V.is_clone) (cache_stems_alike clones V.is_clone refl (λ x y h. h)) old new call reply m };
 
     ghost means_alike = { λ g old new call copy reply given pc pr c r m. means_alike ⟦<CacheCall<K, V> as PartialEq>⟧.eq
         ⟦<Reply<K, V> as PartialEq>⟧.eq (CacheMoves K.eq (number_by ⟦<H as Hashes<K>>⟧.hash_of g)) pc pr old new call
         copy reply given c r m };
 
-    ghost call_is_whole = { λ g n before after old new call reply routed key s. parted_call (Means
-        ⟦<CacheCall<K, V> as PartialEq>⟧.eq ⟦<Reply<K, V> as PartialEq>⟧.eq (CacheMoves K.eq (number_by
-        ⟦<H as Hashes<K>>⟧.hash_of g))) cache_key (λ k. stripe_number n (⟦<H as Hashes<K>>⟧.hash_of g.hasher k)) before
-        after old new call reply key s };
+    ghost call_is_whole = { λ g n before after old new call reply routed key s. parted_call
+        (Means ⟦<CacheCall<K, V> as PartialEq>⟧.eq ⟦<Reply<K, V> as PartialEq>⟧.eq
+        (CacheMoves K.eq (number_by ⟦<H as Hashes<K>>⟧.hash_of g))) cache_key
+        (λ k. stripe_number n (⟦<H as Hashes<K>>⟧.hash_of g.hasher k)) before after old new call reply key s };
 
-    ghost resize_is_whole = { λ g n before after old new buckets routed s. parted_resize (CacheResizes g (number_by
-        ⟦<H as Hashes<K>>⟧.hash_of g)) before after old new buckets s };
+    ghost resize_is_whole = { λ g n before after old new buckets routed s. parted_resize
+        (CacheResizes g (number_by ⟦<H as Hashes<K>>⟧.hash_of g)) before after old new buckets s };
 
     ghost call_keeps = { λ g n i old new call reply routed key s. means_keeps ⟦<CacheCall<K, V> as PartialEq>⟧.eq
         ⟦<Reply<K, V> as PartialEq>⟧.eq (CacheMoves K.eq (number_by ⟦<H as Hashes<K>>⟧.hash_of g)) K.eq cache_key
-        (Prim.search rules) (λ k. stripe_number n (⟦<H as Hashes<K>>⟧.hash_of g.hasher k)) (routes_alike K.eq
-        K.hash_input (λ w. stripe_number n (hash_of H.BuildHasher H.Hasher.Hasher g.hasher w)) K.Hash.respects_eq) i old
-        new call reply key (λ made given k m. cache_call_keeps K.eq (number_by ⟦<H as Hashes<K>>⟧.hash_of g) (λ k.
-        stripe_number n (⟦<H as Hashes<K>>⟧.hash_of g.hasher k)) i old new made given routed k m) s };
+        (Prim.search rules) (λ k. stripe_number n (⟦<H as Hashes<K>>⟧.hash_of g.hasher k))
+        (routes_alike K.eq K.hash_input (λ w. stripe_number n (hash_of H.BuildHasher H.Hasher.Hasher g.hasher w))
+        K.Hash.respects_eq) i old new call reply key (λ made given k m. cache_call_keeps K.eq
+        (number_by ⟦<H as Hashes<K>>⟧.hash_of g) (λ k. stripe_number n (⟦<H as Hashes<K>>⟧.hash_of g.hasher k)) i old
+        new made given routed k m) s };
 
-    ghost resize_keeps = { λ g n i old new buckets routed s. cache_resize_keeps g (number_by ⟦<H as Hashes<K>>⟧.hash_of
-        g) (λ k. stripe_number n (⟦<H as Hashes<K>>⟧.hash_of g.hasher k)) i old new buckets routed s };
+    ghost resize_keeps = { λ g n i old new buckets routed s. cache_resize_keeps g
+        (number_by ⟦<H as Hashes<K>>⟧.hash_of g) (λ k. stripe_number n (⟦<H as Hashes<K>>⟧.hash_of g.hasher k)) i old
+        new buckets routed s };
 
     ghost empty_keeps = { λ h n i b. empty_keys V (λ k. stripe_number n (⟦<H as Hashes<K>>⟧.hash_of h k)) i b };
 }
@@ -263,11 +265,12 @@ fn copy_evicted<K: Eq + Hash + Clone, V: Clone + PartialEq, H: BuildHasher>(
 ) -> Result<Reply<K, V>, Refused>
     requires clones { ClonesEqual ⟦<Reply<K, V> as Clone>⟧.is_clone ⟦<Reply<K, V> as PartialEq>⟧.eq }
     requires absent { IsAbsent (hash_in ⟦<H as Hashes<K>>⟧.hash_of cache.now.contents) K.eq cache.now.contents k.now }
-    ensures ok { IfOk result (λ r. ⟦<Reply<K, V> as PartialEq>⟧.eq (Evicted (first_of_full (list_of cache.now.contents
-        (list_number (hash_in ⟦<H as Hashes<K>>⟧.hash_of cache.now.contents) cache.now.contents (bucket_count
-        cache.now.contents) k.now)))) r ≡ true) }
-    ensures refused { OnErr result (MayNotClone ⟦<Reply<K, V> as Clone>⟧.is_infallible (Evicted (first_of_full (list_of
-        cache.now.contents (list_number (hash_in ⟦<H as Hashes<K>>⟧.hash_of cache.now.contents) cache.now.contents
+    ensures ok { IfOk result (λ r. ⟦<Reply<K, V> as PartialEq>⟧.eq (Evicted
+        (first_of_full (list_of cache.now.contents (list_number (hash_in ⟦<H as Hashes<K>>⟧.hash_of cache.now.contents)
+        cache.now.contents (bucket_count cache.now.contents) k.now)))) r ≡ true) }
+    ensures refused { OnErr result (MayNotClone ⟦<Reply<K, V> as Clone>⟧.is_infallible
+        (Evicted (first_of_full (list_of cache.now.contents (list_number
+        (hash_in ⟦<H as Hashes<K>>⟧.hash_of cache.now.contents) cache.now.contents
         (bucket_count cache.now.contents) k.now))))) }
 {
     match cache.next_evicted(k) {

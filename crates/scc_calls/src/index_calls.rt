@@ -21,7 +21,6 @@ impl<K: Eq + Hash + Clone, V: Clone + PartialEq, H: BuildHasher> Calls for Owned
     ghost use Rattle.std.specs.Prelude.{◌≡◌, ◌==◌, [], ◌∷◌, ◌++◌, List, length};
     ghost use Rattle.std.specs.List.Sorted.{IsPermutation};
     ghost use Rattle.std.specs.Map.{keys_of};
-    ghost use Rattle.scc_common.specs.Hashing.{hash_of};
     ghost use Rattle.scc_calls.specs.MapLaws.{routes_alike, both_same, map_resize_keeps, resize_joined};
     ghost use Rattle.scc_calls.specs.IndexLaws.{index_call_is_whole, index_call_keeps};
     ghost use Rattle.scc_calls.specs.MapWhole.{joined};
@@ -32,6 +31,7 @@ impl<K: Eq + Hash + Clone, V: Clone + PartialEq, H: BuildHasher> Calls for Owned
     ghost use Rattle.scc_calls.specs.Means.{means_alike, means_answer, means_keeps, means_whole};
     ghost use Rattle.scc_calls.specs.Stems.{index_stems_alike, IndexStems};
     ghost use Rattle.std.proofs.Common.{refl, rules};
+    ghost use Rattle.scc_common.specs.Hashing.{hash_of};
     ghost use Rattle.scc_common.specs.Contents.{hash_in, mark_of};
     ghost use Rattle.scc_calls.specs.States.{State, state_of, run_setting, ResizesTo};
 
@@ -158,27 +158,30 @@ impl<K: Eq + Hash + Clone, V: Clone + PartialEq, H: BuildHasher> Calls for Owned
 
     ghost call_is_whole = { λ g n before after old new call reply routed key s. means_whole
         ⟦<IndexCall<K, V> as PartialEq>⟧.eq ⟦<Reply<K, V> as PartialEq>⟧.eq (IndexMoves K.eq K.is_clone) K.eq index_key
-        (Prim.search rules) (λ k. stripe_number n (⟦<H as Hashes<K>>⟧.hash_of g.hasher k)) (routes_alike K.eq
-        K.hash_input (λ w. stripe_number n (hash_of H.BuildHasher H.Hasher.Hasher g.hasher w)) K.Hash.respects_eq)
-        (IndexWholeMoves K.eq K.is_clone (λ k. stripe_number n (⟦<H as Hashes<K>>⟧.hash_of g.hasher k) == length
-        before)) (length before) old new (joined (before ++ old ∷ after)) (joined (before ++ new ∷ after)) call reply
-        key (λ made given k m. index_call_is_whole K.eq K.is_clone (λ k. stripe_number n (⟦<H as Hashes<K>>⟧.hash_of
-        g.hasher k)) (routes_alike K.eq K.hash_input (λ w. stripe_number n (hash_of H.BuildHasher H.Hasher.Hasher
-        g.hasher w)) K.Hash.respects_eq) before after old new made given routed k m) s };
+        (Prim.search rules) (λ k. stripe_number n (⟦<H as Hashes<K>>⟧.hash_of g.hasher k))
+        (routes_alike K.eq K.hash_input (λ w. stripe_number n (hash_of H.BuildHasher H.Hasher.Hasher g.hasher w))
+        K.Hash.respects_eq) (IndexWholeMoves K.eq K.is_clone (λ k. stripe_number n
+        (⟦<H as Hashes<K>>⟧.hash_of g.hasher k) == length before)) (length before) old new
+        (joined (before ++ old ∷ after)) (joined (before ++ new ∷ after)) call reply key
+        (λ made given k m. index_call_is_whole K.eq K.is_clone (λ k. stripe_number n
+        (⟦<H as Hashes<K>>⟧.hash_of g.hasher k)) (routes_alike K.eq K.hash_input
+        (λ w. stripe_number n (hash_of H.BuildHasher H.Hasher.Hasher g.hasher w)) K.Hash.respects_eq) before after old
+        new made given routed k m) s };
 
     ghost resize_is_whole = { λ g n before after old new buckets routed s. resize_joined g before after old new buckets
         s };
 
     ghost call_keeps = { λ g n i old new call reply routed key s. means_keeps ⟦<IndexCall<K, V> as PartialEq>⟧.eq
-        ⟦<Reply<K, V> as PartialEq>⟧.eq (IndexMoves K.eq K.is_clone) K.eq index_key (Prim.search rules) (λ k.
-        stripe_number n (⟦<H as Hashes<K>>⟧.hash_of g.hasher k)) (routes_alike K.eq K.hash_input (λ w. stripe_number n
-        (hash_of H.BuildHasher H.Hasher.Hasher g.hasher w)) K.Hash.respects_eq) i old new call reply key (λ made given k
-        m. index_call_keeps K.eq K.is_clone (λ k. stripe_number n (⟦<H as Hashes<K>>⟧.hash_of g.hasher k)) (routes_alike
-        K.eq K.hash_input (λ w. stripe_number n (hash_of H.BuildHasher H.Hasher.Hasher g.hasher w)) K.Hash.respects_eq)
-        i old new made given routed k m) s };
+        ⟦<Reply<K, V> as PartialEq>⟧.eq (IndexMoves K.eq K.is_clone) K.eq index_key (Prim.search rules)
+        (λ k. stripe_number n (⟦<H as Hashes<K>>⟧.hash_of g.hasher k)) (routes_alike K.eq K.hash_input
+        (λ w. stripe_number n (hash_of H.BuildHasher H.Hasher.Hasher g.hasher w)) K.Hash.respects_eq) i old new call
+        reply key (λ made given k m. index_call_keeps K.eq K.is_clone (λ k. stripe_number n
+        (⟦<H as Hashes<K>>⟧.hash_of g.hasher k)) (routes_alike K.eq K.hash_input
+        (λ w. stripe_number n (hash_of H.BuildHasher H.Hasher.Hasher g.hasher w)) K.Hash.respects_eq) i old new made
+        given routed k m) s };
 
-    ghost resize_keeps = { λ g n i old new buckets routed s. map_resize_keeps g (λ k. stripe_number n
-        (⟦<H as Hashes<K>>⟧.hash_of g.hasher k)) i old new buckets routed s };
+    ghost resize_keeps = { λ g n i old new buckets routed s. map_resize_keeps g
+        (λ k. stripe_number n (⟦<H as Hashes<K>>⟧.hash_of g.hasher k)) i old new buckets routed s };
 
     ghost empty_keeps = { λ _ _ _ _. tt };
 }

@@ -22,7 +22,6 @@ impl<K: Eq + Hash + Clone, V: Clone + PartialEq, H: BuildHasher> Calls for Owned
     ghost use Rattle.std.specs.Prelude.{◌≡◌, ◌==◌, [], ◌∷◌, ◌++◌, List, length};
     ghost use Rattle.std.specs.List.Sorted.{IsPermutation};
     ghost use Rattle.std.specs.Map.{keys_of};
-    ghost use Rattle.scc_common.specs.Hashing.{hash_of};
     ghost use Rattle.scc_calls.specs.MapLaws.{routes_alike, both_same, map_call_is_whole, map_call_keeps, map_resize_keeps, resize_joined};
     ghost use Rattle.scc_calls.specs.MapWhole.{joined, MapWholeMoves};
     ghost use Rattle.scc_common.specs.Routing.{stripe_number};
@@ -31,6 +30,7 @@ impl<K: Eq + Hash + Clone, V: Clone + PartialEq, H: BuildHasher> Calls for Owned
     ghost use Rattle.scc_calls.specs.Means.{means_alike, means_answer, means_keeps, means_whole};
     ghost use Rattle.scc_calls.specs.Stems.{map_stems_alike, MapStems};
     ghost use Rattle.std.proofs.Common.{refl, rules};
+    ghost use Rattle.scc_common.specs.Hashing.{hash_of};
     ghost use Rattle.scc_common.specs.Contents.{hash_in, mark_of};
     ghost use Rattle.scc_calls.specs.States.{State, state_of, run_setting, ResizesTo};
 
@@ -160,28 +160,29 @@ impl<K: Eq + Hash + Clone, V: Clone + PartialEq, H: BuildHasher> Calls for Owned
         ⟦<Reply<K, V> as PartialEq>⟧.eq (MapMoves K.eq) pc pr old new call copy reply given c r m };
 
     ghost call_is_whole = { λ g n before after old new call reply routed key s. means_whole
-        ⟦<MapCall<K, V> as PartialEq>⟧.eq ⟦<Reply<K, V> as PartialEq>⟧.eq (MapMoves K.eq) K.eq map_key (Prim.search
-        rules) (λ k. stripe_number n (⟦<H as Hashes<K>>⟧.hash_of g.hasher k)) (routes_alike K.eq K.hash_input (λ w.
-        stripe_number n (hash_of H.BuildHasher H.Hasher.Hasher g.hasher w)) K.Hash.respects_eq) (MapWholeMoves K.eq (λ
-        k. stripe_number n (⟦<H as Hashes<K>>⟧.hash_of g.hasher k) == length before)) (length before) old new (joined
-        (before ++ old ∷ after)) (joined (before ++ new ∷ after)) call reply key (λ made given k m. map_call_is_whole
-        K.eq (λ k. stripe_number n (⟦<H as Hashes<K>>⟧.hash_of g.hasher k)) (routes_alike K.eq K.hash_input (λ w.
-        stripe_number n (hash_of H.BuildHasher H.Hasher.Hasher g.hasher w)) K.Hash.respects_eq) before after old new
-        made given routed k m) s };
+        ⟦<MapCall<K, V> as PartialEq>⟧.eq ⟦<Reply<K, V> as PartialEq>⟧.eq (MapMoves K.eq) K.eq map_key
+        (Prim.search rules) (λ k. stripe_number n (⟦<H as Hashes<K>>⟧.hash_of g.hasher k))
+        (routes_alike K.eq K.hash_input (λ w. stripe_number n (hash_of H.BuildHasher H.Hasher.Hasher g.hasher w))
+        K.Hash.respects_eq) (MapWholeMoves K.eq (λ k. stripe_number n (⟦<H as Hashes<K>>⟧.hash_of g.hasher k) == length
+        before)) (length before) old new (joined (before ++ old ∷ after))
+        (joined (before ++ new ∷ after)) call reply key (λ made given k m. map_call_is_whole K.eq
+        (λ k. stripe_number n (⟦<H as Hashes<K>>⟧.hash_of g.hasher k)) (routes_alike K.eq K.hash_input
+        (λ w. stripe_number n (hash_of H.BuildHasher H.Hasher.Hasher g.hasher w)) K.Hash.respects_eq) before after old
+        new made given routed k m) s };
 
     ghost resize_is_whole = { λ g n before after old new buckets routed s. resize_joined g before after old new buckets
         s };
 
     ghost call_keeps = { λ g n i old new call reply routed key s. means_keeps ⟦<MapCall<K, V> as PartialEq>⟧.eq
-        ⟦<Reply<K, V> as PartialEq>⟧.eq (MapMoves K.eq) K.eq map_key (Prim.search rules) (λ k. stripe_number n
-        (⟦<H as Hashes<K>>⟧.hash_of g.hasher k)) (routes_alike K.eq K.hash_input (λ w. stripe_number n (hash_of
-        H.BuildHasher H.Hasher.Hasher g.hasher w)) K.Hash.respects_eq) i old new call reply key (λ made given k m.
-        map_call_keeps K.eq (λ k. stripe_number n (⟦<H as Hashes<K>>⟧.hash_of g.hasher k)) (routes_alike K.eq
-        K.hash_input (λ w. stripe_number n (hash_of H.BuildHasher H.Hasher.Hasher g.hasher w)) K.Hash.respects_eq) i old
-        new made given routed k m) s };
+        ⟦<Reply<K, V> as PartialEq>⟧.eq (MapMoves K.eq) K.eq map_key (Prim.search rules)
+        (λ k. stripe_number n (⟦<H as Hashes<K>>⟧.hash_of g.hasher k)) (routes_alike K.eq K.hash_input
+        (λ w. stripe_number n (hash_of H.BuildHasher H.Hasher.Hasher g.hasher w)) K.Hash.respects_eq) i old new call
+        reply key (λ made given k m. map_call_keeps K.eq (λ k. stripe_number n (⟦<H as Hashes<K>>⟧.hash_of g.hasher k))
+        (routes_alike K.eq K.hash_input (λ w. stripe_number n (hash_of H.BuildHasher H.Hasher.Hasher g.hasher w))
+        K.Hash.respects_eq) i old new made given routed k m) s };
 
-    ghost resize_keeps = { λ g n i old new buckets routed s. map_resize_keeps g (λ k. stripe_number n
-        (⟦<H as Hashes<K>>⟧.hash_of g.hasher k)) i old new buckets routed s };
+    ghost resize_keeps = { λ g n i old new buckets routed s. map_resize_keeps g
+        (λ k. stripe_number n (⟦<H as Hashes<K>>⟧.hash_of g.hasher k)) i old new buckets routed s };
 
     ghost empty_keeps = { λ _ _ _ _. tt };
 }

@@ -25,7 +25,6 @@ impl<K: Eq + Hash + Clone, H: BuildHasher> Calls for Owned<K, H> {
 
     ghost use Rattle.std.specs.Prelude.{◌≡◌, ◌==◌, [], ◌∷◌, ◌++◌, List, length};
     ghost use Rattle.std.specs.List.Sorted.{IsPermutation};
-    ghost use Rattle.scc_common.specs.Hashing.{hash_of};
     ghost use Rattle.scc_calls.specs.MapLaws.{routes_alike, both_same, resize_joined};
     ghost use Rattle.scc_calls.specs.MapWhole.{joined};
     ghost use Rattle.scc_common.specs.Routing.{stripe_number};
@@ -34,6 +33,7 @@ impl<K: Eq + Hash + Clone, H: BuildHasher> Calls for Owned<K, H> {
     ghost use Rattle.scc_calls.specs.Means.{means_alike, means_answer, means_keeps, means_whole};
     ghost use Rattle.scc_calls.specs.Stems.{set_stems_alike, SetStems};
     ghost use Rattle.std.proofs.Common.{refl, rules};
+    ghost use Rattle.scc_common.specs.Hashing.{hash_of};
     ghost use Rattle.scc_common.specs.Contents.{hash_in, notes_of};
     ghost use Rattle.scc_calls.specs.SetLaws.{set_call_is_whole, set_call_keeps, set_resize_keeps};
     ghost use Rattle.scc_calls.specs.SetWhole.{SetWholeMoves};
@@ -76,8 +76,8 @@ impl<K: Eq + Hash + Clone, H: BuildHasher> Calls for Owned<K, H> {
 
     ghost whole = { joined };
 
-    ghost whole_means = { λ g n i. Means ⟦<SetCall<K> as PartialEq>⟧.eq ⟦<Reply<K, ()> as PartialEq>⟧.eq (SetWholeMoves
-        K.eq (λ k. stripe_number n (⟦<H as Hashes<K>>⟧.hash_of g.hasher k) == i)) };
+    ghost whole_means = { λ g n i. Means ⟦<SetCall<K> as PartialEq>⟧.eq ⟦<Reply<K, ()> as PartialEq>⟧.eq
+        (SetWholeMoves K.eq (λ k. stripe_number n (⟦<H as Hashes<K>>⟧.hash_of g.hasher k) == i)) };
 
     ghost whole_resizes = { λ _ _ _ w _ v. IsPermutation w v };
 
@@ -157,28 +157,29 @@ impl<K: Eq + Hash + Clone, H: BuildHasher> Calls for Owned<K, H> {
         ⟦<Reply<K, ()> as PartialEq>⟧.eq (SetMoves K.eq) pc pr old new call copy reply given c r m };
 
     ghost call_is_whole = { λ g n before after old new call reply routed key s. means_whole
-        ⟦<SetCall<K> as PartialEq>⟧.eq ⟦<Reply<K, ()> as PartialEq>⟧.eq (SetMoves K.eq) K.eq key_of_set (Prim.search
-        rules) (λ k. stripe_number n (⟦<H as Hashes<K>>⟧.hash_of g.hasher k)) (routes_alike K.eq K.hash_input (λ w.
-        stripe_number n (hash_of H.BuildHasher H.Hasher.Hasher g.hasher w)) K.Hash.respects_eq) (SetWholeMoves K.eq (λ
-        k. stripe_number n (⟦<H as Hashes<K>>⟧.hash_of g.hasher k) == length before)) (length before) old new (joined
-        (before ++ old ∷ after)) (joined (before ++ new ∷ after)) call reply key (λ made given k m. set_call_is_whole
-        K.eq (λ k. stripe_number n (⟦<H as Hashes<K>>⟧.hash_of g.hasher k)) (routes_alike K.eq K.hash_input (λ w.
-        stripe_number n (hash_of H.BuildHasher H.Hasher.Hasher g.hasher w)) K.Hash.respects_eq) before after old new
-        made given routed k m) s };
+        ⟦<SetCall<K> as PartialEq>⟧.eq ⟦<Reply<K, ()> as PartialEq>⟧.eq (SetMoves K.eq) K.eq key_of_set
+        (Prim.search rules) (λ k. stripe_number n (⟦<H as Hashes<K>>⟧.hash_of g.hasher k))
+        (routes_alike K.eq K.hash_input (λ w. stripe_number n (hash_of H.BuildHasher H.Hasher.Hasher g.hasher w))
+        K.Hash.respects_eq) (SetWholeMoves K.eq (λ k. stripe_number n (⟦<H as Hashes<K>>⟧.hash_of g.hasher k) == length
+        before)) (length before) old new (joined (before ++ old ∷ after))
+        (joined (before ++ new ∷ after)) call reply key (λ made given k m. set_call_is_whole K.eq
+        (λ k. stripe_number n (⟦<H as Hashes<K>>⟧.hash_of g.hasher k)) (routes_alike K.eq K.hash_input
+        (λ w. stripe_number n (hash_of H.BuildHasher H.Hasher.Hasher g.hasher w)) K.Hash.respects_eq) before after old
+        new made given routed k m) s };
 
     ghost resize_is_whole = { λ g n before after old new buckets routed s. resize_joined g before after old new buckets
         s };
 
     ghost call_keeps = { λ g n i old new call reply routed key s. means_keeps ⟦<SetCall<K> as PartialEq>⟧.eq
-        ⟦<Reply<K, ()> as PartialEq>⟧.eq (SetMoves K.eq) K.eq key_of_set (Prim.search rules) (λ k. stripe_number n
-        (⟦<H as Hashes<K>>⟧.hash_of g.hasher k)) (routes_alike K.eq K.hash_input (λ w. stripe_number n (hash_of
-        H.BuildHasher H.Hasher.Hasher g.hasher w)) K.Hash.respects_eq) i old new call reply key (λ made given k m.
-        set_call_keeps K.eq (λ k. stripe_number n (⟦<H as Hashes<K>>⟧.hash_of g.hasher k)) (routes_alike K.eq
-        K.hash_input (λ w. stripe_number n (hash_of H.BuildHasher H.Hasher.Hasher g.hasher w)) K.Hash.respects_eq) i old
-        new made given routed k m) s };
+        ⟦<Reply<K, ()> as PartialEq>⟧.eq (SetMoves K.eq) K.eq key_of_set (Prim.search rules)
+        (λ k. stripe_number n (⟦<H as Hashes<K>>⟧.hash_of g.hasher k)) (routes_alike K.eq K.hash_input
+        (λ w. stripe_number n (hash_of H.BuildHasher H.Hasher.Hasher g.hasher w)) K.Hash.respects_eq) i old new call
+        reply key (λ made given k m. set_call_keeps K.eq (λ k. stripe_number n (⟦<H as Hashes<K>>⟧.hash_of g.hasher k))
+        (routes_alike K.eq K.hash_input (λ w. stripe_number n (hash_of H.BuildHasher H.Hasher.Hasher g.hasher w))
+        K.Hash.respects_eq) i old new made given routed k m) s };
 
-    ghost resize_keeps = { λ g n i old new buckets routed s. set_resize_keeps g (λ k. stripe_number n
-        (⟦<H as Hashes<K>>⟧.hash_of g.hasher k)) i old new buckets routed s };
+    ghost resize_keeps = { λ g n i old new buckets routed s. set_resize_keeps g
+        (λ k. stripe_number n (⟦<H as Hashes<K>>⟧.hash_of g.hasher k)) i old new buckets routed s };
 
     ghost empty_keeps = { λ _ _ _ _. tt };
 }

@@ -2,6 +2,7 @@
 
 use crate::whole_calls::count_of;
 use crate::{CacheCall, IndexCall, Reply, SetCall, WholeCalls};
+use scc_common::Hashes;
 use std::hash::{BuildHasher, Hash};
 
 impl<K: Eq + Hash + Clone, H: BuildHasher> WholeCalls for scc_set::Owned<K, H> {
@@ -95,7 +96,6 @@ impl<K: Eq + Hash + Clone, V: Clone + PartialEq, H: BuildHasher> WholeCalls
     ghost use Rattle.std.proofs.Common.{refl, rules, ◌∙◌};
     ghost use Rattle.scc_calls.specs.Means.{means_of, told_alike};
     ghost use Rattle.scc_calls.specs.CacheCalls.{number_by, CacheMoves};
-    ghost use Rattle.scc_common.specs.Hashing.{hash_of};
     ghost use Rattle.scc_calls.specs.WholeKinds.{cache_clears, cache_counts};
     ghost use Rattle.scc_calls.specs.WholeLaws.{counted_by};
     ghost use Rattle.scc_calls.specs.declared.calls_as_values.CacheCall.TheVariants.{Clear, Len};
@@ -121,18 +121,17 @@ impl<K: Eq + Hash + Clone, V: Clone + PartialEq, H: BuildHasher> WholeCalls
     ghost clears_all = { (
       refl,
       λ g s t r m. means_of ⟦<CacheCall<K, V> as PartialEq>⟧.eq
-          ⟦<Reply<K, V> as PartialEq>⟧.eq (CacheMoves K.eq (number_by (λ h k. hash_of H.BuildHasher H.Hasher.Hasher h
-          (K.hash_input k)) g)) Clear (Prim.search rules) s t r (λ given a h. cache_clears K.eq
-          (number_by (λ h k. hash_of H.BuildHasher H.Hasher.Hasher h (K.hash_input k)) g) s t given h) m,
+          ⟦<Reply<K, V> as PartialEq>⟧.eq (CacheMoves K.eq (number_by ⟦<H as Hashes<K>>⟧.hash_of g)) Clear
+          (Prim.search rules) s t r (λ given a h. cache_clears K.eq (number_by ⟦<H as Hashes<K>>⟧.hash_of g) s t given
+          h) m,
     ) };
 
     ghost counts_all = { (
       refl,
       λ g s t r m. means_of ⟦<CacheCall<K, V> as PartialEq>⟧.eq
-          ⟦<Reply<K, V> as PartialEq>⟧.eq (CacheMoves K.eq (number_by (λ h k. hash_of H.BuildHasher H.Hasher.Hasher h
-          (K.hash_input k)) g)) Len (Prim.search rules) s t r (λ given a h. told_alike ⟦<Reply<K, V> as PartialEq>⟧.eq
-          counted_by (Prim.search rules) given r a ∙ cache_counts K.eq (number_by (λ h k. hash_of H.BuildHasher
-          H.Hasher.Hasher h (K.hash_input k)) g) s t given h) m,
+          ⟦<Reply<K, V> as PartialEq>⟧.eq (CacheMoves K.eq (number_by ⟦<H as Hashes<K>>⟧.hash_of g)) Len
+          (Prim.search rules) s t r (λ given a h. told_alike ⟦<Reply<K, V> as PartialEq>⟧.eq counted_by
+          (Prim.search rules) given r a ∙ cache_counts K.eq (number_by ⟦<H as Hashes<K>>⟧.hash_of g) s t given h) m,
     ) };
 
     ghost never_refused = { λ g s. (λ m. m, λ m. m) };

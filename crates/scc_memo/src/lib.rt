@@ -2,7 +2,7 @@
 #![tactic(auto)]
 
 ghost use Rattle.std.specs.Prelude.{◌≡◌, ◌*◌, ◌↔◌, true, length, Option, IsSome, IsTrue, MatchOption};
-ghost use Rattle.scc_common.specs.Contents.{bucket_count, entries, key_hash, settings_of};
+ghost use Rattle.scc_common.specs.Contents.{bucket_count, entries, hash_in, settings_of};
 ghost use Rattle.scc_cache.specs.CacheSteps.{IsAbsent, IsPresent, Removes};
 ghost use Rattle.scc_cache.specs.Caches.{IsCacheState};
 ghost use Rattle.scc_cache.specs.Making.{IsNewCache};
@@ -12,7 +12,7 @@ ghost use Rattle.scc_memo.specs.Memos.{HasValues, Remembers};
 
 use scc_cache::Owned;
 use scc_cache::borrowed::Entry;
-use scc_common::MakeError;
+use scc_common::{Hashes, MakeError};
 use std::alloc::Global;
 use std::hash::{BuildHasher, BuildHasherDefault, FoldHasher, Hash};
 use std::marker::Model;
@@ -119,10 +119,10 @@ impl<P: Pure, H: BuildHasher> Memo<P, H> {
         P::Key: Drop,
         ensures value { result ≡ P.value self.old.function k }
         ensures function { self.new.function ≡ self.old.function }
-        ensures step { Remembers (key_hash H.BuildHasher H.Hasher.Hasher P.Key.hash_input self.old.cache.contents)
-            P.Key.eq self.old.cache k (P.value self.old.function k) self.new.cache }
-        ensures state { IsCacheState P.Key.eq (key_hash H.BuildHasher H.Hasher.Hasher P.Key.hash_input
-            self.new.cache.contents) self.new.cache }
+        ensures step { Remembers (hash_in ⟦<H as Hashes<P::Key>>⟧.hash_of self.old.cache.contents) P.Key.eq
+            self.old.cache k (P.value self.old.function k) self.new.cache }
+        ensures state { IsCacheState P.Key.eq (hash_in ⟦<H as Hashes<P::Key>>⟧.hash_of self.new.cache.contents)
+            self.new.cache }
         ensures values { HasValues (P.value self.new.function) self.new.cache.contents }
     {
         recall(&self.function, &mut self.cache, k)
@@ -130,13 +130,10 @@ impl<P: Pure, H: BuildHasher> Memo<P, H> {
 
     /// Returns the value of `k` if the cache has it, else `None`. Moves nothing, and doesn't call the function.
     pub fn known(&self, k: &P::Key) -> Option<P::Value>
-        ensures { MatchOption result (IsAbsent
-            (key_hash H.BuildHasher H.Hasher.Hasher P.Key.hash_input self.now.cache.contents) P.Key.eq
-            self.now.cache.contents k.now)
-            (λ v. (v ≡ P.value self.now.function k.now)
-            × ((p : P.Key × P.Value) × IsPresent
-            (key_hash H.BuildHasher H.Hasher.Hasher P.Key.hash_input self.now.cache.contents) P.Key.eq
-            self.now.cache.contents k.now p)) }
+        ensures { MatchOption result (IsAbsent (hash_in ⟦<H as Hashes<P::Key>>⟧.hash_of self.now.cache.contents)
+            P.Key.eq self.now.cache.contents k.now) (λ v. (v ≡ P.value self.now.function k.now) ×
+            ((p : P.Key × P.Value) × IsPresent (hash_in ⟦<H as Hashes<P::Key>>⟧.hash_of self.now.cache.contents)
+            P.Key.eq self.now.cache.contents k.now p)) }
     {
         self.cache.read_sync(k, |_, v| *v)
     }
@@ -146,15 +143,14 @@ impl<P: Pure, H: BuildHasher> Memo<P, H> {
     pub fn forget(&mut self, k: &P::Key) -> bool
     where
         P::Key: Drop,
-        ensures step { (r : Option (P.Key × P.Value))
-            × Removes (key_hash H.BuildHasher H.Hasher.Hasher P.Key.hash_input self.old.cache.contents) P.Key.eq
-            self.old.cache k.now r self.new.cache × (IsTrue result ↔ IsSome r) }
+        ensures step { (r : Option (P.Key × P.Value)) × Removes (hash_in ⟦<H as Hashes<P::Key>>⟧.hash_of
+            self.old.cache.contents) P.Key.eq self.old.cache k.now r self.new.cache × (IsTrue result ↔ IsSome r) }
         ensures function { self.new.function ≡ self.old.function }
-        ensures state { IsCacheState P.Key.eq (key_hash H.BuildHasher H.Hasher.Hasher P.Key.hash_input
-            self.new.cache.contents) self.new.cache }
+        ensures state { IsCacheState P.Key.eq (hash_in ⟦<H as Hashes<P::Key>>⟧.hash_of self.new.cache.contents)
+            self.new.cache }
         ensures values { HasValues (P.value self.new.function) self.new.cache.contents }
-        ensures relocates { RelocatesNoneWithin (λ p. key_hash H.BuildHasher H.Hasher.Hasher P.Key.hash_input
-            self.old.cache.contents p.0) self.old.cache.contents self.new.cache.contents }
+        ensures relocates { RelocatesNoneWithin (λ p. hash_in ⟦<H as Hashes<P::Key>>⟧.hash_of self.old.cache.contents
+            p.0) self.old.cache.contents self.new.cache.contents }
     {
         self.cache.remove_sync(k).is_some()
     }
@@ -185,10 +181,9 @@ where
     requires { HasValues (P.value function.now) cache.old.contents }
     ensures value { result ≡ P.value function.now k }
     ensures values { HasValues (P.value function.now) cache.new.contents }
-    ensures step { Remembers (key_hash H.BuildHasher H.Hasher.Hasher P.Key.hash_input cache.old.contents) P.Key.eq
-        cache.old k (P.value function.now k) cache.new }
-    ensures state { IsCacheState P.Key.eq (key_hash H.BuildHasher H.Hasher.Hasher P.Key.hash_input
-        cache.new.contents) cache.new }
+    ensures step { Remembers (hash_in ⟦<H as Hashes<P::Key>>⟧.hash_of cache.old.contents) P.Key.eq cache.old k
+        (P.value function.now k) cache.new }
+    ensures state { IsCacheState P.Key.eq (hash_in ⟦<H as Hashes<P::Key>>⟧.hash_of cache.new.contents) cache.new }
 {
     match cache.entry_sync(k) {
         Entry::Occupied(entry) => *entry.get(),

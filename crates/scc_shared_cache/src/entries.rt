@@ -2,7 +2,7 @@
 //! it finds.
 ghost use Rattle.std.specs.Prelude.{◌≡◌, true, IfSome};
 ghost use Rattle.std.specs.Sync.RwLock.{write_guard_value};
-ghost use Rattle.scc_common.specs.Contents.{key_hash};
+ghost use Rattle.scc_common.specs.Contents.{hash_in};
 ghost use Rattle.scc_cache.specs.Caches.{Cached, IsCacheState};
 ghost use Rattle.scc_cache.specs.Entries.{entry_guard, entry_key, occupied_cache, occupied_pair, IsEntryOf, IsRefreshed, replaced_guard, Replaces};
 ghost use Rattle.scc_cache.specs.Seats.{entry_rest, occupied_rest, replaced_rest};
@@ -13,6 +13,7 @@ ghost use Rattle.scc_shared_cache.specs.Replies.{ReplacesEqual};
 
 use super::{Entry, HashCache, OccupiedEntry, ReplaceResult};
 use scc_cache::held::{HeldEntry, HeldOccupied, HeldReplace};
+use scc_common::Hashes;
 use std::hash::{BuildHasher, Hash};
 use std::sync::Wait;
 
@@ -24,7 +25,7 @@ impl<K: Eq + Hash, V, H: BuildHasher> HashCache<K, V, H> {
         K: Drop,
         ensures key { K.eq k (entry_key result) ≡ true }
         ensures entry { (before : Cached (K × V) H) × IsEntryOf K.eq before k result }
-        ensures state { IsCacheState K.eq (key_hash H.BuildHasher H.Hasher.Hasher K.hash_input
+        ensures state { IsCacheState K.eq (hash_in ⟦<H as Hashes<K>>⟧.hash_of
             (write_guard_value (entry_guard result)).contents) (write_guard_value (entry_guard result)) }
         ensures seat { IsSeatOfKey H.BuildHasher H.Hasher.Hasher K.hash_input (stripes_of self.now) k (entry_rest result) }
     {
@@ -38,8 +39,8 @@ impl<K: Eq + Hash, V, H: BuildHasher> HashCache<K, V, H> {
     pub fn get_sync(&self, rt: &impl Wait, k: &K) -> Option<OccupiedEntry<'_, K, V, H>>
         ensures key { IfSome result (λ o. HasKey K.eq k.now (occupied_pair o)) }
         ensures entry { IfSome result (λ o. (before : Cached (K × V) H) × IsRefreshed K.eq before k.now o) }
-        ensures state { IfSome result (λ o. IsCacheState K.eq
-            (key_hash H.BuildHasher H.Hasher.Hasher K.hash_input (occupied_cache o).contents) (occupied_cache o)) }
+        ensures state { IfSome result (λ o. IsCacheState K.eq (hash_in ⟦<H as Hashes<K>>⟧.hash_of
+            (occupied_cache o).contents) (occupied_cache o)) }
         ensures seat { IfSome result (λ o. IsSeatOfKey H.BuildHasher H.Hasher.Hasher K.hash_input (stripes_of self.now)
             k.now (occupied_rest o)) }
     {
@@ -54,7 +55,7 @@ impl<K: Eq + Hash, V, H: BuildHasher> HashCache<K, V, H> {
     pub fn replace_sync(&self, rt: &impl Wait, k: K) -> ReplaceResult<'_, K, V, H>
         ensures key { ReplacesEqual K.eq k result }
         ensures step { (before : Cached (K × V) H) × Replaces K.eq before k result }
-        ensures state { IsCacheState K.eq (key_hash H.BuildHasher H.Hasher.Hasher K.hash_input
+        ensures state { IsCacheState K.eq (hash_in ⟦<H as Hashes<K>>⟧.hash_of
             (write_guard_value (replaced_guard result)).contents) (write_guard_value (replaced_guard result)) }
         ensures seat { IsSeatOfKey H.BuildHasher H.Hasher.Hasher K.hash_input (stripes_of self.now) k
             (replaced_rest result) }

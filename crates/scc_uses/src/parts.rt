@@ -1,10 +1,10 @@
 //! Two parts that share one hasher.
 ghost use Rattle.std.specs.Prelude.{◌≡◌, ◌<◌, true, IfOk};
 ghost use Rattle.std.specs.Arc.{arc_value};
-ghost use Rattle.scc_common.specs.Contents.{settings_of, bucket_count, key_hash, bucket_of};
+ghost use Rattle.scc_common.specs.Contents.{settings_of, bucket_count, hash_in, bucket_of};
 
 use scc_calls::{MapCall, Refused, Reply, route, run};
-use scc_common::{MakeError, Shared};
+use scc_common::{Hashes, MakeError, Shared};
 use scc_owned::map::Owned;
 use std::alloc::Global;
 use std::hash::{BuildHasher, BuildHasherDefault, FoldHasher, Hash};
@@ -17,12 +17,10 @@ pub fn two_parts<K: Eq + Hash + Drop, V: Drop, H: BuildHasher + Drop>(
     owner: Arc<H>,
 ) -> Result<(Owned<K, V, Shared<H>>, Owned<K, V, Shared<H>>), MakeError>
     ensures hasher { IfOk result (λ p. (settings_of p.0).hasher ≡ arc_value owner) }
-    ensures hash { IfOk result (λ p. (k : K)
-        → key_hash H.BuildHasher H.Hasher.Hasher K.hash_input p.0 k
-        ≡ key_hash H.BuildHasher H.Hasher.Hasher K.hash_input p.1 k) }
-    ensures route { IfOk result (λ p. (k : K) → bucket_count p.0 ≡ bucket_count p.1
-        → bucket_of (key_hash H.BuildHasher H.Hasher.Hasher K.hash_input p.0) p.0 k
-        ≡ bucket_of (key_hash H.BuildHasher H.Hasher.Hasher K.hash_input p.1) p.1 k) }
+    ensures hash { IfOk result (λ p. (k : K) → hash_in ⟦<H as Hashes<K>>⟧.hash_of p.0 k
+        ≡ hash_in ⟦<H as Hashes<K>>⟧.hash_of p.1 k) }
+    ensures route { IfOk result (λ p. (k : K) → bucket_count p.0 ≡ bucket_count p.1 → bucket_of
+        (hash_in ⟦<H as Hashes<K>>⟧.hash_of p.0) p.0 k ≡ bucket_of (hash_in ⟦<H as Hashes<K>>⟧.hash_of p.1) p.1 k) }
 {
     let Ok(another) = Arc::try_clone(&owner) else {
         return Err(MakeError);

@@ -1,12 +1,12 @@
 //! A cache of answers to requests, which counts its hits and its misses.
 ghost use Rattle.std.specs.Prelude.{◌≡◌, ℕ, ◌≤◌, [], nat_eq, length, IfOk};
 ghost use Rattle.std.specs.Hash as fed;
-ghost use Rattle.scc_common.specs.Contents.{entries, key_hash};
+ghost use Rattle.scc_common.specs.Contents.{entries, hash_in};
 ghost use Rattle.scc_common.specs.Sizes.{IsArraySize};
 ghost use Rattle.scc_cache.specs.CacheSteps.{IsAbsent, IsPresent};
 
 use scc_cache::Owned;
-use scc_common::MakeError;
+use scc_common::{Hashes, MakeError};
 use std::alloc::Global;
 use std::hash::BuildHasher;
 
@@ -42,13 +42,12 @@ impl<H: BuildHasher> RequestCache<H> {
     /// at for longest. A count stays at the greatest number once it is there.
     pub fn answer<F: FnOnce(u64) -> u64>(&mut self, request: u64, ask: F) -> u64
         requires { F.pre ask request }
-        ensures hit { (p : ℕ × ℕ) → IsPresent (key_hash H.BuildHasher H.Hasher.Hasher fed.u64
-            self.old.answers.contents) nat_eq self.old.answers.contents request p
-            → (result ≡ p.1) × (self.new.hits ≡ one_more self.old.hits) × (self.new.misses ≡ self.old.misses) }
-        ensures miss { IsAbsent (key_hash H.BuildHasher H.Hasher.Hasher fed.u64 self.old.answers.contents) nat_eq
-            self.old.answers.contents request
-            → F.post ask request result × (self.new.hits ≡ self.old.hits)
-            × (self.new.misses ≡ one_more self.old.misses) }
+        ensures hit { (p : ℕ × ℕ) → IsPresent (hash_in ⟦<H as Hashes<u64>>⟧.hash_of self.old.answers.contents) nat_eq
+            self.old.answers.contents request p → (result ≡ p.1) × (self.new.hits ≡ one_more self.old.hits) ×
+            (self.new.misses ≡ self.old.misses) }
+        ensures miss { IsAbsent (hash_in ⟦<H as Hashes<u64>>⟧.hash_of self.old.answers.contents) nat_eq
+            self.old.answers.contents request → F.post ask request result × (self.new.hits ≡ self.old.hits) ×
+            (self.new.misses ≡ one_more self.old.misses) }
         ensures bound { length (entries self.new.answers.contents) ≤ self.new.answers.maximum }
         ensures same_bound { self.new.answers.maximum ≡ self.old.answers.maximum }
     {

@@ -1,6 +1,6 @@
 //! How an entry is made from the guard of its stripe. The pair of the key first becomes the most recent of its bucket.
 ghost use Rattle.scc_cache.specs.CacheSteps.{IsAbsent};
-ghost use Rattle.scc_common.specs.Contents.{key_hash};
+ghost use Rattle.scc_common.specs.Contents.{hash_in};
 ghost use Rattle.scc_ruled_cache.specs.Entries.{entry_seat, occupied_pair, occupied_seat, replaced_seat, IsEntryOf, IsMostRecent, Replaces};
 ghost use Rattle.scc_rules.specs.Rules.{IsKeptAt};
 ghost use Rattle.std.specs.Prelude.{◌≡◌, IfNone, IfSome};
@@ -8,6 +8,7 @@ ghost use Rattle.std.specs.Sync.RwLock.{write_guard_value};
 
 use super::{Entry, OccupiedEntry, ReplaceResult, VacantEntry};
 use crate::Kept;
+use scc_common::Hashes;
 use scc_rules::Rule;
 use scc_stripes::Seat;
 use std::hash::{BuildHasher, Hash};
@@ -49,7 +50,7 @@ impl<'a, K: Eq + Hash, V, R: Rule<K, V>, H: BuildHasher> OccupiedEntry<'a, K, V,
         ensures entry { IfSome result (λ o. IsKeptAt K.eq R.holds k.now (occupied_pair o)) }
         ensures recent { IfSome result IsMostRecent }
         ensures seat { IfSome result (λ o. occupied_seat o ≡ seat.entry) }
-        ensures missing { IfNone result (IsAbsent (key_hash H.BuildHasher H.Hasher.Hasher K.hash_input
+        ensures missing { IfNone result (IsAbsent (hash_in ⟦<H as Hashes<K>>⟧.hash_of
             (write_guard_value guard.entry).contents) K.eq (write_guard_value guard.entry).contents k.now) }
     {
         let mut guard = guard;
