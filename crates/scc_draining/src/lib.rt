@@ -7,6 +7,7 @@ mod count;
 mod draining;
 mod make;
 mod relocate;
+mod waiting;
 mod walk;
 
 pub use count::{count_destined, has_no_room};

@@ -21,7 +21,7 @@ use Rattle.scc_table.proofs.arrays.JoinedLists.{lists-together}
 use Rattle.scc_table.proofs.places.OldSpots.{old-waits, old-long, old-within}
 use Rattle.scc_table.proofs.relocations.Preparation.{waiting-list}
 use Rattle.scc_table.proofs.relocations.Fields.{count-is}
-use Rattle.scc_table.proofs.relocations.Contents.{not_equal}
+use Rattle.scc_draining.proofs.Others.{not_equal}
 
 -- the entries of the old array after slot s of bucket j, in the order of the buckets
 abbrev pub entries_after : {E : Type 0} → List (Shelf E) → ℕ → ℕ → List E

@@ -30,7 +30,7 @@ use Rattle.scc_table.proofs.arrays.JoinedLists.{count-together, owed-together, r
 use Rattle.scc_table.proofs.arrays.OldChanges.{arrays-over, lists-over, old-fields}
 use Rattle.scc_table.proofs.places.OldSpots.{old-get, old-long, old-spot, old-waits, old-within, rank_of}
 use Rattle.scc_table.proofs.relocations.Preparation.{multiple-flags, waiting-list}
-use Rattle.scc_table.proofs.relocations.Contents.{not_equal}
+use Rattle.scc_draining.proofs.Others.{not_equal}
 use Rattle.scc_table.proofs.removals.Fields.{arrays-less, none-either, old-taken, owed-less, owed-removed, spilled-less}
 use Rattle.scc_table.proofs.removals.OneList.{list-same, swapped-count, swapped-moved, swapped-unique}
 use Rattle.scc_table.proofs.arrays.Writes.{owed-same}

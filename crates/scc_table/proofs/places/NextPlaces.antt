@@ -21,7 +21,7 @@ use Rattle.scc_table.proofs.arrays.JoinedLists.{count-together, owed-together, w
 use Rattle.scc_table.proofs.places.OldSpots.{count-map, owed-before, owed-some, old-place, old-spot, old-waits, own-list, own-place, own-spot}
 use Rattle.scc_draining.proofs.FromBuckets.{few-each}
 use Rattle.scc_table.proofs.relocations.Preparation.{long-flags, waiting-list}
-use Rattle.scc_table.proofs.relocations.Contents.{up-within}
+use Rattle.scc_draining.proofs.Flags.{up-within}
 use Rattle.scc_draining.proofs.Stepped.{before-start, destined-count}
 
 -- the number of entries of each old bucket fits into a word

@@ -28,7 +28,7 @@ use Rattle.scc_draining.proofs.Arriving.{list-were}
 use Rattle.scc_table.proofs.arrays.JoinedLists.{count-together, settings-together}
 use Rattle.scc_table.proofs.relocations.Preparation.{waiting-list}
 use Rattle.scc_table.proofs.relocations.Fields.{count-is, list-is}
-use Rattle.scc_table.proofs.relocations.Contents.{not_equal}
+use Rattle.scc_draining.proofs.Others.{not_equal}
 use Rattle.scc_draining.proofs.Sublists.{filter-none}
 
 greater : (a b m n : ℕ) → a < b → m ≡ 2 ^ a → n ≡ 2 ^ b → (1 < 2 ^ (b - a)) × (n ≡ 2 ^ (b - a) * m)
