@@ -1,18 +1,18 @@
 -- A bucket that doesn't wait, and what a call makes of its list in the current array while no overflow list is in use.
-use Rattle.std.proofs.Common.{◌≡◌, ℕ, ◌+◌, ◌^◌, ◌<◌, ◌∷◌, ◌++◌, Bool, false, Some, [], List, sym, ap, ◌∙◌, subst, arith}
+use Rattle.std.proofs.Common.{◌≡◌, ℕ, ◌+◌, ◌^◌, ◌<◌, suc, ◌∷◌, ◌++◌, Bool, false, Option, Some, None, [], List, length, sym, ap, ◌∙◌, subst, arith}
 use Rattle.std.specs.Cmp.{IsEquivalence}
-use Rattle.std.specs.List.{remove, slice_get}
-use Rattle.scc_buckets.specs.Bounded.{HasList, IsBounded, IsListed}
-use Rattle.scc_common.specs.Contents.{Contents, bucket_count, hash_in, list_of, overflow_of, owed_of, settings_of, waiting_of, IsUniqueBy}
+use Rattle.std.specs.List.{position, remove, slice_get}
+use Rattle.scc_buckets.specs.Bounded.{HasList, IsBounded, IsListed, PutsLast}
+use Rattle.scc_common.specs.Contents.{Contents, bucket_count, entries, hash_in, list_of, overflow_of, owed_of, settings_of, waiting_of, IsUniqueBy}
 use Rattle.scc_draining.specs.Drainings.{Draining}
-use Rattle.scc_table.specs.Puts.{MovesToEnd}
+use Rattle.scc_table.specs.Puts.{MovesToEnd, PutsAtEnd}
 use Rattle.scc_table.specs.TwoArrays.{IsTable, IsWaiting, together, waits_at}
 use Rattle.scc_table.proofs.arrays.CurrentChanges.{own-fields, own-list, own-owed}
 use Rattle.scc_table.proofs.arrays.JoinedLists.{settings-together, waiting-together}
 use Rattle.scc_table.proofs.arrays.OneBucket.{flag-free, within-own}
 use Rattle.scc_table.proofs.arrays.SameParts.{hash-same}
 use Rattle.scc_table.proofs.arrays.Views.{settings-seen, waiting-seen}
-use Rattle.scc_table.proofs.insertions.AtEnds.{own-bounded, own-has_list, own-listed, unique-moved}
+use Rattle.scc_table.proofs.insertions.AtEnds.{own-bounded, own-has_list, own-listed, own-puts_last, puts-list, unique-moved, unique-puts}
 
 module _ {E K S : Type 0} {eq : K → K → Bool} (hash_of : S → K → ℕ) {key : E → K} {c a : Contents E S} {drain : Draining E} (inv : IsTable eq key (hash_in hash_of c) c drain) (view : together (λ e. hash_in hash_of c (key e)) c drain.waiting drain.array ≡ a) (i : ℕ) (free : IsWaiting a i → ⊥) where
   down : waits_at drain.waiting i ≡ false
@@ -87,4 +87,24 @@ module _ {E K S : Type 0} {eq : K → K → Bool} (hash_of : S → K → ℕ) {k
         waiting = free-waiting bounded x.2;
         owed = free-owed bounded x.2;
         unique = unique-moved laws key a after i within before slot x.0 got list.lists;
+      }
+
+  -- a new entry is put at the end of the list
+  pub free-put : (bounded : IsBounded a) → IsEquivalence eq → i < bucket_count a → {e : E} → position (λ x. eq (key e) (key x)) (entries a) ≡ None → (result : Option E × ℕ) {d : Contents E S} → PutsLast c i e result.0 d → suc result.1 ≡ length (list_of d i) → IsListed (λ x. hash_in hash_of d (key x)) d
+      → PutsAtEnd eq key (hash_in hash_of) a i e result (together (λ x. hash_in hash_of d (key x)) d drain.waiting drain.array)
+  free-put bounded laws within {e} absent result {d} puts slot listed =
+      let after = together (λ x. hash_in hash_of d (key x)) d drain.waiting drain.array in
+      let list = puts-list c d i e result.0 puts in
+      let was = together (λ x. hash_in hash_of c (key x)) c drain.waiting drain.array in
+      let first = own-puts_last (λ x. hash_in hash_of c (key x)) c d drain.waiting drain.array i down (before bounded) e result.0 puts in
+      let moved = subst (λ (h : K → ℕ). PutsLast was i e result.0 (together (λ x. h (key x)) d drain.waiting drain.array)) (sym (hash-same hash_of c d list.1.settings)) first in
+      let step = subst (λ (z : Contents E S). PutsLast z i e result.0 after) view moved in
+      let unique = subst (λ (z : Contents E S). IsUniqueBy eq key z) view inv.unique in
+      record {
+        step = step;
+        slot = slot ∙ ap length (sym (own-list (λ x. hash_in hash_of d (key x)) d drain.waiting drain.array i down));
+        listed = free-listed bounded list.1 within listed;
+        waiting = free-waiting bounded list.1;
+        owed = free-owed bounded list.1;
+        unique = unique-puts laws key a after i within unique e result.0 step absent;
       }
