@@ -12,7 +12,7 @@ ghost use Rattle.std.specs.List.{find, flat_map, position};
 ghost use Rattle.std.specs.Option.{option_copied};
 ghost use Rattle.std.specs.Prelude.{◌≡◌, ◌<◌, ◌≤◌, ◌-◌, ◌^◌, length, slice_get, slice_set, MatchOption, None, Some};
 
-use crate::{Relocation, sources};
+use crate::relocate::{Relocation, sources};
 use scc_array::Array;
 use scc_buckets::place::tag;
 use scc_buckets::{Place, Router};

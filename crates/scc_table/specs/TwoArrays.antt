@@ -91,6 +91,7 @@ pub record IsTable {E K S : Type 0} (eq : K → K → Bool) (key : E → K) (has
   pub counted : drain.pending ≡ count_by (λ w. w) drain.waiting
   pub none : drain.pending ≡ 0 → drain.waiting ≡ []
   pub given_back : drain.pending ≡ 0 → drain.array ≡ []
+  pub nothing_left : drain.pending ≡ 0 → drain.left_overflow ≡ 0
   pub below : (i : ℕ) → i < drain.next → waits_at drain.waiting i ≡ false
   pub left_is : drain.left ≡ sum_by (λ b. length (shelf_entries b)) drain.array
   pub overflow_is : overflow_in drain.array ≤ drain.left_overflow

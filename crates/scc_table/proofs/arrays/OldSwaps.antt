@@ -286,5 +286,5 @@ module _ {E K S : Type 0} {eq : K → K → Bool} (laws : IsEquivalence eq) {key
       let over = spilled-swapped h c drain.waiting drain.array inv.arrays j p.slot e lj got fewer in
       let m = inv.left_is in
       let o = inv.overflow_is in
-      old-fields eq key hash c drain news (drain.left - 1) drain.left_overflow inv (arrays-swapped h c drain.waiting drain.array inv.arrays j p.slot e lj got fewer)
-      (length-set drain.array j (swapped_out (shelf_of drain.array j) p.slot e)) (omega arith) (omega arith) inv.few unique
+      old-fields eq key hash c drain news (drain.left - 1) inv (arrays-swapped h c drain.waiting drain.array inv.arrays j p.slot e lj got fewer)
+      (length-set drain.array j (swapped_out (shelf_of drain.array j) p.slot e)) (omega arith) (omega arith) unique

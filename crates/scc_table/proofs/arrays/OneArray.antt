@@ -69,6 +69,7 @@ fields-alone eq key hash c next few unique = record {
   counted = refl;
   none = λ z. refl;
   given_back = λ z. refl;
+  nothing_left = λ z. refl;
   below = λ i l. refl;
   left_is = refl;
   overflow_is = omega arith;

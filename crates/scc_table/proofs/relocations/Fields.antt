@@ -160,6 +160,7 @@ fields-after {E} eq key hash i n c d drain vs news inv up takes down some few =
       counted = omega (arith, inv.counted);
       none = λ z. absurd (omega (arith, inv.counted));
       given_back = λ z. absurd (omega (arith, inv.counted));
+      nothing_left = λ z. absurd (omega (arith, inv.counted));
       below = λ k l. flags-after settles k ∙ (elim (dec_lt k i) [
         | yes r ↦ get_or-set_other drain.waiting i k false false (omega arith) ∙ inv.below k l
         | no r ↦ elim (dec_lt i k) [

@@ -2,7 +2,7 @@
 use Rattle.std.proofs.Common.{◌≡◌, ℕ, ◌<◌, ◌⊎◌, inl, inr, Bool, Some, sym, ap, ◌∙◌, subst, arith}
 use Rattle.std.specs.Cmp.{IsEquivalence}
 use Rattle.std.specs.List.{slice_get}
-use Rattle.scc_common.specs.Contents.{Contents, bucket_count, entries, hash_in, owed_of, waiting_of, IsUniqueBy}
+use Rattle.scc_common.specs.Contents.{Contents, bucket_count, entries, hash_in, owed_of, IsUniqueBy}
 use Rattle.scc_buckets.specs.OneList.{IsSwappedOutOf}
 use Rattle.scc_buckets.specs.Places as spots
 use Rattle.scc_buckets.specs.declared.place.Place.{Place}

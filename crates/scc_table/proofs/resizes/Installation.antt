@@ -170,6 +170,7 @@ started-fields {E} eq laws key hash d n olds counted none left over table was wi
       counted = sym (count-up n);
       none = λ z. absurd (omega (arith, will.least));
       given_back = λ z. absurd (omega (arith, will.least));
+      nothing_left = λ z. absurd (omega (arith, will.least));
       below = λ i l. absurd (omega arith);
       left_is = table.counted;
       overflow_is = omega (arith, table.spilled);

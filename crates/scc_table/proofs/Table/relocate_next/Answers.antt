@@ -23,6 +23,7 @@ invariant_of-self g c =
       counted = inv.counted;
       none = inv.none;
       given_back = inv.given_back;
+      nothing_left = inv.nothing_left;
       below = c.advance-bucket.ensures.first.below;
       left_is = inv.left_is;
       overflow_is = inv.overflow_is;
