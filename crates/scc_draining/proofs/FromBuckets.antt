@@ -1,5 +1,5 @@
 -- Facts about the old buckets from which a bucket takes its entries.
-use Rattle.std.proofs.Common.{◌≡◌, ◌==◌, ℕ, ◌+◌, ◌^◌, ◌<◌, ◌≤◌, ◌⊎◌, inl, inr, List, length, get_or, refl, sym, ap, ◌∙◌, subst, arith, eqb-true}
+use Rattle.std.proofs.Common.{◌≡◌, ◌==◌, ℕ, ◌+◌, ◌^◌, ◌<◌, ◌≤◌, ◌⊎◌, inl, inr, List, length, get_or, refl, sym, ap, ◌∙◌, subst, arith, eqb-true, length-append}
 use Rattle.std.specs.List.{flat_map, sum_by}
 use Rattle.std.proofs.lemmas.List.{get_or_past, get_or_default}
 use Rattle.std.proofs.lemmas.List.Concat.{length-flat_map}
@@ -38,6 +38,14 @@ within-sources hash t n i first last olds own order within only = record {
   ];
 }
 
+-- if the old buckets before `last` hold all entries of bucket i, so do those before a greater `more`
+pub sources-more : {E : Type 0} (hash : E → ℕ) (t n i first last more : ℕ) (olds : List (Shelf E)) → IsWithinSources hash t n i first last olds → last ≤ more → more ≤ length olds → IsWithinSources hash t n i first more olds
+sources-more hash t n i first last more olds w l m = record {
+  order = omega (arith, w.order);
+  within = m;
+  none = λ j out. w.none j (elim out [ inl q ↦ inl q | inr q ↦ inr (omega arith) ]);
+}
+
 -- each old bucket has fewer than 2 ^ 62 entries in its overflow list
 pub few-each : {E : Type 0} (olds : List (Shelf E)) (aside : ℕ) → overflow_in olds ≤ aside → aside < 2 ^ 62 → (j : ℕ) → length (shelf_of olds j).overflow < 2 ^ 62
 few-each {E} olds aside le few j = elim (dec_lt j (length olds)) [
@@ -46,6 +54,16 @@ few-each {E} olds aside le few j = elim (dec_lt j (length olds)) [
       let s : 0 < 2 ^ 62 = omega arith in
       omega arith
 ]
+
+-- the number of entries of each old bucket fits into a word
+pub few-entries : {E : Type 0} (hash : E → ℕ) (t : ℕ) (olds : List (Shelf E)) (aside : ℕ) → AreOwn hash t olds → overflow_in olds ≤ aside → aside < 2 ^ 62 → (j : ℕ) → length (shelf_entries (shelf_of olds j)) < 2 ^ 63
+few-entries hash t olds aside keeps le few j =
+    let o = few-each olds aside le few j in
+    let n = length-append (shelf_of olds j).slots (shelf_of olds j).overflow in
+    elim (dec_lt j (length olds)) [
+      | yes l ↦ let w = (keeps.own j l).within in omega arith
+      | no far ↦ let z : length (shelf_entries (shelf_of olds j)) ≡ 0 = ap (λ b. length (shelf_entries b)) (get_or_past olds j empty_shelf (omega arith)) in omega arith
+    ]
 
 -- the number of entries in the old array fits in 64 bits
 pub most-entry_count : {E : Type 0} (hash : E → ℕ) (t : ℕ) (olds : List (Shelf E)) → IsBucketCount (length olds) → AreOwn hash t olds → overflow_in olds < 2 ^ 62 → length (flat_map shelf_entries olds) < 2 ^ 63 + 2 ^ 62

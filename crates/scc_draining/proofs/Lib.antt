@@ -3,9 +3,11 @@ pub mod Buckets
 pub mod Counted
 pub mod Drains
 pub mod Filled
+pub mod Flags
 pub mod FromBuckets
 pub mod Joined
 pub mod Numbers
+pub mod Others
 pub mod Parted
 pub mod Pulling
 pub mod Stepped

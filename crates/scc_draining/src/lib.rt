@@ -7,10 +7,10 @@ mod count;
 mod draining;
 mod make;
 mod relocate;
+mod waiting;
 mod walk;
 
 pub use count::{count_destined, has_no_room};
 pub use draining::Draining;
 pub use make::{fresh_waiting, insert_clones_of};
-pub use relocate::{Relocation, move_target, sources};
-pub use walk::end_past;
+pub use relocate::move_target;

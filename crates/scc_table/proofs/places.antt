@@ -8,4 +8,5 @@ pub mod OldSpots
 pub mod OneList
 pub mod Replies
 pub mod Searches
+pub mod Starts
 pub mod Targets

@@ -3,6 +3,7 @@ pub mod Contents
 pub mod Fields
 pub mod FirstWaiting
 pub mod Mapped
+pub mod MovedOut
 pub mod OneByOne
 pub mod Preparation
 pub mod ShortLists

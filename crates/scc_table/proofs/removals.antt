@@ -1,5 +1,6 @@
 pub mod CurrentArray
 pub mod CurrentEntry
+pub mod CurrentSwaps
 pub mod Fields
 pub mod OldArray
 pub mod OldEntry

@@ -6,3 +6,4 @@ pub mod FirstArray
 pub mod Growth
 pub mod Installation
 pub mod Marks
+pub mod NarrowShrinks

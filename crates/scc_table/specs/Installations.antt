@@ -8,7 +8,8 @@ use Rattle.scc_common.specs.Steps.{FirstArrayWhenDue, Grows, IsUnchanged, Rests}
 use Rattle.scc_buckets.specs.Bounded.{IsBounded, IsResized}
 use Rattle.scc_buckets.specs.Pour.{IsRegrouped}
 use Rattle.scc_table.specs.Relocates.{AreShort}
-use Rattle.scc_table.specs.TwoArrays.{cleared, IsWaiting}
+use Rattle.scc_draining.specs.Waiting.{cleared}
+use Rattle.scc_table.specs.TwoArrays.{IsWaiting}
 
 module _ {E S : Type 0} where
   -- a new array of `count` buckets is installed, every bucket waits, and nothing else changes

@@ -1,6 +1,6 @@
 -- Two arrays beside each other: the entries of the old array stay there until their bucket of the current array is
 -- relocated.
-use Rattle.std.specs.Prelude.{◌≡◌, ◌==◌, ℕ, suc, ◌+◌, ◌^◌, ◌<◌, ◌≤◌, ◌⊎◌, Bool, true, false, cond, List, [], ◌∷◌, length, map, not, count_by, slice_index_or, slice_set}
+use Rattle.std.specs.Prelude.{◌≡◌, ◌==◌, ℕ, suc, ◌+◌, ◌^◌, ◌<◌, ◌≤◌, ◌⊎◌, Bool, true, false, cond, List, [], ◌∷◌, length, map, not, count_by}
 use Rattle.std.specs.List.{filter, flat_map, range_with_len, sum_by, IsDistinct}
 use Rattle.scc_array.specs.Shelf.{Shelf, shelf_entries}
 use Rattle.scc_common.specs.Contents.{Contents, entries, bucket_count, list_of, lists_of, settings_of, notes_of, overflow_of, waiting_of, owed_of, pending_of}
@@ -10,10 +10,8 @@ use Rattle.scc_common.specs.Sizes.{IsBucketCount}
 use Rattle.scc_buckets.specs.Tables.{overflow_in}
 use Rattle.scc_draining.specs.Drainings.{Draining}
 use Rattle.scc_draining.specs.Moves.{AreMultiples, AreOwn}
-
--- whether bucket i waits
-abbrev pub waits_at : List Bool → ℕ → Bool
-waits_at w i = slice_index_or w i false
+use Rattle.scc_draining.specs.Waiting.{cleared, IsFirst, IsLone, IsSecond}
+pub use Rattle.scc_draining.specs.Waiting.{waits_at}
 
 -- the lists of the buckets from number i on: of a waiting bucket, the entries of the old array that belong to it; of
 -- another, its own list
@@ -58,29 +56,20 @@ module _ {E S : Type 0} where
   IsWaiting c i = waits_at (waiting_of c) i ≡ true
 
   -- bucket i is the first waiting bucket
-  pub record IsFirstWaiting (c : Contents E S) (i : ℕ) : Type 0 where
-    pub waits : IsWaiting c i
-    pub below : (j : ℕ) → j < i → waits_at (waiting_of c) j ≡ false
+  abbrev pub IsFirstWaiting : Contents E S → ℕ → Type 0
+  IsFirstWaiting c i = IsFirst (waiting_of c) i
 
   -- bucket i alone waits
-  pub record IsLoneWaiting (c : Contents E S) (i : ℕ) : Type 0 where
-    pub first : IsFirstWaiting c i
-    pub after : (j : ℕ) → i < j → waits_at (waiting_of c) j ≡ false
+  abbrev pub IsLoneWaiting : Contents E S → ℕ → Type 0
+  IsLoneWaiting c i = IsLone (waiting_of c) i
 
   -- bucket i is the first waiting bucket, and bucket j the second
-  pub record IsSecondWaiting (c : Contents E S) (i j : ℕ) : Type 0 where
-    pub first : IsFirstWaiting c i
-    pub behind : i < j
-    pub waits : IsWaiting c j
-    pub between : (k : ℕ) → i < k → k < j → waits_at (waiting_of c) k ≡ false
+  abbrev pub IsSecondWaiting : Contents E S → ℕ → ℕ → Type 0
+  IsSecondWaiting c i j = IsSecond (waiting_of c) i j
 
   -- the numbers of the waiting buckets, in rising order
   abbrev pub pending_targets : Contents E S → List ℕ
   pending_targets c = filter (waits_at (waiting_of c)) (range_with_len 0 (length (waiting_of c)))
-
--- the flags after bucket i has stopped waiting; empty if no other bucket waits
-abbrev pub cleared : List Bool → ℕ → List Bool
-cleared ws i = cond (count_by (λ w. w) (slice_set ws i false) == 0) [] (slice_set ws i false)
 
 -- what the old array owes without the entries of bucket i; empty if there are no flags
 abbrev pub owed_without : List Bool → ℕ → List (List ℕ) → List (List ℕ)
@@ -102,6 +91,7 @@ pub record IsTable {E K S : Type 0} (eq : K → K → Bool) (key : E → K) (has
   pub counted : drain.pending ≡ count_by (λ w. w) drain.waiting
   pub none : drain.pending ≡ 0 → drain.waiting ≡ []
   pub given_back : drain.pending ≡ 0 → drain.array ≡ []
+  pub nothing_left : drain.pending ≡ 0 → drain.left_overflow ≡ 0
   pub below : (i : ℕ) → i < drain.next → waits_at drain.waiting i ≡ false
   pub left_is : drain.left ≡ sum_by (λ b. length (shelf_entries b)) drain.array
   pub overflow_is : overflow_in drain.array ≤ drain.left_overflow

@@ -1,6 +1,6 @@
 -- A table of two arrays without a waiting bucket, and a call that changes the current array alone.
 use Rattle.std.proofs.Common.{◌≡◌, ℕ, ◌+◌, ◌*◌, ◌^◌, ◌<◌, ◌==◌, inl, inr, Bool, true, false, [], ◌∷◌, length, map, sym, ap, ◌∙◌, subst, arith}
-use Rattle.std.specs.List.{filter, flat_map, slice_get, IsDistinct}
+use Rattle.std.specs.List.{count_by, filter, flat_map, slice_get, IsDistinct}
 use Rattle.std.specs.List.Sorted.{IsPermutation}
 use Rattle.scc_array.specs.Shelf.{shelf_entries}
 use Rattle.scc_common.specs.Contents.{Contents, entries, bucket_count, owed_of, lists_of, minimum_of, settings_of, overflow_of, waiting_of}
@@ -20,7 +20,7 @@ use Rattle.scc_table.proofs.arrays.SameParts.{count-same, entries-same, list-sam
 
 -- the invariant `IsTable` holds after the contents of the current array change from c to d
 pub fields-lone : {E K S : Type 0} (eq : K → K → Bool) (key : E → K) (hash : K → ℕ) (c d : Contents E S) (drain : Draining E) → IsTable eq key hash c drain → drain.waiting ≡ [] → settings_of d ≡ settings_of c → overflow_of d < 2 ^ 62
-    → IsDistinct eq (map key (entries d)) → IsTable eq key hash d (record drain { left_overflow = 0 })
+    → IsDistinct eq (map key (entries d)) → IsTable eq key hash d drain
 fields-lone {E} eq key hash c d drain inv none settings few unique =
     let h : E → ℕ = λ e. hash (key e) in
     let nothing : flat_map shelf_entries drain.array ≡ [] = nothing-owed h c drain.waiting drain.array none inv.arrays in
@@ -36,10 +36,11 @@ fields-lone {E} eq key hash c d drain inv none settings few unique =
       counted = inv.counted;
       none = inv.none;
       given_back = inv.given_back;
+      nothing_left = inv.nothing_left;
       below = inv.below;
       left_is = inv.left_is;
       overflow_is = let z = spilled-bare drain.array nothing in omega arith;
-      few = omega arith;
+      few = let idle : drain.pending ≡ 0 = inv.counted ∙ ap (count_by (λ w. w)) none in let nothing_aside = inv.nothing_left idle in omega arith;
       unique = subst (λ es. IsDistinct eq (map key es)) (sym (entries-alone h d drain.waiting drain.array none)) unique;
     }
 

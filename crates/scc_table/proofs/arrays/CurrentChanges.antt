@@ -82,6 +82,7 @@ own-fields eq key hash c d i x lists settings drain down inv few unique = record
   counted = inv.counted;
   none = inv.none;
   given_back = inv.given_back;
+  nothing_left = inv.nothing_left;
   below = inv.below;
   left_is = inv.left_is;
   overflow_is = inv.overflow_is;

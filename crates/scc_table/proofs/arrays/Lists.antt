@@ -15,7 +15,7 @@ use Rattle.scc_buckets.proofs.Pours.{destined_append, destined_here}
 use Rattle.scc_draining.specs.Moves.{grown, shrunk, AreMultiples}
 use Rattle.scc_table.specs.TwoArrays.{joined, target_by, together, TwoArrays, waits_at}
 use Rattle.scc_table.proofs.places.OldSpots.{split-list}
-use Rattle.scc_table.proofs.relocations.Contents.{not_equal}
+use Rattle.scc_draining.proofs.Others.{not_equal}
 
 module _ {E : Type 0} (f : E → ℕ) where
   -- an entry of a bucket before number a changes no list from number a on

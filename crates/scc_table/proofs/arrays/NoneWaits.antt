@@ -5,7 +5,7 @@ use Rattle.std.specs.List.{count_by}
 use Rattle.scc_common.specs.Contents.{Contents, pending_of, waiting_of}
 use Rattle.scc_table.specs.TwoArrays.{waits_at}
 use Rattle.scc_table.proofs.relocations.OneByOne.{pending-is}
-use Rattle.scc_table.proofs.relocations.Contents.{none-up}
+use Rattle.scc_draining.proofs.Flags.{none-up}
 
 -- if the number of waiting buckets is 0, no bucket waits
 pub not_waiting-all : {E S : Type 0} (c : Contents E S) → pending_of c ≡ 0 → (i : ℕ) → waits_at (waiting_of c) i ≡ false

@@ -51,6 +51,7 @@ fields-less {E} eq key hash c d drain lists skips spilled inv =
       counted = inv.counted;
       none = inv.none;
       given_back = inv.given_back;
+      nothing_left = inv.nothing_left;
       below = inv.below;
       left_is = inv.left_is;
       overflow_is = inv.overflow_is;

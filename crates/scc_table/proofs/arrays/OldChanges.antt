@@ -1,5 +1,5 @@
 -- The contents of both arrays after one entry of the old array is written or taken out.
-use Rattle.std.proofs.Common.{◌≡◌, ◌==◌, ℕ, zero, suc, ◌+◌, ◌^◌, ◌<◌, ◌≤◌, ◌≢◌, inl, inr, Bool, true, false, cond, Some, List, [], ◌∷◌, ◌++◌, length, map, take, drop, set, refl, sym, ap, ◌∙◌, subst, arith, append_assoc, length-set, get_or-set_same, get_or-set_other, eq-eqb}
+use Rattle.std.proofs.Common.{◌≡◌, ◌==◌, ℕ, zero, suc, ◌+◌, ◌<◌, ◌≤◌, ◌≢◌, inl, inr, Bool, true, false, cond, Some, List, [], ◌∷◌, ◌++◌, length, map, take, drop, set, refl, sym, ap, ◌∙◌, subst, arith, append_assoc, length-set, get_or-set_same, get_or-set_other, eq-eqb}
 use Rattle.std.specs.List.{filter, flat_map, slice_get, sum_by, remove, IsDistinct}
 use Rattle.std.proofs.lemmas.List.{nil_from_length, set-get_or, take-append-drop}
 use Rattle.std.proofs.lemmas.List.Elements.{filter-append}
@@ -7,7 +7,7 @@ use native.Mathlib.Decide.{dec_lt}
 use Rattle.scc_array.specs.Shelves.{shelf_of}
 use Rattle.scc_array.specs.Shelf.{Shelf, shelf_entries, empty_shelf}
 use Rattle.scc_array.specs.ShelfWrites.{write_at}
-use Rattle.scc_common.specs.Contents.{Contents, entries, bucket_count, list_of, lists_of, settings_of, overflow_of}
+use Rattle.scc_common.specs.Contents.{Contents, entries, bucket_count, list_of, lists_of, settings_of}
 use Rattle.scc_buckets.specs.Pour.{destined_for}
 use Rattle.scc_common.specs.Sizes.{IsBucketCount}
 use Rattle.scc_buckets.specs.Tables.{IsOwn, overflow_in}
@@ -21,7 +21,7 @@ use Rattle.scc_table.proofs.arrays.JoinedLists.{lists-together}
 use Rattle.scc_table.proofs.places.OldSpots.{old-waits, old-long, old-within}
 use Rattle.scc_table.proofs.relocations.Preparation.{waiting-list}
 use Rattle.scc_table.proofs.relocations.Fields.{count-is}
-use Rattle.scc_table.proofs.relocations.Contents.{not_equal}
+use Rattle.scc_draining.proofs.Others.{not_equal}
 
 -- the entries of the old array after slot s of bucket j, in the order of the buckets
 abbrev pub entries_after : {E : Type 0} → List (Shelf E) → ℕ → ℕ → List E
@@ -156,17 +156,18 @@ module _ {E S : Type 0} (hash : E → ℕ) (c : Contents E S) (ws : List Bool) (
     old-arrays ours = arrays-over hash c ws olds arrays j lj b ours (λ k down. destined-other k (λ z. let q : false ≡ true = sym down ∙ ap (waits_at ws) z ∙ old-waits hash c ws olds arrays j s e lj got in absurd (let q2 = q in cc)))
 
 -- the invariant `IsTable` holds after the old array becomes news
-pub old-fields : {E K S : Type 0} (eq : K → K → Bool) (key : E → K) (hash : K → ℕ) (c : Contents E S) (drain : Draining E) (news : List (Shelf E)) (kept under : ℕ) → IsTable eq key hash c drain
-    → TwoArrays (λ e. hash (key e)) c drain.waiting news → length news ≡ length drain.array → kept ≡ sum_by (λ b. length (shelf_entries b)) news → overflow_in news ≤ under → overflow_of c + under < 2 ^ 62 → IsDistinct eq (map key (entries (together (λ e. hash (key e)) c drain.waiting news)))
-    → IsTable eq key hash c (record drain { array = news; left = kept; left_overflow = under })
-old-fields eq key hash c drain news kept under inv arrays long count over few unique = record {
+pub old-fields : {E K S : Type 0} (eq : K → K → Bool) (key : E → K) (hash : K → ℕ) (c : Contents E S) (drain : Draining E) (news : List (Shelf E)) (kept : ℕ) → IsTable eq key hash c drain
+    → TwoArrays (λ e. hash (key e)) c drain.waiting news → length news ≡ length drain.array → kept ≡ sum_by (λ b. length (shelf_entries b)) news → overflow_in news ≤ drain.left_overflow → IsDistinct eq (map key (entries (together (λ e. hash (key e)) c drain.waiting news)))
+    → IsTable eq key hash c (record drain { array = news; left = kept })
+old-fields eq key hash c drain news kept inv arrays long count over unique = record {
   arrays = arrays;
   counted = inv.counted;
   none = inv.none;
   given_back = λ z. nil_from_length news (long ∙ ap length (inv.given_back z));
+  nothing_left = inv.nothing_left;
   below = inv.below;
   left_is = count;
   overflow_is = over;
-  few = few;
+  few = inv.few;
   unique = unique;
 }

@@ -30,7 +30,7 @@ use Rattle.scc_table.proofs.arrays.JoinedLists.{count-together, owed-together, r
 use Rattle.scc_table.proofs.arrays.OldChanges.{arrays-over, lists-over, old-fields}
 use Rattle.scc_table.proofs.places.OldSpots.{old-get, old-long, old-spot, old-waits, old-within, rank_of}
 use Rattle.scc_table.proofs.relocations.Preparation.{multiple-flags, waiting-list}
-use Rattle.scc_table.proofs.relocations.Contents.{not_equal}
+use Rattle.scc_draining.proofs.Others.{not_equal}
 use Rattle.scc_table.proofs.removals.Fields.{arrays-less, none-either, old-taken, owed-less, owed-removed, spilled-less}
 use Rattle.scc_table.proofs.removals.OneList.{list-same, swapped-count, swapped-moved, swapped-unique}
 use Rattle.scc_table.proofs.arrays.Writes.{owed-same}
@@ -286,5 +286,5 @@ module _ {E K S : Type 0} {eq : K → K → Bool} (laws : IsEquivalence eq) {key
       let over = spilled-swapped h c drain.waiting drain.array inv.arrays j p.slot e lj got fewer in
       let m = inv.left_is in
       let o = inv.overflow_is in
-      old-fields eq key hash c drain news (drain.left - 1) drain.left_overflow inv (arrays-swapped h c drain.waiting drain.array inv.arrays j p.slot e lj got fewer)
-      (length-set drain.array j (swapped_out (shelf_of drain.array j) p.slot e)) (omega arith) (omega arith) inv.few unique
+      old-fields eq key hash c drain news (drain.left - 1) inv (arrays-swapped h c drain.waiting drain.array inv.arrays j p.slot e lj got fewer)
+      (length-set drain.array j (swapped_out (shelf_of drain.array j) p.slot e)) (omega arith) (omega arith) unique

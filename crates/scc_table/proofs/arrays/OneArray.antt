@@ -1,25 +1,13 @@
 -- Two arrays, if no bucket waits.
-use Rattle.std.proofs.Common.{◌≡◌, ◌==◌, ℕ, ◌+◌, ◌^◌, ◌<◌, inl, Bool, true, false, List, [], ◌∷◌, length, map, refl, sym, ap, subst, arith, rules}
+use Rattle.std.proofs.Common.{◌≡◌, ℕ, ◌+◌, ◌^◌, ◌<◌, inl, Bool, true, false, List, [], ◌∷◌, length, map, refl, sym, ap, subst, arith}
 use Rattle.std.specs.List.{flat_map, IsDistinct}
 use Rattle.std.proofs.lemmas.List.Sums.{sum_by-cons}
 use Rattle.scc_array.specs.Shelf.{Shelf, shelf_entries}
 use Rattle.scc_buckets.proofs.Bare.{nil-left}
+use Rattle.scc_draining.proofs.Others.{destined-nowhere}
 use Rattle.scc_common.specs.Contents.{Contents, entries, bucket_count, lists_of, settings_of, notes_of, overflow_of, owed_of}
-use Rattle.scc_buckets.specs.Pour.{destined_for}
-use Rattle.scc_common.specs.Routing.{bucket_number}
 use Rattle.scc_buckets.specs.Tables.{overflow_in}
 use Rattle.scc_table.specs.TwoArrays.{owed_in, target_by, together, TwoArrays, IsTable}
-
-equal : (a b : ℕ) → a ≡ b → (a == b) ≡ true
-equal a b h = search rules
-
--- if no bucket has an entry of the list es, es is empty
-destined-nowhere : {E : Type 0} (hash : E → ℕ) (t n : ℕ) (es : List E) → ((i : ℕ) → destined_for hash t n i es ≡ []) → es ≡ []
-destined-nowhere hash t n [] h = refl
-destined-nowhere hash t n (e ∷ es) h =
-    let i : ℕ = bucket_number t n (hash e) in
-    let here : (bucket_number t n (hash e) == i) ≡ true = equal _ _ refl in
-    absurd (let z = rw here at (h i) in cc)
 
 module _ {E S : Type 0} (hash : E → ℕ) (c : Contents E S) (ws : List Bool) (olds : List (Shelf E)) (none : ws ≡ []) where
   -- the old array holds no entries
@@ -81,6 +69,7 @@ fields-alone eq key hash c next few unique = record {
   counted = refl;
   none = λ z. refl;
   given_back = λ z. refl;
+  nothing_left = λ z. refl;
   below = λ i l. refl;
   left_is = refl;
   overflow_is = omega arith;

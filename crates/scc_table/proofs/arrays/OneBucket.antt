@@ -21,7 +21,7 @@ use Rattle.scc_table.proofs.arrays.JoinedLists.{flags-length}
 use Rattle.scc_table.proofs.places.NextPlaces.{owed-count}
 use Rattle.scc_table.proofs.places.OldSpots.{old-at, own-at}
 use Rattle.scc_table.proofs.relocations.Preparation.{unique-before, waiting-list, long-flags, multiple-flags, sized-flags}
-use Rattle.scc_table.proofs.relocations.Contents.{up-within, one-down}
+use Rattle.scc_draining.proofs.Flags.{up-within, one-down}
 use Rattle.scc_table.proofs.places.Searches.{not_true, routed-together}
 use Rattle.scc_table.proofs.arrays.Views.{count-seen, pending-seen, settings-seen, waiting-seen}
 

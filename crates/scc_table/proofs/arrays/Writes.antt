@@ -182,6 +182,6 @@ module _ {E K S : Type 0} {eq : K → K → Bool} (laws : IsEquivalence eq) {key
             let table = table-after put h c drain.waiting drain.array inv.arrays few-owed j p.slot e old-is.0 got w equal in
             let all : entries (together h c drain.waiting news) ≡ write_at put (entries u) (spots.index_of_spot u q) w = ap entries old-written
             ∙ entries-write put u q inside (at (list_of u q.bucket) q.slot inside.slot) (at-get (list_of u q.bucket) q.slot inside.slot) w in
-            old-fields eq key hash c drain news drain.left drain.left_overflow inv (arrays-after put h c drain.waiting drain.array inv.arrays few-owed j p.slot e old-is.0 got w equal) (length-set drain.array j (shelf_write_at put (shelf_of drain.array j) p.slot w))
-            (inv.left_is ∙ table.counted) (let n = table.spilled in let o = inv.overflow_is in omega arith) inv.few
+            old-fields eq key hash c drain news drain.left inv (arrays-after put h c drain.waiting drain.array inv.arrays few-owed j p.slot e old-is.0 got w equal) (length-set drain.array j (shelf_write_at put (shelf_of drain.array j) p.slot w))
+            (inv.left_is ∙ table.counted) (let n = table.spilled in let o = inv.overflow_is in omega arith)
             (subst (λ z. IsDistinct eq (map key z)) (sym all) (distinct-write laws key put (entries u) (spots.index_of_spot u q) e w old-got same inv.unique))

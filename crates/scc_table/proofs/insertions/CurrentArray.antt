@@ -168,6 +168,7 @@ fields-put {E} eq laws key hash c drain inv d view e i b p put l down few absent
       counted = inv.counted;
       none = inv.none;
       given_back = inv.given_back;
+      nothing_left = inv.nothing_left;
       below = inv.below;
       left_is = inv.left_is;
       overflow_is = inv.overflow_is;

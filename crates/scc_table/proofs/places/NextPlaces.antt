@@ -1,46 +1,23 @@
 -- Where a search for the next entry in the old array leads.
-use Rattle.std.proofs.Common.{◌≡◌, ◌==◌, ℕ, suc, ◌+◌, ◌-◌, ◌^◌, ◌<◌, ◌≤◌, inl, inr, Bool, true, false, cond, nat_lt, rules, add-one, Some, List, [], ◌∷◌, length, map, take, refl, sym, ap, ◌∙◌, subst, arith, length-append}
-use Rattle.std.proofs.lemmas.List.{get_or_past, length-map, take_all}
+use Rattle.std.proofs.Common.{◌≡◌, ◌==◌, ℕ, suc, ◌+◌, ◌-◌, ◌<◌, ◌≤◌, Bool, true, false, cond, nat_lt, rules, add-one, Some, List, [], ◌∷◌, length, map, refl, sym, ap, ◌∙◌, subst, arith, length-append}
+use Rattle.std.proofs.lemmas.List.{length-map}
 use Rattle.std.specs.List.{count_by, flat_map, slice_get}
-use native.Mathlib.Decide.{dec_lt}
 use Rattle.scc_array.specs.Shelves.{shelf_of}
-use Rattle.scc_array.specs.Shelf.{Shelf, shelf_entries, empty_shelf}
+use Rattle.scc_array.specs.Shelf.{Shelf, shelf_entries}
 use Rattle.scc_common.specs.Contents.{Contents, bucket_count, entries, owed_of, list_of, settings_of, waiting_of}
 use Rattle.scc_buckets.specs.Places as spots
 use Rattle.scc_buckets.specs.Pour.{destined_for}
-use Rattle.scc_buckets.specs.Tables.{overflow_in}
 use Rattle.scc_buckets.specs.declared.place.Place.{Place}
 use Rattle.scc_buckets.proofs.Standing.{index-after, index-below}
-use Rattle.scc_draining.specs.Moves.{AreOwn, IsWithinSources}
 use Rattle.scc_table.specs.Places.{owed_before, index_of, spot_of, StandsAt}
 use Rattle.scc_table.specs.NextPlaces.{index_on, own, old, rank_on, spot_on, IsStart}
 use Rattle.scc_draining.specs.Stepping.{entries_before, StandsNext}
 use Rattle.scc_table.specs.TwoArrays.{target_by, together, TwoArrays, waits_at}
-use Rattle.scc_draining.proofs.Drains.{before-none, take-all_bound}
 use Rattle.scc_table.proofs.arrays.JoinedLists.{count-together, owed-together, waiting-together}
 use Rattle.scc_table.proofs.places.OldSpots.{count-map, owed-before, owed-some, old-place, old-spot, old-waits, own-list, own-place, own-spot}
-use Rattle.scc_draining.proofs.FromBuckets.{few-each}
 use Rattle.scc_table.proofs.relocations.Preparation.{long-flags, waiting-list}
-use Rattle.scc_table.proofs.relocations.Contents.{up-within}
-use Rattle.scc_draining.proofs.Stepped.{before-start, destined-count}
-
--- the number of entries of each old bucket fits into a word
-pub few-entries : {E : Type 0} (hash : E → ℕ) (t : ℕ) (olds : List (Shelf E)) (aside : ℕ) → AreOwn hash t olds → overflow_in olds ≤ aside → aside < 2 ^ 62 → (j : ℕ) → length (shelf_entries (shelf_of olds j)) < 2 ^ 63
-few-entries hash t olds aside keeps le few j =
-    let o = few-each olds aside le few j in
-    let n = length-append (shelf_of olds j).slots (shelf_of olds j).overflow in
-    elim (dec_lt j (length olds)) [
-      | yes l ↦ let w = (keeps.own j l).within in omega arith
-      | no far ↦ let z : length (shelf_entries (shelf_of olds j)) ≡ 0 = ap (λ b. length (shelf_entries b)) (get_or_past olds j empty_shelf (omega arith)) in omega arith
-    ]
-
--- if the old buckets before `last` hold all entries of bucket i, so do those before a greater `more`
-pub sources-more : {E : Type 0} (hash : E → ℕ) (t n i first last more : ℕ) (olds : List (Shelf E)) → IsWithinSources hash t n i first last olds → last ≤ more → more ≤ length olds → IsWithinSources hash t n i first more olds
-sources-more hash t n i first last more olds w l m = record {
-  order = omega (arith, w.order);
-  within = m;
-  none = λ j out. w.none j (elim out [ inl q ↦ inl q | inr q ↦ inr (omega arith) ]);
-}
+use Rattle.scc_draining.proofs.Flags.{up-within}
+use Rattle.scc_draining.proofs.Stepped.{destined-count, nothing-before}
 
 module _ {E S : Type 0} (hash : E → ℕ) (c : Contents E S) (ws : List Bool) (olds : List (Shelf E)) (arrays : TwoArrays hash c ws olds) (i : ℕ) (up : waits_at ws i ≡ true) where
   pub owed-is : owed_of (together hash c ws olds) ≡ map (λ b. map (target_by hash c) (shelf_entries b)) olds
@@ -54,12 +31,10 @@ module _ {E S : Type 0} (hash : E → ℕ) (c : Contents E S) (ws : List Bool) (
   rank-is j s l =
       ap (λ h. count_by (λ u. u == i) (owed_before h j s)) owed-is ∙ ap (count_by (λ u. u == i)) (owed-before (target_by hash c) olds j s l) ∙ count-map (target_by hash c) i (entries_before olds j s)
 
-  -- if no entry of bucket i stands at slot s of old bucket j or later, `rank_on` is the length of its list
-  pub rank-end : (first last j s : ℕ) → j < length olds → IsWithinSources hash (settings_of c).skipped (bucket_count c) i first last olds
-      → destined_for hash (settings_of c).skipped (bucket_count c) i (entries_before olds j s) ≡ destined_for hash (settings_of c).skipped (bucket_count c) i (flat_map shelf_entries (take last olds))
+  -- if the entries of bucket i stand before slot s of old bucket j, `rank_on` is the length of its list
+  pub rank-end : (j s : ℕ) → j < length olds → destined_for hash (settings_of c).skipped (bucket_count c) i (entries_before olds j s) ≡ destined_for hash (settings_of c).skipped (bucket_count c) i (flat_map shelf_entries olds)
       → rank_on (together hash c ws olds) i j s ≡ length (list_of (together hash c ws olds) i)
-  rank-end first last j s l sources e =
-      rank-is j s l ∙ ap length (e ∙ take-all_bound hash (settings_of c).skipped (bucket_count c) i first last olds sources empty_shelf ∙ sym (waiting-list hash c ws olds arrays i up (long-flags c ws i arrays.flags up)))
+  rank-end j s l e = rank-is j s l ∙ ap length (e ∙ sym (waiting-list hash c ws olds arrays i up (long-flags c ws i arrays.flags up)))
 
   -- the next entry of bucket i stands at slot s of old bucket j
   pub rank-next : (a b j s : ℕ) → a < length olds → StandsNext hash (settings_of c).skipped (bucket_count c) i olds a b j s → (p : Place) → p.bucket ≡ bucket_count c + j → p.slot ≡ s
@@ -77,25 +52,13 @@ module _ {E S : Type 0} (hash : E → ℕ) (c : Contents E S) (ws : List Bool) (
         index = ap (spots.index_of_spot d) spot;
       }
 
-pub next-same : {E : Type 0} (hash : E → ℕ) (t m n i : ℕ) (olds : List (Shelf E)) (a b j s : ℕ) → m ≡ n → StandsNext hash t m i olds a b j s → StandsNext hash t n i olds a b j s
-next-same hash t m n i olds a b j s f x = subst (λ z. StandsNext hash t z i olds a b j s) f x
-
-pub destined-same : {E : Type 0} (hash : E → ℕ) (t m n i : ℕ) (xs ys : List E) → m ≡ n → destined_for hash t m i xs ≡ destined_for hash t m i ys → destined_for hash t n i xs ≡ destined_for hash t n i ys
-destined-same hash t m n i xs ys f x = subst (λ z. destined_for hash t z i xs ≡ destined_for hash t z i ys) f x
-
-module _ {E S : Type 0} (hash : E → ℕ) (c : Contents E S) (ws : List Bool) (olds : List (Shelf E)) (arrays : TwoArrays hash c ws olds) (i : ℕ) (up : waits_at ws i ≡ true) (first last : ℕ) (sources : IsWithinSources hash (settings_of c).skipped (bucket_count c) i first last olds) where
-  -- no entry of bucket i stands before old bucket `first`
-  pub rank-start : first < length olds → rank_on (together hash c ws olds) i first 0 ≡ 0
-  rank-start l =
-      let t = (settings_of c).skipped in
-      let n = bucket_count c in
-      rank-is hash c ws olds arrays i up first 0 l ∙ ap (λ z. length (destined_for hash t n i z)) (before-start olds first) ∙ ap length (before-none hash t n i first last olds sources empty_shelf)
-
-  pub list-past : length olds ≤ first → list_of (together hash c ws olds) i ≡ []
-  list-past l =
-      let t = (settings_of c).skipped in
-      let n = bucket_count c in
-      waiting-list hash c ws olds arrays i up (long-flags c ws i arrays.flags up) ∙ ap (λ z. destined_for hash t n i (flat_map shelf_entries z)) (sym (take_all first olds l)) ∙ before-none hash t n i first last olds sources empty_shelf
+  -- the first entry of bucket i stands at slot s of old bucket j
+  pub rank-first : (j s : ℕ) → 0 < length olds → StandsNext hash (settings_of c).skipped (bucket_count c) i olds 0 0 j s → (p : Place) → p.bucket ≡ bucket_count c + j → p.slot ≡ s
+      → StandsAt (together hash c ws olds) (spots.index_of_spot (together hash c ws olds) (record { bucket = i; slot = 0 })) p
+  rank-first j s some next p at slot =
+      let d = together hash c ws olds in
+      let start : rank_on d i 0 0 ≡ 0 = rank-is 0 0 some ∙ ap (λ z. length (destined_for hash (settings_of c).skipped (bucket_count c) i z)) (nothing-before olds) in
+      subst (λ m. StandsAt d (spots.index_of_spot d (record { bucket = i; slot = m })) p) start (rank-next 0 0 j s some next p at slot)
 
 -- a place in a bucket that doesn't wait is its own spot
 pub own-stands : {E S : Type 0} (hash : E → ℕ) (c : Contents E S) (ws : List Bool) (olds : List (Shelf E)) (arrays : TwoArrays hash c ws olds) (p : Place) → p.bucket < bucket_count c → waits_at ws p.bucket ≡ false → p.slot < length (list_of c p.bucket)

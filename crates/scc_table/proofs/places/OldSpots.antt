@@ -20,7 +20,7 @@ use Rattle.scc_table.specs.TwoArrays.{owed_in, joined, target_by, together, TwoA
 use Rattle.scc_table.proofs.arrays.JoinedLists.{count-together, get-joined, owed-together, waiting-together}
 use Rattle.scc_table.proofs.relocations.Preparation.{long-flags, waiting-list}
 use Rattle.scc_table.proofs.relocations.Fields.{count-is}
-use Rattle.scc_table.proofs.relocations.Contents.{up-within}
+use Rattle.scc_draining.proofs.Flags.{up-within}
 
 map-append : {X Y : Type 0} (f : X → Y) (xs ys : List X) → map f (xs ++ ys) ≡ map f xs ++ map f ys
 map-append f [] ys = refl

@@ -8,7 +8,7 @@ use Rattle.scc_buckets.specs.Pour.{destined_for}
 use Rattle.std.proofs.lemmas.List.Sums.{length-filter}
 use Rattle.scc_common.specs.Contents.{Contents, entries, bucket_count, list_of, settings_of, IsRouted}
 use Rattle.scc_common.specs.Routing.{bucket_number}
-use Rattle.scc_table.proofs.relocations.Contents.{not_equal}
+use Rattle.scc_draining.proofs.Others.{not_equal}
 
 -- each of the entries that belong to bucket i of n has that bucket
 pub destined-own : {E : Type 0} (hash : E → ℕ) (t n i : ℕ) (es : List E) (j : ℕ) (e : E) → slice_get (destined_for hash t n i es) j ≡ Some e → bucket_number t n (hash e) ≡ i

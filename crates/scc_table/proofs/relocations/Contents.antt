@@ -1,69 +1,11 @@
 -- The contents of both arrays after a bucket is relocated.
-use Rattle.std.proofs.Common.{◌≡◌, ◌==◌, ℕ, zero, suc, ◌+◌, ◌<◌, ◌≢◌, inr, Bool, true, false, not, cond, List, [], ◌∷◌, ◌++◌, length, set, get_or, refl, sym, ap, ◌∙◌, arith, rules, length-set, get_or-set_same, get_or-set_other, eqb-true}
-use Rattle.std.specs.List.{filter, flat_map, count_by}
+use Rattle.std.proofs.Common.{◌≡◌, ◌==◌, ℕ, suc, ◌+◌, ◌<◌, ◌≢◌, inr, Bool, true, false, cond, List, [], ◌∷◌, length, set, get_or, refl, sym, ap, ◌∙◌, arith, length-set, get_or-set_same, get_or-set_other}
+use Rattle.std.specs.List.{filter}
 use Rattle.std.proofs.lemmas.List.{ext_get_or}
-use Rattle.std.proofs.lemmas.List.Elements.{filter-append}
-use Rattle.std.proofs.lemmas.List.Sums.{sum_by-set, sum_by-cons}
 use native.Mathlib.Decide.{dec_lt}
-use Rattle.scc_array.specs.Shelves.{shelf_of}
-use Rattle.scc_array.specs.Shelf.{Shelf, shelf_entries}
-use Rattle.scc_buckets.specs.Pour.{destined_for}
-use Rattle.scc_common.specs.Routing.{bucket_number}
-use Rattle.scc_buckets.proofs.PairSplits.{by_answer}
-use Rattle.scc_draining.specs.Moves.{others_for}
+use Rattle.scc_draining.proofs.Flags.{up-within}
 use Rattle.scc_table.specs.TwoArrays.{joined, waits_at}
 use Rattle.scc_table.proofs.arrays.JoinedLists.{get-joined, length-joined}
-
-pub not_equal : (a b : ℕ) → a ≢ b → (a == b) ≡ false
-not_equal a b h = search rules
-
-module _ {E : Type 0} (hash : E → ℕ) (t n i : ℕ) where
-  -- the entries of the other buckets have no entry of bucket i
-  pub destined-others_none : (es : List E) → destined_for hash t n i (others_for hash t n i es) ≡ []
-  destined-others_none [] = refl
-  destined-others_none (e ∷ es) = by_answer (bucket_number t n (hash e) == i) (λ q. rw q (destined-others_none es)) (λ q. rw (q, q) (destined-others_none es))
-
-  -- the entries of the other buckets have all entries of each bucket k other than i
-  pub destined-others_same : (k : ℕ) → k ≢ i → (es : List E) → destined_for hash t n k (others_for hash t n i es) ≡ destined_for hash t n k es
-  destined-others_same k ne [] = refl
-  destined-others_same k ne (e ∷ es) = by_answer (bucket_number t n (hash e) == i)
-      (λ q.
-      let other : (bucket_number t n (hash e) == k) ≡ false = not_equal _ _ (λ z. ne (sym z ∙ eqb-true (bucket_number t n (hash e)) i q)) in
-      rw (q, other) (destined-others_same k ne es))
-      (λ q. rw q (ap (λ z. cond (bucket_number t n (hash e) == k) (e ∷ z) z) (destined-others_same k ne es)))
-
-  -- if each old bucket keeps its entries of other buckets, the old array keeps the entries of other buckets
-  pub flat-others : (olds news : List (Shelf E)) → length news ≡ length olds → ((j : ℕ) → j < length olds → shelf_entries (shelf_of news j) ≡ others_for hash t n i (shelf_entries (shelf_of olds j)))
-      → flat_map shelf_entries news ≡ others_for hash t n i (flat_map shelf_entries olds)
-  flat-others [] [] l h = refl
-  flat-others [] (b ∷ news) l h = absurd (omega arith)
-  flat-others (a ∷ olds) [] l h = absurd (omega arith)
-  flat-others (a ∷ olds) (b ∷ news) l h =
-      ap (λ z. z ++ flat_map shelf_entries news) (h 0 (omega arith)) ∙ ap (λ z. others_for hash t n i (shelf_entries a) ++ z) (flat-others olds news (omega arith) (λ j q. h (suc j) (omega arith)))
-      ∙ sym (filter-append (λ e. not (bucket_number t n (hash e) == i)) (shelf_entries a) (flat_map shelf_entries olds))
-
--- if the number of flags that are up is 0, each flag is down
-pub none-up : (ws : List Bool) → count_by (λ w. w) ws ≡ 0 → (k : ℕ) → waits_at ws k ≡ false
-none-up [] h k = refl
-none-up (w ∷ ws) h zero = by_answer w (λ q. absurd (let s = sum_by-cons (λ x. cond x 1 0) w ws in let z : cond {A = ℕ} w 1 0 ≡ 1 = ap (λ (v : Bool). cond {A = ℕ} v 1 0) q in omega arith)) (λ q. q)
-none-up (w ∷ ws) h (suc k) = none-up ws (let s = sum_by-cons (λ x. cond x 1 0) w ws in omega arith) k
-
--- if each flag is down, the number of flags that are up is 0
-pub all-down : (ws : List Bool) → ((k : ℕ) → k < length ws → waits_at ws k ≡ false) → count_by (λ w. w) ws ≡ 0
-all-down [] h = refl
-all-down (w ∷ ws) h = let z : w ≡ false = h 0 (omega arith) in rw z (all-down ws (λ k l. h (suc k) (omega arith)))
-
-pub one-down : (ws : List Bool) (i : ℕ) → i < length ws → waits_at ws i ≡ true → count_by (λ w. w) ws ≡ count_by (λ w. w) (set ws i false) + 1
-one-down ws i l up =
-    let s : count_by (λ w. w) (set ws i false) + cond {A = ℕ} (get_or ws i false) 1 0 ≡ count_by (λ w. w) ws + 0 = sum_by-set (λ x. cond x 1 0) ws i false false l in
-    let z : cond {A = ℕ} (get_or ws i false) 1 0 ≡ 1 = ap (λ (w : Bool). cond {A = ℕ} w 1 0) up in
-    omega arith
-
--- the number of a flag that is up is below the number of flags
-pub up-within : (ws : List Bool) (i : ℕ) → waits_at ws i ≡ true → i < length ws
-up-within [] i h = absurd (let z : false ≡ true = h in cc)
-up-within (w ∷ ws) zero h = omega arith
-up-within (w ∷ ws) (suc i) h = let l = up-within ws i h in omega arith
 
 module _ {E : Type 0} (target : E → ℕ) (es : List E) where
   -- if no bucket waits, the joined lists are those of the current array

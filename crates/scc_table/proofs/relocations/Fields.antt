@@ -15,10 +15,13 @@ use Rattle.scc_buckets.specs.Tables.{overflow_in}
 use Rattle.scc_buckets.proofs.PairSplits.{by_answer}
 use Rattle.scc_draining.specs.Moves.{others_for, AreMultiples, AreOwn, TakesOver}
 use Rattle.scc_draining.specs.Drainings.{Draining}
-use Rattle.scc_table.specs.TwoArrays.{joined, waits_at, target_by, together, cleared, owed_in, owed_without, TwoArrays, IsTable, IsRelocated}
+use Rattle.scc_draining.specs.Waiting.{cleared}
+use Rattle.scc_table.specs.TwoArrays.{joined, waits_at, target_by, together, owed_in, owed_without, TwoArrays, IsTable, IsRelocated}
 use Rattle.scc_table.proofs.arrays.OneArray.{entries-alone, fields-alone, nothing-owed}
 use Rattle.scc_table.proofs.arrays.JoinedLists.{lists-together, owed-together, settings-together, refused-together, waiting-together, pending-together}
-use Rattle.scc_table.proofs.relocations.Contents.{not_equal, destined-others_none, destined-others_same, flat-others, none-up, one-down, up-within, joined-none, joined-moved}
+use Rattle.scc_draining.proofs.Flags.{none-up, one-down, up-within}
+use Rattle.scc_draining.proofs.Others.{not_equal, destined-others_none, destined-others_same, flat-others}
+use Rattle.scc_table.proofs.relocations.Contents.{joined-none, joined-moved}
 
 pub count-is : {E S : Type 0} (c : Contents E S) → bucket_count c ≡ length (lists_of c)
 unfolding bucket_count lists_of
@@ -157,6 +160,7 @@ fields-after {E} eq key hash i n c d drain vs news inv up takes down some few =
       counted = omega (arith, inv.counted);
       none = λ z. absurd (omega (arith, inv.counted));
       given_back = λ z. absurd (omega (arith, inv.counted));
+      nothing_left = λ z. absurd (omega (arith, inv.counted));
       below = λ k l. flags-after settles k ∙ (elim (dec_lt k i) [
         | yes r ↦ get_or-set_other drain.waiting i k false false (omega arith) ∙ inv.below k l
         | no r ↦ elim (dec_lt i k) [

@@ -5,7 +5,8 @@ use Rattle.scc_buckets.specs.Bounded.{IsBounded}
 use Rattle.scc_common.specs.Contents.{Contents, lists_of, settings_of, notes_of, waiting_of, pending_of}
 use Rattle.scc_buckets.proofs.PairSplits.{by_answer}
 use Rattle.scc_table.specs.Relocates.{AreShort}
-use Rattle.scc_table.specs.TwoArrays.{IsRelocated, IsWaiting, waits_at, cleared}
+use Rattle.scc_draining.specs.Waiting.{cleared}
+use Rattle.scc_table.specs.TwoArrays.{IsRelocated, IsWaiting, waits_at}
 use Rattle.scc_table.proofs.relocations.ShortLists.{short-later}
 
 set-down : (ws : List Bool) (i k : ℕ) → waits_at (set ws i false) k ≡ true → waits_at ws k ≡ true

@@ -12,7 +12,7 @@ use Rattle.scc_draining.specs.Moves.{AreMultiples}
 use Rattle.scc_table.specs.TwoArrays.{joined, waits_at, target_by, together, TwoArrays}
 use Rattle.scc_table.proofs.arrays.JoinedLists.{get-joined, length-joined}
 use Rattle.scc_table.proofs.relocations.Fields.{count-is, list-is}
-use Rattle.scc_table.proofs.relocations.Contents.{up-within}
+use Rattle.scc_draining.proofs.Flags.{up-within}
 use Rattle.scc_draining.proofs.Sublists.{flat-sub, distinct-sub}
 
 module _ {E S : Type 0} (hash : E → ℕ) (c : Contents E S) (ws : List Bool) (olds : List (Shelf E)) (arrays : TwoArrays hash c ws olds) (i : ℕ) (up : waits_at ws i ≡ true) (long : length ws ≡ bucket_count c) where

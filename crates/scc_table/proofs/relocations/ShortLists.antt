@@ -13,7 +13,8 @@ use Rattle.scc_buckets.proofs.Bounds.{none-there}
 use Rattle.scc_buckets.proofs.PairSplits.{by_answer}
 use Rattle.scc_buckets.proofs.Pours.{destined_append}
 use Rattle.scc_table.specs.Relocates.{AreShort}
-use Rattle.scc_table.specs.TwoArrays.{IsWaiting, cleared, waits_at}
+use Rattle.scc_draining.specs.Waiting.{cleared}
+use Rattle.scc_table.specs.TwoArrays.{IsWaiting, waits_at}
 use Rattle.scc_buckets.proofs.Bare.{nil-left}
 use Rattle.scc_draining.proofs.Counted.{destined-le}
 use Rattle.scc_table.proofs.resizes.Doubling.{filter-both}

@@ -7,9 +7,11 @@ use Rattle.std.proofs.lemmas.List.Sums.{sum_by-cons}
 use Rattle.scc_common.specs.Contents.{Contents, pending_of, waiting_of}
 use Rattle.scc_buckets.proofs.PairSplits.{by_answer}
 use Rattle.scc_table.specs.Relocates.{left_after}
-use Rattle.scc_table.specs.TwoArrays.{IsFirstWaiting, IsLoneWaiting, IsRelocated, IsSecondWaiting, pending_targets, cleared, waits_at}
+use Rattle.scc_draining.specs.Waiting.{cleared}
+use Rattle.scc_table.specs.TwoArrays.{IsFirstWaiting, IsLoneWaiting, IsRelocated, IsSecondWaiting, pending_targets, waits_at}
 use Rattle.scc_table.proofs.relocations.OneByOne.{pending-is}
-use Rattle.scc_table.proofs.relocations.Contents.{all-down, not_equal, one-down, up-within}
+use Rattle.scc_draining.proofs.Flags.{all-down, one-down, up-within}
+use Rattle.scc_draining.proofs.Others.{not_equal}
 
 equal : (a b : ℕ) → a ≡ b → (a == b) ≡ true
 equal a b h = search rules

@@ -215,7 +215,7 @@ module _ {E K S : Type 0} {eq : K → K → Bool} (laws : IsEquivalence eq) {key
         let news = set drain.array j (without_slot (shelf_of drain.array j) p.slot) in
         let u = together h c drain.waiting drain.array in
         let there = old-got laws inv p within far e got in
-        old-fields eq key hash c drain news (drain.left - 1) drain.left_overflow inv (arrays-less h c drain.waiting drain.array inv.arrays j p.slot e lj got) (length-set drain.array j (without_slot (shelf_of drain.array j) p.slot))
+        old-fields eq key hash c drain news (drain.left - 1) inv (arrays-less h c drain.waiting drain.array inv.arrays j p.slot e lj got) (length-set drain.array j (without_slot (shelf_of drain.array j) p.slot))
         (let n = owed-less h c drain.waiting drain.array inv.arrays j p.slot e lj got in let m = inv.left_is in omega arith)
-        (let n = spilled-less h c drain.waiting drain.array inv.arrays j p.slot e lj got in let m = inv.overflow_is in omega arith) inv.few
+        (let n = spilled-less h c drain.waiting drain.array inv.arrays j p.slot e lj got in let m = inv.overflow_is in omega arith)
         (taken-unique u (together h c drain.waiting news) (spot_of u p) within old-taken_at laws key e there inv.unique)

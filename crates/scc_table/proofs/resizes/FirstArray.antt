@@ -54,6 +54,7 @@ fields-first {E} eq key hash c d drain inv none settings still bounded =
       counted = inv.counted;
       none = inv.none;
       given_back = inv.given_back;
+      nothing_left = inv.nothing_left;
       below = inv.below;
       left_is = inv.left_is;
       overflow_is = inv.overflow_is;

@@ -20,13 +20,14 @@ use Rattle.scc_buckets.proofs.Resizes.{rests-resizes, then-resized}
 use Rattle.scc_buckets.proofs.Spots.{place-get}
 use Rattle.scc_table.specs.Places.{IsInsertedAt}
 use Rattle.scc_table.specs.Relocates.{left_after, AreMovedBeside, AreMovedFrom, AreShort, AreShortAmong, AreShortBut}
-use Rattle.scc_table.specs.TwoArrays.{pending_targets, cleared, waits_at}
+use Rattle.scc_draining.specs.Waiting.{cleared}
+use Rattle.scc_table.specs.TwoArrays.{pending_targets, waits_at}
 use Rattle.scc_table.proofs.resizes.Doubling.{destined-listed}
 use Rattle.scc_table.proofs.relocations.OneByOne.{pending-is}
 use Rattle.scc_table.proofs.insertions.OneList.{put-count, put-here, put-permuted}
 use Rattle.scc_table.proofs.places.OldSpots.{spot-own, split-list}
 use Rattle.scc_table.proofs.relocations.Fields.{others, settle-after, Settles}
-use Rattle.scc_table.proofs.relocations.Contents.{one-down, up-within}
+use Rattle.scc_draining.proofs.Flags.{one-down, up-within}
 use Rattle.scc_table.proofs.resizes.Installation.{count-up}
 use Rattle.scc_table.proofs.relocations.Targets.{targets-all, targets-but, targets-length}
 use Rattle.std.proofs.lemmas.List.{get_or-replicate}

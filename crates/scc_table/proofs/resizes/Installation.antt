@@ -28,7 +28,7 @@ use Rattle.scc_draining.proofs.Arriving.{list-were}
 use Rattle.scc_table.proofs.arrays.JoinedLists.{count-together, settings-together}
 use Rattle.scc_table.proofs.relocations.Preparation.{waiting-list}
 use Rattle.scc_table.proofs.relocations.Fields.{count-is, list-is}
-use Rattle.scc_table.proofs.relocations.Contents.{not_equal}
+use Rattle.scc_draining.proofs.Others.{not_equal}
 use Rattle.scc_draining.proofs.Sublists.{filter-none}
 
 greater : (a b m n : ℕ) → a < b → m ≡ 2 ^ a → n ≡ 2 ^ b → (1 < 2 ^ (b - a)) × (n ≡ 2 ^ (b - a) * m)
@@ -170,6 +170,7 @@ started-fields {E} eq laws key hash d n olds counted none left over table was wi
       counted = sym (count-up n);
       none = λ z. absurd (omega (arith, will.least));
       given_back = λ z. absurd (omega (arith, will.least));
+      nothing_left = λ z. absurd (omega (arith, will.least));
       below = λ i l. absurd (omega arith);
       left_is = table.counted;
       overflow_is = omega (arith, table.spilled);

@@ -12,7 +12,7 @@ use Rattle.scc_table.specs.NextPlaces.{index_on, rank_on, spot_on, IsStart, own,
 use Rattle.scc_table.specs.Takes.{owed_taken}
 use Rattle.scc_table.specs.TwoArrays.{waits_at}
 use Rattle.scc_table.proofs.places.OldSpots.{spot-old, spot-own}
-use Rattle.scc_table.proofs.relocations.Contents.{up-within}
+use Rattle.scc_draining.proofs.Flags.{up-within}
 use Rattle.scc_table.proofs.removals.OneList.{index-is, taken-exactly, taken-list}
 
 take-set : {X : Type 0} (xs : List X) (i : ℕ) (x : X) → take i (set xs i x) ≡ take i xs

@@ -51,7 +51,6 @@ where
         requires absent { position (λ e. E.Key.eq (E.key_of (E.made_of parts)) (E.key_of e)) (entries self.old) ≡ None }
         ensures { InsertsMadeFirst E.Key.eq E.key_of self.old (E.made_of parts) parts result self.new }
     {
-        self.draining.left_overflow = 0;
         self.current.insert_made_first(hash, parts)
     }
 

@@ -8,7 +8,6 @@ ghost use Rattle.std.specs.Prelude.{◌≡◌, ◌≤◌, ◌<◌, ◌^◌, ◌�
 use crate::Table;
 use scc_buckets::Place;
 use scc_common::{Hashes, Keyed, SharedVersion, Version};
-use scc_draining::{Relocation, sources};
 
 impl<E: Keyed, H: Hashes<E::Key>> Table<E, H>
 where
@@ -91,15 +90,8 @@ where
             self.now }
     {
         let count = self.current.bucket_count();
-        let (first, last) = sources(self.draining.array.len(), count, bucket);
-        let task = Relocation {
-            target: bucket,
-            count,
-            first,
-            last,
-            whole: false,
-        };
-        task.count_all(self.current.router(), &self.draining.array)
+        self.draining
+            .destined_len(self.current.router(), bucket, count)
     }
 
     /// Returns whether there is an array and the bucket of `key` holds fewer than 32 entries. Then its bucket needs no

@@ -51,12 +51,7 @@ where
         ensures unique { IsUniqueBy E.Key.eq E.key_of self.old }
     {
         let count = self.current.bucket_count();
-        let entry = self
-            .draining
-            .array
-            .remove_at(place.bucket - count, place.slot);
-        self.draining.left -= 1;
-        entry
+        self.draining.remove_at(place.bucket - count, place.slot)
     }
 
     /// Takes the entry at `place` out, without a resize. Returns it with the place of the entry that followed it, or
@@ -97,9 +92,7 @@ where
         if self.draining.array.len() <= count {
             return self.take_old(place);
         }
-        self.draining.left -= 1;
         self.draining
-            .array
             .swap_remove_at(place.bucket - count, place.slot)
     }
 }

@@ -85,13 +85,7 @@ where
             count self.old self.new }
     {
         let (old, left, left_overflow) = self.current.install(fresh, 0, 0);
-        let bare = std::mem::replace(&mut self.draining.array, old);
-        bare.destroy_empty();
-        self.draining.waiting = flags;
-        self.draining.pending = count;
-        self.draining.next = 0;
-        self.draining.left = left;
-        self.draining.left_overflow = left_overflow;
+        self.draining.begin(old, flags, count, left, left_overflow);
     }
 
     /// Installs `fresh`, an array of `count` empty buckets, and relocates `bucket` at once. Every other bucket waits,
@@ -123,14 +117,9 @@ where
             flags.as_slice(),
         ) {
             Ok(moved) => {
-                let bare = std::mem::replace(&mut self.draining.array, old);
-                bare.destroy_empty();
                 flags[bucket] = false;
-                self.draining.waiting = flags;
-                self.draining.pending = count - 1;
-                self.draining.next = 0;
-                self.draining.left = left - moved;
-                self.draining.left_overflow = overflow;
+                self.draining
+                    .begin(old, flags, count - 1, left - moved, overflow);
                 Ok(())
             }
             Err(e) => {

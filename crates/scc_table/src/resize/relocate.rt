@@ -8,9 +8,7 @@ ghost use Rattle.std.specs.List.{filter};
 ghost use Rattle.std.specs.Prelude.{◌≡◌, ◌==◌, ◌<◌, ◌+◌, false, not, ◌≤◌, ℕ, length, IfNone, IfSome, OnOk, OnErr};
 
 use crate::Table;
-use scc_array::Array;
 use scc_common::{Hashes, Keyed};
-use scc_draining::move_target;
 use std::alloc::AllocError;
 
 impl<E: Keyed, H: Hashes<E::Key>> Table<E, H>
@@ -46,7 +44,7 @@ where
         requires { 0 < pending_of self.old }
         ensures { TriesSecond self.old self.new }
     {
-        match self.second_waiting() {
+        match self.draining.second_waiting() {
             Some(bucket) => match self.relocate(bucket) {
                 Ok(()) => {}
                 Err(_) => {}
@@ -73,58 +71,7 @@ where
             self.old }
         ensures unique { IsUniqueBy E.Key.eq E.key_of self.new }
     {
-        let aside = self.draining.left_overflow;
-        match move_target(
-            &mut self.current,
-            &mut self.draining.array,
-            bucket,
-            aside,
-            self.draining.waiting.as_slice(),
-        ) {
-            Ok(moved) => {
-                self.draining.left -= moved;
-                self.draining.pending -= 1;
-                self.draining.waiting[bucket] = false;
-                if self.draining.pending == 0 {
-                    self.draining.waiting.clear();
-                    let none = Array::none(self.current.allocator());
-                    let bare = std::mem::replace(&mut self.draining.array, none);
-                    bare.destroy_empty();
-                    self.draining.left_overflow = 0;
-                }
-                Ok(())
-            }
-            Err(e) => Err(e),
-        }
-    }
-
-    /// Returns the number of the first waiting bucket.
-    fn first_waiting(&self) -> usize
-        requires { 0 < pending_of self.now }
-        ensures { IsFirstWaiting self.now result }
-    {
-        for bucket in self.draining.next..self.draining.waiting.len() {
-            if self.draining.waiting[bucket] {
-                return bucket;
-            }
-        }
-        unreachable!()
-    }
-
-    /// Returns the number of the second waiting bucket, if there is one.
-    fn second_waiting(&self) -> Option<usize>
-        requires { 0 < pending_of self.now }
-        ensures lone { IfNone result ((i : ℕ) × IsLoneWaiting self.now i) }
-        ensures second { IfSome result (λ j. (i : ℕ) × IsSecondWaiting self.now i j) }
-    {
-        let first = self.first_waiting();
-        let end = self.draining.waiting.len();
-        for bucket in first + 1..end {
-            if self.draining.waiting[bucket] {
-                return Some(bucket);
-            }
-        }
-        None
+        self.draining.relocate(&mut self.current, bucket)
     }
 
     /// Relocates the first waiting bucket, as `relocate` does. Later calls don't visit the buckets before it.
@@ -135,8 +82,7 @@ where
         ensures refused { OnErr result ((i : ℕ) × (IsFirstWaiting self.old i) × (32 < length (list_of self.old i))) }
         ensures bounded { IsBounded self.old → AreShort self.old → IsBounded self.new }
     {
-        let bucket = self.first_waiting();
-        self.draining.next = bucket;
+        let bucket = self.draining.advance();
         self.relocate(bucket)
     }
 

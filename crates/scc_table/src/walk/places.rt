@@ -9,7 +9,6 @@ ghost use Rattle.std.specs.Prelude.{◌≡◌, ◌≤◌, ◌<◌, ◌^◌, ◌+
 use crate::Table;
 use scc_buckets::Place;
 use scc_common::{Hashes, Keyed};
-use scc_draining::{Relocation, end_past, sources};
 
 impl<E: Keyed, H: Hashes<E::Key>> Table<E, H>
 where
@@ -100,20 +99,31 @@ where
             (StandsAt self.now (spots.index_of_spot self.now (record { bucket = bucket; slot = 0 }))) }
     {
         if self.is_waiting(bucket) {
-            let (first, _) = sources(
-                self.draining.array.len(),
-                self.current.bucket_count(),
-                bucket,
-            );
-            if first >= self.draining.array.len() {
-                return None;
-            }
-            return self.old_place(bucket, first, 0);
+            return self.first_old(bucket);
         }
         if self.current.list_len(bucket) == 0 {
             return None;
         }
         Some(Place { bucket, slot: 0 })
+    }
+
+    /// Returns the place of the first entry of the waiting bucket `target`, or `None`.
+    fn first_old(&self, target: usize) -> Option<Place>
+        requires { IsWaiting self.now target }
+        ensures { MatchOption result (list_of self.now target ≡ [])
+            (StandsAt self.now (spots.index_of_spot self.now (record { bucket = target; slot = 0 }))) }
+    {
+        let count = self.current.bucket_count();
+        match self
+            .draining
+            .first_spot(self.current.router(), target, count)
+        {
+            Some((old, number)) => Some(Place {
+                bucket: count + old,
+                slot: number,
+            }),
+            None => None,
+        }
     }
 
     /// Returns the place of the first entry of the waiting bucket `target` from `slot` of the old bucket `source` on,
@@ -126,16 +136,10 @@ where
             (record { bucket = target; slot = rank_on self.now target source slot }))) }
     {
         let count = self.current.bucket_count();
-        let (_, end) = sources(self.draining.array.len(), count, target);
-        let last = end_past(end, source);
-        let rest = Relocation {
-            target,
-            count,
-            first: source,
-            last,
-            whole: false,
-        };
-        match rest.spot_from(self.current.router(), &self.draining.array, slot) {
+        match self
+            .draining
+            .spot_from(self.current.router(), target, count, source, slot)
+        {
             Some((old, number)) => Some(Place {
                 bucket: count + old,
                 slot: number,

@@ -12,42 +12,21 @@ use Rattle.scc_table.proofs.Table.insert_made_and_double.Goals as goal
 
 pub double_and_relocate-requires-clause-within : goal.double_and_relocate-requires-clause-within
 double_and_relocate-requires-clause-within g c =
-    let a = c.args.self.now in
-    let m = c.insert_made_in.new.self in
-    let i = c.args.bucket in
-    let p = c.in-Ok.place in
-    let e = g.E.Made.made_of c.args.parts in
-    let put = c.in-Ok.ensures.exact in
-    let l = c.requires.new.within in
-    let counted = put-count a i e m p put l in
-    omega (arith, put.bucket)
+    let counted = put-count _ _ _ _ _ c.in-Ok.ensures.exact c.requires.new.within in
+    omega (arith, counted, c.in-Ok.ensures.exact.bucket, c.requires.new.within)
 
 pub double_and_relocate-requires-clause-slot : goal.double_and_relocate-requires-clause-slot
-double_and_relocate-requires-clause-slot g c =
-    let a = c.args.self.now in
-    let m = c.insert_made_in.new.self in
-    let i = c.args.bucket in
-    let p = c.in-Ok.place in
-    let e = g.E.Made.made_of c.args.parts in
-    let put = c.in-Ok.ensures.exact in
-    let l = c.requires.new.within in
-    let w = put-within a i e m p put l in w.slot
+double_and_relocate-requires-clause-slot g c = (put-within _ _ _ _ _ c.in-Ok.ensures.exact c.requires.new.within).slot
 
 pub double_and_relocate-requires-clause-hashed : goal.double_and_relocate-requires-clause-hashed
 double_and_relocate-requires-clause-hashed g c =
-    let a = c.args.self.now in
     let m = c.insert_made_in.new.self in
-    let i = c.args.bucket in
-    let p = c.in-Ok.place in
-    let e = g.E.Made.made_of c.args.parts in
     let put = c.in-Ok.ensures.exact in
-    let l = c.requires.new.within in
-    let counted = put-count a i e m p put l in
-    let outer = hash-same g.H.Hashes.hash_of a m put.settings in
+    let outer = hash-same g.H.Hashes.hash_of c.args.self.now m put.settings in
     λ x got.
-    let same : Some x ≡ Some e = sym got ∙ put-here a i e m p put l in
-    let here : x ≡ e = cc in
-    c.requires.new.hashed ∙ ap (λ (h : g.row.E-Key.Denot → ℕ). h (g.E.Keyed.key_of e)) (sym outer) ∙ ap (λ z. hash_in g.H.Hashes.hash_of m (g.E.Keyed.key_of z)) (sym here)
+    let same : Some x ≡ Some (g.E.Made.made_of c.args.parts) = sym got ∙ put-here _ _ _ _ _ put c.requires.new.within in
+    let here : x ≡ g.E.Made.made_of c.args.parts = cc in
+    c.requires.new.hashed ∙ ap (λ (h : g.row.E-Key.Denot → ℕ). h (g.E.Keyed.key_of (g.E.Made.made_of c.args.parts))) (sym outer) ∙ ap (λ z. hash_in g.H.Hashes.hash_of m (g.E.Keyed.key_of z)) (sym here)
 
 pub double_and_relocate-requires-clause-pending : goal.double_and_relocate-requires-clause-pending
 double_and_relocate-requires-clause-pending g c =
@@ -55,67 +34,38 @@ double_and_relocate-requires-clause-pending g c =
 
 pub double_and_relocate-requires-clause-below : goal.double_and_relocate-requires-clause-below
 double_and_relocate-requires-clause-below g c =
-    let a = c.args.self.now in
-    let m = c.insert_made_in.new.self in
-    let i = c.args.bucket in
-    let p = c.in-Ok.place in
-    let e = g.E.Made.made_of c.args.parts in
-    let put = c.in-Ok.ensures.exact in
-    let l = c.requires.new.within in
-    let counted = put-count a i e m p put l in
-    omega (arith, c.requires.below)
+    let counted = put-count _ _ _ _ _ c.in-Ok.ensures.exact c.requires.new.within in
+    omega (arith, c.requires.below, counted)
 
 pub returns-in-Ok : goal.returns-in-Ok
 returns-in-Ok g c =
     let a = c.args.self.now in
     let m = c.insert_made_in.new.self in
-    let i = c.args.bucket in
-    let p = c.in-Ok.place in
-    let e = g.E.Made.made_of c.args.parts in
     let put = c.in-Ok.ensures.exact in
-    let l = c.requires.new.within in
+    let counted = put-count _ _ _ _ _ c.in-Ok.ensures.exact c.requires.new.within in
     let d = c.double_and_relocate.new.self in
     let q = c.double_and_relocate.result in
     let r = c.double_and_relocate.ensures in
     let at : q.bucket ≡ bucket_number (settings_of a).skipped (bucket_count d) c.args.hash = r.routed ∙ ap (λ s. bucket_number s.skipped (bucket_count d) c.args.hash) put.settings in
     record {
-      ok = (
-          let counted = put-count a i e m p put l in
-          around-inserted a i e m p put l d q r.rests r.within r.here r.not_waiting);
+      ok = around-inserted _ _ _ _ _ put c.requires.new.within d q r.rests r.within r.here r.not_waiting;
       err = (search rules);
       up = (search rules);
-      doubled = (
-          let counted = put-count a i e m p put l in
-          λ ne. r.doubled (λ z. ne (z ∙ counted)) ∙ ap (λ n. 2 * n) counted);
-      due = (
-          let counted = put-count a i e m p put l in
-          λ down. r.doubled (r.due down) ∙ ap (λ n. 2 * n) counted);
-      lowered = (
-          let counted = put-count c.args.self.now c.args.bucket (g.E.Made.made_of c.args.parts) c.insert_made_in.new.self c.in-Ok.place c.in-Ok.ensures.exact c.requires.new.within in
-          λ up low z. c.double_and_relocate.ensures.due low (z ∙ sym counted));
-      fallen = (
-          let counted = put-count c.args.self.now c.args.bucket (g.E.Made.made_of c.args.parts) c.insert_made_in.new.self c.in-Ok.place c.in-Ok.ensures.exact c.requires.new.within in
-          λ ne. c.double_and_relocate.ensures.down (λ z. ne (z ∙ counted)));
+      doubled = (λ ne. r.doubled (λ z. ne (z ∙ counted)) ∙ ap (λ n. 2 * n) counted);
+      due = (λ down. r.doubled (r.due down) ∙ ap (λ n. 2 * n) counted);
+      lowered = (λ up low z. r.due low (z ∙ sym counted));
+      fallen = (λ ne. r.down (λ z. ne (z ∙ counted)));
       unmarked = (search rules);
-      none = (
-          let counted = put-count a i e m p put l in
-          λ z. r.none (z ∙ sym counted));
-      most = (
-          let counted = put-count a i e m p put l in
-          λ ne. r.most (λ z. ne (z ∙ counted)));
+      none = (λ z. r.none (z ∙ sym counted));
+      most = (λ ne. r.most (λ z. ne (z ∙ counted)));
       spread = (
-          let counted = put-count a i e m p put l in
           let hash = λ (x : g.row.E.Denot). hash_in g.H.Hashes.hash_of a (g.E.Keyed.key_of x) in
           let same = hash-same g.H.Hashes.hash_of a m put.settings in
           λ ne short.
-          let few : AreShortBut hash (bucket_count d) q.bucket m = around-short a i e m p put l hash (bucket_count d) q.bucket (at ∙ ap (bucket_number (settings_of a).skipped (bucket_count d)) c.requires.new.hashed) short in
+          let few : AreShortBut hash (bucket_count d) q.bucket m = around-short _ _ _ _ _ put c.requires.new.within hash (bucket_count d) q.bucket (at ∙ ap (bucket_number (settings_of a).skipped (bucket_count d)) c.requires.new.hashed) short in
           r.spread (λ z. ne (z ∙ counted)) (subst (λ (h : g.row.E-Key.Denot → ℕ). AreShortBut (λ x. h (g.E.Keyed.key_of x)) (bucket_count d) q.bucket m) (sym same) few) ∙ ap (λ z. left_after z (range_with_len 0 (bucket_count d))) at);
-      drained = (
-          let counted = put-count a i e m p put l in
-          λ ne. subst (λ z. AreMovedBeside z (range_with_len 0 (bucket_count d)) d) at (r.drained (λ z. ne (z ∙ counted))));
-      not_waiting = (
-          let counted = put-count a i e m p put l in
-          ap (waits_at (waiting_of d)) (sym at) ∙ r.not_waiting);
+      drained = (λ ne. subst (λ z. AreMovedBeside z (range_with_len 0 (bucket_count d)) d) at (r.drained (λ z. ne (z ∙ counted))));
+      not_waiting = (ap (waits_at (waiting_of d)) (sym at) ∙ r.not_waiting);
       unique = (search rules);
     }
 
@@ -146,10 +96,10 @@ insert_made_in-requires-clause-not_waiting g c = not_waiting-all c.args.self.now
 
 pub double_and_relocate-requires-clause-empty : goal.double_and_relocate-requires-clause-empty
 double_and_relocate-requires-clause-empty g c =
-    let counted = put-count c.args.self.now c.args.bucket (g.E.Made.made_of c.args.parts) c.insert_made_in.new.self c.in-Ok.place c.in-Ok.ensures.exact c.requires.new.within in
+    let counted = put-count _ _ _ _ _ c.in-Ok.ensures.exact c.requires.new.within in
     rw counted c.requires.empty
 
 pub double_and_relocate-requires-clause-flags : goal.double_and_relocate-requires-clause-flags
 double_and_relocate-requires-clause-flags g c =
-    let counted = put-count c.args.self.now c.args.bucket (g.E.Made.made_of c.args.parts) c.insert_made_in.new.self c.in-Ok.place c.in-Ok.ensures.exact c.requires.new.within in
+    let counted = put-count _ _ _ _ _ c.in-Ok.ensures.exact c.requires.new.within in
     rw counted c.requires.flags

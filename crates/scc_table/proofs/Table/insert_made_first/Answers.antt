@@ -64,7 +64,7 @@ invariant_of-self g c =
     let none = no-flags ws (bucket_count cur) inv.arrays.flags (sym count ∙ c.requires.none) in
     let kept : settings_of new ≡ settings_of cur = either-answer c.insert_made_first.result c.insert_made_first.ensures.ok c.insert_made_first.ensures.err (λ p i. i.holds.settings) (λ p u. u.1.settings) in
     let same = hash-same g.H.Hashes.hash_of cur new kept in
-    subst (λ (h : g.row.E-Key.Denot → ℕ). IsTable g.E.Key.PartialEq.eq g.E.Keyed.key_of h new (record (draining_of t.draining) { left_overflow = 0 })) (sym same)
+    subst (λ (h : g.row.E-Key.Denot → ℕ). IsTable g.E.Key.PartialEq.eq g.E.Keyed.key_of h new (draining_of t.draining)) (sym same)
     (fields-lone g.E.Key.PartialEq.eq g.E.Keyed.key_of hk cur new (draining_of t.draining) inv none kept (omega (arith, c.insert_made_first.ensures.few)) c.insert_made_first.ensures.unique)
 
 pub returns : goal.returns

@@ -1,7 +1,7 @@
-use Rattle.std.proofs.Common.{◌≡◌, ◌∙◌, ◌+◌, ℕ, List, length, replicate, true, inr, sym, ap, subst, arith}
+use Rattle.std.proofs.Common.{◌≡◌, ◌∙◌, ◌+◌, ℕ, length, replicate, true, inr, sym, ap, subst, arith}
 use Rattle.std.proofs.lemmas.List.{length-replicate}
 use Rattle.std.specs.List.{count_by}
-use Rattle.scc_array.specs.Shelf.{Shelf, empty_shelf}
+use Rattle.scc_array.specs.Shelf.{empty_shelf}
 use Rattle.scc_common.specs.Contents.{Settings, hash_in, overflow_of}
 use Rattle.scc_buckets.specs.Pour.{IsRegrouped}
 use Rattle.scc_common.specs.Sizes.{IsBucketCount, IsLawful}
@@ -9,7 +9,6 @@ use Rattle.scc_buckets.specs.Tables.{overflow_in}
 use Rattle.scc_buckets.proofs.Fresh.{empty-replicate}
 use Rattle.scc_buckets.proofs.MakingLemmas.{flat-empty, table-empty}
 use Rattle.scc_table.specs.TwoArrays.{together}
-use Rattle.scc_buckets.proofs.Bare.{all-bare}
 use Rattle.scc_table.proofs.arrays.OneArray.{nothing-owed, spilled-together}
 use Rattle.scc_draining.proofs.Arriving.{IsDistinct-nil}
 use Rattle.scc_table.proofs.arrays.JoinedLists.{waiting-together, pending-together, refused-together}
@@ -31,19 +30,18 @@ install-old-requires-clause-unique g c =
     let none = flat-empty (replicate n (empty_shelf {E = g.row.E.Denot})) (empty-replicate g.row.E.Denot n) in
     rw (c.requires.empty, none) (IsDistinct-nil g.E.Key.PartialEq.eq)
 
-pub destroy_empty-requires : goal.destroy_empty-requires
-destroy_empty-requires g c =
+pub begin-requires : goal.begin-requires
+begin-requires g c =
     let t = c.self.inside in
     let none = not_waiting-flags c.args.self.now c.self.invariant c.self.view_is c.requires.not_waiting in
-    let bare = nothing-owed _ t.current t.draining.waiting.items t.draining.array none c.self.invariant.arrays in
-    λ i l. rw c.replace-bare.ensures.value (all-bare t.draining.array bare i)
+    nothing-owed _ t.current t.draining.waiting.items t.draining.array none c.self.invariant.arrays
 
 pub invariant_of-self : goal.invariant_of-self
 invariant_of-self g c =
     let r = c.requires in
     let e = c.install-old.ensures in
     let x = exchanged g.met.E.Key.Eq.laws (λ (s : Settings g.row.H.Denot) (k : g.row.E-Key.Denot). g.H.Hashes.hash_of s.hasher k) c.self.invariant c.self.view_is r.not_waiting r.empty r.array r.some r.other e.lists e.settings e.spilled e.were e.table in
-    rw (c.replace-bare.ensures.after, r.flags) (begun x)
+    rw (c.begin.ensures, r.flags) (begun x)
 
 pub returns : goal.returns
 returns g c =
@@ -59,18 +57,17 @@ returns g c =
     record {
       lists = (
           let outer = hash-same g.H.Hashes.hash_of d a (settings-seen _ _ _ _ a c.self.view_is ∙ sym e.settings) in
-          rw (c.replace-bare.ensures.after, r.flags)
+          rw (c.begin.ensures, r.flags)
           (subst (λ (h : g.row.E-Key.Denot → ℕ). IsRegrouped (λ z. h (key z)) c.args.count a (together (λ z. hash_in g.H.Hashes.hash_of d (key z)) d (replicate c.args.count true) olds)) (sym outer) (begun-lists x)));
-      same = (rw (c.replace-bare.ensures.after, r.flags) (begun-same x));
-      waiting = (waiting-together _ c.install-old.new.self c.args.flags.items c.replace-bare.new.dest ∙ c.requires.flags);
-      pending = (pending-together _ c.install-old.new.self c.args.flags.items c.replace-bare.new.dest ∙ ap (count_by (λ w. w)) c.requires.flags ∙ count-up c.args.count);
-      noted = (refused-together _ c.install-old.new.self c.args.flags.items c.replace-bare.new.dest ∙ c.install-old.ensures.noted ∙ sym (refused-seen _ t.current t.draining.waiting.items t.draining.array c.args.self.now c.self.view_is));
+      same = (rw (c.begin.ensures, r.flags) (begun-same x));
+      waiting = (rw c.begin.ensures (waiting-together _ d c.args.flags.items olds ∙ r.flags));
+      pending = (rw c.begin.ensures (pending-together _ d c.args.flags.items olds ∙ ap (count_by (λ w. w)) r.flags ∙ count-up c.args.count));
+      noted = (rw c.begin.ensures (refused-together _ d c.args.flags.items olds ∙ e.noted ∙ sym (refused-seen _ cur t.draining.waiting.items t.draining.array a c.self.view_is)));
       bounded = (
-          let was = spilled-seen (λ (e : g.row.E.Denot). hash_in g.H.Hashes.hash_of cur (g.E.Keyed.key_of e)) cur t.draining.waiting.items t.draining.array c.args.self.now c.self.view_is in
-          let nothing : overflow_of d ≡ 0 = c.install-old.ensures.spilled in
-          let over : overflow_in olds ≡ overflow_of cur = sym c.install-old.ensures.table.spilled ∙ c.install-old.ensures.overflowing in
-          let now : overflow_in c.replace-bare.new.dest ≡ overflow_in olds = ap (λ (z : List (Shelf g.row.E.Denot)). overflow_in z) c.replace-bare.ensures.after in
+          let was = spilled-seen (λ (e : g.row.E.Denot). hash_in g.H.Hashes.hash_of cur (g.E.Keyed.key_of e)) cur t.draining.waiting.items t.draining.array a c.self.view_is in
+          let nothing : overflow_of d ≡ 0 = e.spilled in
+          let over : overflow_in olds ≡ overflow_of cur = sym e.table.spilled ∙ e.overflowing in
           λ none.
-          let zero : overflow_of d + overflow_in c.replace-bare.new.dest ≡ 0 = omega (arith, was, nothing, over, now, none) in
-          spilled-together (λ e. hash_in g.H.Hashes.hash_of d (g.E.Keyed.key_of e)) d c.args.flags.items c.replace-bare.new.dest ∙ zero);
+          let zero : overflow_of d + overflow_in olds ≡ 0 = omega (arith, was, nothing, over, none) in
+          rw c.begin.ensures (spilled-together (λ e. hash_in g.H.Hashes.hash_of d (g.E.Keyed.key_of e)) d c.args.flags.items olds ∙ zero));
     }

@@ -8,7 +8,6 @@ use Rattle.scc_buckets.specs.Tables.{IsBuckets}
 use Rattle.scc_buckets.proofs.Fresh.{empty-replicate}
 use Rattle.scc_buckets.proofs.MakingLemmas.{flat-empty}
 use Rattle.scc_table.specs.TwoArrays.{together, IsTable}
-use Rattle.scc_buckets.proofs.Bare.{all-bare}
 use Rattle.scc_table.proofs.arrays.OneArray.{nothing-owed}
 use Rattle.scc_draining.proofs.Arriving.{same-contents, IsDistinct-nil}
 use Rattle.scc_table.proofs.resizes.Exchange.{exchanged, begun, begun-bare, begun-count, begun-unique, begun-up, taken-fields, taken-less, taken-lists, taken-same}
@@ -68,16 +67,14 @@ move_target-requires-clause-unique g c =
     let x = exchanged g.met.E.Key.Eq.laws (λ (s : Settings g.row.H.Denot) (k : g.row.E-Key.Denot). g.H.Hashes.hash_of s.hasher k) c.self.invariant c.self.view_is r.not_waiting r.empty r.array r.some r.other e.lists e.settings e.spilled e.were e.table in
     unique-coming (begun x) _ (begun-up x r.within)
 
-pub destroy_empty-requires : goal.destroy_empty-requires
-destroy_empty-requires g c =
+pub begin-requires : goal.begin-requires
+begin-requires g c =
     let t = c.self.inside in
-    let a = c.args.self.now in
-    let none = not_waiting-flags a c.self.invariant c.self.view_is c.requires.not_waiting in
-    let bare = nothing-owed _ t.current t.draining.waiting.items t.draining.array none c.self.invariant.arrays in
-    λ i l. rw c.replace-bare.ensures.value (all-bare t.draining.array bare i)
+    let none = not_waiting-flags c.args.self.now c.self.invariant c.self.view_is c.requires.not_waiting in
+    nothing-owed _ t.current t.draining.waiting.items t.draining.array none c.self.invariant.arrays
 
-pub overflow_sub-self-in-Ok : goal.overflow_sub-self-in-Ok
-overflow_sub-self-in-Ok g c =
+pub overflow_sub-left : goal.overflow_sub-left
+overflow_sub-left g c =
     let r = c.requires in
     let e = c.install-old.ensures in
     let x = exchanged g.met.E.Key.Eq.laws (λ (s : Settings g.row.H.Denot) (k : g.row.E-Key.Denot). g.H.Hashes.hash_of s.hasher k) c.self.invariant c.self.view_is r.not_waiting r.empty r.array r.some r.other e.lists e.settings e.spilled e.were e.table in
@@ -92,7 +89,7 @@ invariant_of-self g c =
     let takes = c.in-Ok.ensures.ok in
     let later = hash-same g.H.Hashes.hash_of c.install-old.new.self c.move_target.new.current takes.settings in
     let down : set c.args.flags.items c.args.bucket false ≡ set (replicate c.args.count true) c.args.bucket false = ap (λ w. set w c.args.bucket false) r.flags in
-    rw c.replace-bare.ensures.after (subst (λ (h : g.row.E-Key.Denot → ℕ). IsTable g.E.Key.PartialEq.eq g.E.Keyed.key_of h c.move_target.new.current (record { array = c.move_target.new.old; waiting = set c.args.flags.items c.args.bucket false; pending = c.args.count - 1; next = 0; left = c.install-old.result.1 - c.in-Ok.moved; left_overflow = c.install-old.result.2 })) (sym later) (taken-fields x r.within takes down c.in-Ok.ensures.few))
+    rw c.begin.ensures (subst (λ (h : g.row.E-Key.Denot → ℕ). IsTable g.E.Key.PartialEq.eq g.E.Keyed.key_of h c.move_target.new.current (record { array = c.move_target.new.old; waiting = set c.args.flags.items c.args.bucket false; pending = c.args.count - 1; next = 0; left = c.install-old.result.1 - c.in-Ok.moved; left_overflow = c.install-old.result.2 })) (sym later) (taken-fields x r.within takes down c.in-Ok.ensures.few))
 
 pub returns-in-Ok : goal.returns-in-Ok
 returns-in-Ok g c =
@@ -112,12 +109,12 @@ returns-in-Ok g c =
       lists = (
           let outer = hash-same g.H.Hashes.hash_of c.install-old.new.self a (settings-seen _ _ _ _ a c.self.view_is ∙ sym e.settings) in
           let there = subst (λ (h : g.row.E-Key.Denot → ℕ). IsRegrouped (λ z. hash_in g.H.Hashes.hash_of c.install-old.new.self (key z)) n a (together (λ z. h (key z)) d vs news)) (sym later) (taken-lists x r.within takes down) in
-          rw c.replace-bare.ensures.after (subst (λ (h : g.row.E-Key.Denot → ℕ). IsRegrouped (λ z. h (key z)) n a (together (λ z. hash_in g.H.Hashes.hash_of d (key z)) d vs news)) (sym outer) there));
-      same = (rw c.replace-bare.ensures.after (subst (λ (h : g.row.E-Key.Denot → ℕ). IsPermutation (entries a) (entries (together (λ z. h (key z)) d vs news))) (sym later) (taken-same x r.within takes down)));
-      waiting = (waiting-together _ d vs c.replace-bare.new.dest ∙ ap (λ w. set w c.args.bucket false) r.flags ∙ sym (settle-all n c.args.bucket r.array.least r.within));
-      noted = (refused-together _ d vs c.replace-bare.new.dest ∙ takes.refused ∙ e.noted ∙ sym (refused-seen _ _ _ _ a c.self.view_is));
+          rw c.begin.ensures (subst (λ (h : g.row.E-Key.Denot → ℕ). IsRegrouped (λ z. h (key z)) n a (together (λ z. hash_in g.H.Hashes.hash_of d (key z)) d vs news)) (sym outer) there));
+      same = (rw c.begin.ensures (subst (λ (h : g.row.E-Key.Denot → ℕ). IsPermutation (entries a) (entries (together (λ z. h (key z)) d vs news))) (sym later) (taken-same x r.within takes down)));
+      waiting = (rw c.begin.ensures (waiting-together _ d vs news ∙ down ∙ sym (settle-all n c.args.bucket r.array.least r.within)));
+      noted = (rw c.begin.ensures (refused-together _ d vs news ∙ takes.refused ∙ e.noted ∙ sym (refused-seen _ _ _ _ a c.self.view_is)));
       err = (search rules);
-      unique = (rw c.replace-bare.ensures.after (subst (λ (h : g.row.E-Key.Denot → ℕ). IsTable g.E.Key.PartialEq.eq g.E.Keyed.key_of h c.move_target.new.current (record { array = c.move_target.new.old; waiting = set c.args.flags.items c.args.bucket false; pending = c.args.count - 1; next = 0; left = c.install-old.result.1 - c.in-Ok.moved; left_overflow = c.install-old.result.2 })) (sym later) (taken-fields x r.within takes down c.in-Ok.ensures.few)).unique);
+      unique = (rw c.begin.ensures (subst (λ (h : g.row.E-Key.Denot → ℕ). IsTable g.E.Key.PartialEq.eq g.E.Keyed.key_of h c.move_target.new.current (record { array = c.move_target.new.old; waiting = set c.args.flags.items c.args.bucket false; pending = c.args.count - 1; next = 0; left = c.install-old.result.1 - c.in-Ok.moved; left_overflow = c.install-old.result.2 })) (sym later) (taken-fields x r.within takes down c.in-Ok.ensures.few)).unique);
     }
 
 pub install-bare-requires-clause-table : goal.install-bare-requires-clause-table
@@ -134,8 +131,8 @@ install-bare-requires-clause-unique g c =
     let x = exchanged g.met.E.Key.Eq.laws (λ (s : Settings g.row.H.Denot) (k : g.row.E-Key.Denot). g.H.Hashes.hash_of s.hasher k) c.self.invariant c.self.view_is r.not_waiting r.empty r.array r.some r.other e.lists e.settings e.spilled e.were e.table in
     rw c.in-Err.ensures.stays (begun-unique x)
 
-pub destroy_empty-requires-in-Err : goal.destroy_empty-requires-in-Err
-destroy_empty-requires-in-Err g c =
+pub destroy_empty-requires : goal.destroy_empty-requires
+destroy_empty-requires g c =
     let r = c.requires in
     let e = c.install-old.ensures in
     let x = exchanged g.met.E.Key.Eq.laws (λ (s : Settings g.row.H.Denot) (k : g.row.E-Key.Denot). g.H.Hashes.hash_of s.hasher k) c.self.invariant c.self.view_is r.not_waiting r.empty r.array r.some r.other e.lists e.settings e.spilled e.were e.table in

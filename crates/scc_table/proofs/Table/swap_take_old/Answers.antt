@@ -1,14 +1,8 @@
-use Rattle.std.proofs.Common.{◌-◌, ◌<◌, List, length, sym, subst, arith}
-use Rattle.scc_array.specs.Shelves.{shelf_of}
-use Rattle.scc_array.specs.Shelf.{Shelf, shelf_entries}
-use Rattle.scc_common.specs.Contents.{Contents, bucket_count, hash_in}
-use Rattle.scc_buckets.specs.Placed.{at, at-get}
-use Rattle.scc_table.specs.Removals.{SwapTakesAt}
-use Rattle.scc_draining.specs.Drainings.{draining_of}
-use Rattle.scc_table.specs.TwoArrays.{together, IsTable}
+use Rattle.std.proofs.Common.{◌-◌, ◌<◌, length, arith}
+use Rattle.scc_common.specs.Contents.{bucket_count, hash_in}
 use Rattle.scc_table.proofs.arrays.OldSwaps.{swap-table, swap-takes}
-use Rattle.scc_table.proofs.arrays.OneBucket.{old-here}
-use Rattle.scc_table.proofs.removals.OldEntry.{entry-far, entry-some, entry-there}
+use Rattle.scc_table.proofs.arrays.OneBucket.{left-most, old-here}
+use Rattle.scc_table.proofs.removals.OldEntry.{entry-far, entry-there}
 use Rattle.scc_table.proofs.removals.OneList.{swapped-count, swapped-moved, swapped-unique, taken-swapped}
 use Rattle.scc_table.proofs.arrays.Writes.{place-seen}
 use Rattle.scc_table.specs.Places.{spot_of}
@@ -32,11 +26,8 @@ returns-then-len-count g c =
       unique = (swapped-unique now after q c.requires.place taken g.met.E.Key.Eq.laws g.E.Keyed.key_of c.take_old.result c.take_old.ensures.entry c.take_old.ensures.unique);
     }
 
-pub overflow_sub-self : goal.overflow_sub-self
-overflow_sub-self g c =
-    let es = shelf_entries (shelf_of c.self.inside.draining.array (c.args.place.bucket - c.bucket_count-count.result)) in
-    let slot = (entry-there g.met.E.Key.Eq.laws c.self.invariant c.self.view_is c.args.place c.requires.place c.requires.old c.bucket_count-count.ensures.count).1 in
-    entry-some g.met.E.Key.Eq.laws c.self.invariant c.self.view_is c.args.place c.requires.place c.requires.old c.bucket_count-count.ensures.count (at es c.args.place.slot slot) (at-get es c.args.place.slot slot)
+pub swap_remove_at-requires-clause-left : goal.swap_remove_at-requires-clause-left
+swap_remove_at-requires-clause-left g c = left-most c.self.invariant _ (entry-there g.met.E.Key.Eq.laws c.self.invariant c.self.view_is c.args.place c.requires.place c.requires.old c.bucket_count-count.ensures.count).0
 
 pub overflow_sub-place : goal.overflow_sub-place
 overflow_sub-place g c = entry-far g.met.E.Key.Eq.laws c.self.invariant c.self.view_is c.args.place c.requires.place c.requires.old c.bucket_count-count.ensures.count
@@ -65,8 +56,7 @@ invariant_of-self g c =
     let laws = g.met.E.Key.Eq.laws in
     let j = p.bucket - n in
     let x = c.swap_remove_at.result in
-    subst (λ ns. IsTable g.E.Key.PartialEq.eq key hk cur (record (draining_of t.draining) { array = ns; left = t.draining.left - 1 })) (sym c.swap_remove_at.ensures.others)
-    (swap-table laws inv p within j there.0 there.1 x c.swap_remove_at.ensures.entry fewer)
+    rw c.swap_remove_at.ensures.others (swap-table laws inv p within j there.0 there.1 x c.swap_remove_at.ensures.entry fewer)
 
 pub returns : goal.returns
 returns g c =
@@ -86,9 +76,5 @@ returns g c =
     let laws = g.met.E.Key.Eq.laws in
     let j = p.bucket - n in
     let x = c.swap_remove_at.result in
-    let olds = t.draining.array in
-    let ws = t.draining.waiting.items in
     let takes = swap-takes laws inv p within j there.0 there.1 x c.swap_remove_at.ensures.entry fewer in
-    let after = λ (ns : List (Shelf g.row.E.Denot)). together (λ e. hk (key e)) cur ws ns in
-    subst (λ (z : Contents g.row.E.Denot g.row.H.Denot). SwapTakesAt g.E.Key.PartialEq.eq key z p x (after c.swap_remove_at.new.self)) view
-    (subst (λ ns. SwapTakesAt g.E.Key.PartialEq.eq key (together (λ e. hk (key e)) cur ws olds) p x (after ns)) (sym c.swap_remove_at.ensures.others) takes)
+    rw (c.swap_remove_at.ensures.others, ← c.self.view_is) takes

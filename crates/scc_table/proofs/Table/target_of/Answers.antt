@@ -3,7 +3,8 @@ use Rattle.scc_array.specs.Shelves.{shelf_of}
 use Rattle.scc_array.specs.Shelf.{shelf_entries}
 use Rattle.scc_common.specs.Contents.{hash_in, settings_of}
 use Rattle.scc_common.specs.Routing.{bucket_number}
-use Rattle.scc_table.proofs.places.NextPlaces.{slot-below, few-entries}
+use Rattle.scc_draining.proofs.FromBuckets.{few-entries}
+use Rattle.scc_table.proofs.places.NextPlaces.{slot-below}
 use Rattle.scc_table.proofs.places.Targets.{target-old, target-own}
 use Rattle.scc_table.proofs.arrays.OneBucket.{old-here, own-here}
 use Rattle.scc_table.proofs.Table.target_of.Goals as goal
