@@ -103,9 +103,41 @@ impl<E> Array<E> {
 
 impl<E: Made> Array<E> {
     /// Makes an entry of `parts`, and puts it into the next slot of the bucket or at the end of the overflow list.
-    /// Makes room for it first. If memory is refused, `parts` are handed back, and the entries stay.
+    /// Makes room in the list first. If memory is refused, `parts` are handed back, and the entries stay.
     #[inline(always)]
     pub fn insert_made(
+        &mut self,
+        bucket: usize,
+        parts: E::Parts,
+        tag: u8,
+    ) -> Result<usize, E::Parts>
+        requires bucket { bucket < length self.old }
+        requires few { length (shelf_entries (shelf_of self.old bucket)) < 2 ^ 63 }
+        requires tag { 0 < tag }
+        ensures ok { IfOk result (λ p. (p ≡ next_slot (shelf_of self.old bucket))
+            × (self.new ≡ slice_set self.old bucket
+            (record (with_entry (shelf_of self.old bucket) (E.made_of parts) tag)
+            { room = (shelf_of self.new bucket).room }))) }
+        ensures err { IfErr result (λ x. (x ≡ parts)
+            × (self.new ≡ slice_set self.old bucket
+            (record (shelf_of self.old bucket) { room = (shelf_of self.new bucket).room }))) }
+    {
+        let count = self.columns.count(bucket);
+        if count >= 32 {
+            return self.insert_made_in_list(bucket, parts, tag);
+        }
+        match E::make(self.alloc, parts) {
+            Ok(entry) => {
+                self.columns.push_at(bucket, count, entry, tag);
+                Ok(count)
+            }
+            Err(parts) => Err(parts),
+        }
+    }
+
+    /// Does what `insert_made` does for any bucket, with a look at its room before the entry is made.
+    #[cold]
+    fn insert_made_in_list(
         &mut self,
         bucket: usize,
         parts: E::Parts,
