@@ -12,6 +12,7 @@ pub record MakesRoom {E K H X R : Type 0} (hash : K → ℕ) (key : E → K) (fo
   pub present : IsSome found → IsOk result × (d ≡ c)
   -- if k is missing and the call succeeds, an insertion of k is prepared
   pub ok : found ≡ None → OnOk result (Prepares hash key c (hash k) d)
+  -- if k is missing, note and mark are those of a preparation
   pub marks : found ≡ None → MarksPreparation hash key c (hash k) d
   -- a growth is marked only if it was, or if refused memory is noted
   pub marked : IsMarked d → IsMarked c ⊎ IsNoteUp d
