@@ -1,15 +1,16 @@
 -- A bucket without entries, which the entries of an old array fill, or which stays as it is.
-use Rattle.std.proofs.Common.{◌≡◌, ℕ, ◌+◌, ◌^◌, ◌<◌, ◌≤◌, Bool, List, [], length, map, set, refl, sym, subst, Result}
+use Rattle.std.proofs.Common.{◌≡◌, ℕ, ◌+◌, ◌^◌, ◌<◌, ◌≤◌, Bool, List, [], length, map, set, refl, sym, ◌∙◌, subst, arith, Result}
 use Rattle.std.specs.List.{flat_map, IsDistinct}
-use Rattle.scc_array.specs.Shelf.{Shelf, shelf_entries}
+use Rattle.scc_array.specs.Shelf.{Shelf, empty_shelf, shelf_entries}
 use Rattle.scc_array.specs.Shelves.{shelf_of}
 use Rattle.scc_buckets.specs.Pour.{destined_for}
 use Rattle.scc_buckets.specs.Tables.{IsBuckets}
 use Rattle.scc_buckets.proofs.Arrays.{shelf-at}
 use Rattle.scc_buckets.proofs.Inserts.{bucket-bound}
-use Rattle.scc_common.specs.Contents.{Contents, lists_of, IsUniqueBy}
+use Rattle.scc_buckets.proofs.Views.{count-view, lists-view, settings-view, view_of}
+use Rattle.scc_common.specs.Contents.{Contents, Settings, bucket_count, hash_in, list_of, lists_of, settings_of, IsUniqueBy}
 use Rattle.scc_draining.specs.Filling.{Fills}
-use Rattle.scc_draining.proofs.Arriving.{Landed, landed-from, landed-list, landed-spilled, landed-table, distinct-landed, any-ok}
+use Rattle.scc_draining.proofs.Arriving.{Landed, is-bare, list-were, landed-from, landed-list, landed-spilled, landed-table, distinct-landed, any-ok}
 use Rattle.scc_draining.proofs.Buckets.{still-within}
 
 -- the bucket i of the table bs held no entry, and is filled by the entries of olds that belong to it, so that the array
@@ -55,3 +56,28 @@ module _ {E X : Type 0} {hash : E → ℕ} {t i : ℕ} {bs olds news ns : List (
       let es = destined_for hash t (length bs) i (flat_map shelf_entries olds) in
       subst (λ (z : List (Shelf E)). IsDistinct eq (map key (flat_map shelf_entries z))) (sym x.fills.others)
       (distinct-landed eq key c bs were i (shelf_of ns i) es (shelf_of bs i) x.within (shelf-at bs i x.within) x.bare (landed-list hash t i bs (shelf_of bs i) (flat_map shelf_entries olds) left (shelf_of ns i) landed-in) unique there)
+
+-- bs is the array of c, whose list i is empty
+module _ {E K S : Type 0} (hash_of : S → K → ℕ) (key : E → K) {c : Contents E S} {bs : List (Shelf E)} {s : Settings S} {f : Bool × Bool} (view : view_of f bs s ≡ c) {count over : ℕ} (table : IsBuckets (λ e. hash_of s.hasher (key e)) s.skipped bs count over) (i : ℕ) (target : i < bucket_count c) (none : list_of c i ≡ []) where
+  pub target-within : i < length bs
+  target-within = let n = count-view bs s c view in omega (arith, target, n)
+
+  pub target-bare : shelf_entries (shelf_of bs i) ≡ []
+  target-bare = sym (list-were c bs (lists-view bs s c view) i (shelf_of bs i) target-within (shelf-at bs i target-within)) ∙ none
+
+  pub target-empty : shelf_of bs i ≡ record empty_shelf { room = (shelf_of bs i).room }
+  target-empty = is-bare (λ e. hash_of s.hasher (key e)) s.skipped i bs (shelf_of bs i) (table.own i (shelf_of bs i) target-within (shelf-at bs i target-within)) target-bare
+
+  pub target-filled : {X : Type 0} {n left coming : ℕ} {olds news ns : List (Shelf E)} {r : Result (Unit {0}) X} → n ≡ bucket_count c → length (destined_for (λ e. hash_in hash_of c (key e)) (settings_of c).skipped (bucket_count c) i (flat_map shelf_entries olds)) ≤ coming
+      → Fills (λ e. hash_of s.hasher (key e)) s.skipped n i coming left bs olds r ns news → IsFilled (λ e. hash_of s.hasher (key e)) s.skipped i bs olds news ns count over left coming r
+  target-filled {left = left} {coming = coming} {olds = olds} {news = news} {ns = ns} {r = r} size most fills =
+      let es = flat_map shelf_entries olds in
+      let counted = count-view bs s c view in
+      let made = subst (λ (z : Settings S). length (destined_for (λ e. hash_of z.hasher (key e)) z.skipped (bucket_count c) i es) ≤ coming) (settings-view bs s c view) most in
+      record {
+        table = table;
+        within = target-within;
+        bare = target-bare;
+        most = subst (λ m. length (destined_for (λ e. hash_of s.hasher (key e)) s.skipped m i es) ≤ coming) counted made;
+        fills = subst (λ m. Fills (λ e. hash_of s.hasher (key e)) s.skipped m i coming left bs olds r ns news) (size ∙ counted) fills;
+      }

@@ -1,3 +1,4 @@
+pub mod Answered
 pub mod AtEnds
 pub mod CurrentArray
 pub mod FreeBucket

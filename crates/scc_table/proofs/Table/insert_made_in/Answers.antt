@@ -1,100 +1,36 @@
-use Rattle.std.proofs.Common.{◌≡◌, ◌∙◌, ◌<◌, ℕ, ◌+◌, ◌^◌, true, false, inl, inr, map, sym, ap, subst, arith, rules}
-use Rattle.std.specs.List.{IsDistinct}
-use Rattle.scc_common.specs.Contents.{entries, owed_of, hash_in, settings_of, overflow_of}
-use Rattle.scc_buckets.specs.OneList.{HasSameLists, IsPutIn}
-use Rattle.scc_draining.specs.Drainings.{draining_of}
-use Rattle.scc_table.specs.TwoArrays.{IsTable, together}
-use Rattle.scc_table.proofs.arrays.JoinedLists.{waiting-together}
-use Rattle.scc_table.proofs.arrays.Notes.{fields-less, owed-kept}
-use Rattle.scc_table.proofs.insertions.CurrentArray.{unique-answered, fields-put, owed-put, put-together, same-together, new-own}
-use Rattle.scc_table.proofs.arrays.SameParts.{by-answer, hash-same, if-ok, on-err}
-use Rattle.scc_table.proofs.arrays.Views.{settings-seen, waiting-seen}
-use Rattle.scc_table.proofs.arrays.OneBucket.{flag-down, within-own}
+use Rattle.std.proofs.Common.{◌≡◌, true, false, inl, inr, arith, rules}
+use Rattle.scc_table.proofs.arrays.OneBucket.{within-own}
+use Rattle.scc_table.proofs.insertions.Answered.{answered-fields, answered-new, answered-owed, answered-put, answered-stays, answered-unique, answered-waiting}
 use Rattle.scc_table.proofs.Table.insert_made_in.Goals as goal
 use Rattle.scc_table.proofs.Table.insert_made_in.Goals.{then-self-gt0+else-has_no_room, else-self-gt0}
 
 pub insert_made_in-requires : goal.insert_made_in-requires
-insert_made_in-requires g c =
-    let t = c.self.inside in
-    let hash = λ (e : g.row.E.Denot). hash_in g.H.Hashes.hash_of t.current (g.E.Keyed.key_of e) in
-    let settings = settings-seen hash t.current t.draining.waiting.items t.draining.array c.args.self.now c.self.view_is in
-    new-own c.self.invariant c.self.view_is (hash-same g.H.Hashes.hash_of t.current c.args.self.now settings) c.requires.new
+insert_made_in-requires g c = answered-new g.H.Hashes.hash_of c.self.invariant c.self.view_is c.requires.new
 
 pub list_len-listed-requires : goal.list_len-listed-requires
-list_len-listed-requires g c =
-    let within = within-own c.self.invariant c.self.view_is c.requires.new.within in
-    within
+list_len-listed-requires g c = within-own c.self.invariant c.self.view_is c.requires.new.within
 
 pub invariant_of-self : goal.invariant_of-self
 invariant_of-self g c =
-    let t = c.self.inside in
-    let cur = t.current in
-    let ws = t.draining.waiting.items in
-    let olds = t.draining.array in
-    let i = c.args.bucket in
-    let inv = c.self.invariant in
-    let hk = hash_in g.H.Hashes.hash_of cur in
-    let hash = λ (e : g.row.E.Denot). hk (g.E.Keyed.key_of e) in
-    let view = c.self.view_is in
-    let settings = settings-seen hash cur ws olds c.args.self.now view in
-    let outer = hash-same g.H.Hashes.hash_of cur c.args.self.now settings in
-    let within = within-own c.self.invariant c.self.view_is c.requires.new.within in
-    let down = flag-down c.self.invariant _ c.self.view_is c.requires.not_waiting in
-    let new = c.insert_made_in.new.self in
-    let after : settings_of new ≡ settings_of cur = by-answer c.insert_made_in.result c.insert_made_in.ensures.exact c.insert_made_in.ensures.stays (λ p put. put.settings) (λ z. z.settings) in
-    let inner = hash-same g.H.Hashes.hash_of cur new after in
-    let IsAfter = IsTable g.E.Key.PartialEq.eq g.E.Keyed.key_of hk new (draining_of t.draining) in
-    let there : IsAfter = by-answer c.insert_made_in.result c.insert_made_in.ensures.exact c.insert_made_in.ensures.stays
-    (λ p put.
-    let left : overflow_of new + t.draining.left_overflow < 2 ^ 62 = elim c.if-self-gt0.branch [
+    answered-fields g.met.E.Key.Eq.laws g.H.Hashes.hash_of c.self.invariant c.self.view_is (g.E.Made.made_of c.args.parts) _ _ c.requires.new c.requires.not_waiting c.insert_made_in.new.self c.insert_made_in.result c.insert_made_in.ensures.exact c.insert_made_in.ensures.stays
+    (λ p put. elim c.if-self-gt0.branch [
       | then-self-gt0+else-has_no_room w ↦
           let was = w.overflow_len-spilled.ensures.value in
           elim (w.if-has_no_room.ensures.room (λ h. absurd (let z : false ≡ true = h in cc))) [
-            | inl q ↦ let s = put.short (omega (arith, w.list_len-listed.ensures.len)) in omega (arith, inv.few)
+            | inl q ↦ let s = put.short (omega (arith, w.list_len-listed.ensures.len)) in omega (arith, c.self.invariant.few)
             | inr q ↦ omega (arith, put.spilled)
           ]
       | else-self-gt0 w ↦ let z = w.if-self-gt0.false in omega (arith, c.insert_made_in.ensures.few)
-    ] in
-    fields-put g.E.Key.PartialEq.eq g.met.E.Key.Eq.laws g.E.Keyed.key_of hk cur (draining_of t.draining) inv c.args.self.now view (g.E.Made.made_of c.args.parts) i new p put within down left c.requires.new.absent)
-    (λ z. fields-less g.E.Key.PartialEq.eq g.E.Keyed.key_of hk cur new (draining_of t.draining) z.lists (ap (λ s. s.skipped) z.settings) z.spilled inv) in
-    subst (λ (h : g.row.E-Key.Denot → ℕ). IsTable g.E.Key.PartialEq.eq g.E.Keyed.key_of h new (draining_of t.draining)) (sym inner) there
+    ])
 
 pub returns : goal.returns
 returns g c =
-    let t = c.self.inside in
-    let cur = t.current in
-    let ws = t.draining.waiting.items in
-    let olds = t.draining.array in
-    let i = c.args.bucket in
-    let inv = c.self.invariant in
-    let hk = hash_in g.H.Hashes.hash_of cur in
-    let hash = λ (e : g.row.E.Denot). hk (g.E.Keyed.key_of e) in
-    let view = c.self.view_is in
-    let settings = settings-seen hash cur ws olds c.args.self.now view in
-    let outer = hash-same g.H.Hashes.hash_of cur c.args.self.now settings in
-    let within = within-own c.self.invariant c.self.view_is c.requires.new.within in
-    let down = flag-down c.self.invariant _ c.self.view_is c.requires.not_waiting in
-    let new = c.insert_made_in.new.self in
-    let after : settings_of new ≡ settings_of cur = by-answer c.insert_made_in.result c.insert_made_in.ensures.exact c.insert_made_in.ensures.stays (λ p put. put.settings) (λ z. z.settings) in
-    let inner = hash-same g.H.Hashes.hash_of cur new after in
     record {
-      exact = (
-          if-ok c.insert_made_in.result
-          (λ p put. subst (λ (h : g.row.E-Key.Denot → ℕ). IsPutIn c.args.self.now i (g.E.Made.made_of c.args.parts) (together (λ e. h (g.E.Keyed.key_of e)) new ws olds) p) (sym inner) (put-together g.E.Keyed.key_of hk cur ws olds inv.arrays c.args.self.now view (g.E.Made.made_of c.args.parts) i new p put within down))
-          c.insert_made_in.ensures.exact);
+      exact = answered-put g.met.E.Key.Eq.laws g.H.Hashes.hash_of c.self.invariant c.self.view_is (g.E.Made.made_of c.args.parts) _ _ c.requires.new c.requires.not_waiting c.insert_made_in.new.self c.insert_made_in.result c.insert_made_in.ensures.exact c.insert_made_in.ensures.stays;
       err = (search rules);
-      stays = (
-          on-err c.insert_made_in.result
-          (λ z. subst (λ (h : g.row.E-Key.Denot → ℕ). HasSameLists c.args.self.now (together (λ e. h (g.E.Keyed.key_of e)) new ws olds)) (sym inner) (subst (λ x. HasSameLists x (together hash new ws olds)) view (same-together hash cur new ws olds z)))
-          c.insert_made_in.ensures.stays);
+      stays = answered-stays g.met.E.Key.Eq.laws g.H.Hashes.hash_of c.self.invariant c.self.view_is (g.E.Made.made_of c.args.parts) _ _ c.requires.new c.requires.not_waiting c.insert_made_in.new.self c.insert_made_in.result c.insert_made_in.ensures.exact c.insert_made_in.ensures.stays;
       full = (search rules);
-      waiting = (waiting-together _ c.insert_made_in.new.self t.draining.waiting.items t.draining.array ∙ sym (waiting-seen _ t.current t.draining.waiting.items t.draining.array c.args.self.now c.self.view_is));
-      owed = (
-          let there : owed_of (together hash new ws olds) ≡ owed_of c.args.self.now = by-answer c.insert_made_in.result c.insert_made_in.ensures.exact c.insert_made_in.ensures.stays
-          (λ p put. owed-put g.E.Keyed.key_of hk cur ws olds inv.arrays c.args.self.now view (g.E.Made.made_of c.args.parts) i new p put within down)
-          (λ z. owed-kept hash cur new ws olds z.lists (ap (λ s. s.skipped) z.settings) ∙ ap owed_of view) in
-          subst (λ (h : g.row.E-Key.Denot → ℕ). owed_of (together (λ e. h (g.E.Keyed.key_of e)) new ws olds) ≡ owed_of c.args.self.now) (sym inner) there);
-      unique = (
-          subst (λ (h : g.row.E-Key.Denot → ℕ). IsDistinct g.E.Key.PartialEq.eq (map g.E.Keyed.key_of (entries (together (λ e. h (g.E.Keyed.key_of e)) new ws olds)))) (sym inner)
-          (unique-answered g.met.E.Key.Eq.laws inv view (g.E.Made.made_of c.args.parts) i new c.insert_made_in.result c.insert_made_in.ensures.exact c.insert_made_in.ensures.stays within down c.requires.new.absent));
+      waiting = answered-waiting g.met.E.Key.Eq.laws g.H.Hashes.hash_of c.self.invariant c.self.view_is (g.E.Made.made_of c.args.parts) _ _ c.requires.new c.requires.not_waiting c.insert_made_in.new.self c.insert_made_in.result c.insert_made_in.ensures.exact c.insert_made_in.ensures.stays;
+      owed = answered-owed g.met.E.Key.Eq.laws g.H.Hashes.hash_of c.self.invariant c.self.view_is (g.E.Made.made_of c.args.parts) _ _ c.requires.new c.requires.not_waiting c.insert_made_in.new.self c.insert_made_in.result c.insert_made_in.ensures.exact c.insert_made_in.ensures.stays;
+      unique = answered-unique g.met.E.Key.Eq.laws g.H.Hashes.hash_of c.self.invariant c.self.view_is (g.E.Made.made_of c.args.parts) _ _ c.requires.new c.requires.not_waiting c.insert_made_in.new.self c.insert_made_in.result c.insert_made_in.ensures.exact c.insert_made_in.ensures.stays;
     }

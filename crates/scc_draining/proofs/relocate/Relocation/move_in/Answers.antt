@@ -7,8 +7,8 @@ use Rattle.scc_buckets.proofs.Inserts.{table-bound}
 use Rattle.scc_buckets.proofs.Views.{count-view, entries-view, lists-view, owed-view, refused-view, settings-view, spilled-view, view_of, waiting-view}
 use Rattle.scc_common.specs.Contents.{Settings, bucket_count, hash_in, lists_of, overflow_of, settings_of, IsRouted, IsUniqueBy}
 use Rattle.scc_draining.specs.Moves.{Drains}
-use Rattle.scc_draining.proofs.Arriving.{is-bare, list-were, lists-set, same-contents, same-lists}
-use Rattle.scc_draining.proofs.Filled.{IsFilled, bucket-filled, distinct-filled, spilled-filled, spilled-none, table-filled, within-filled}
+use Rattle.scc_draining.proofs.Arriving.{lists-set, same-contents, same-lists}
+use Rattle.scc_draining.proofs.Filled.{IsFilled, bucket-filled, distinct-filled, spilled-filled, spilled-none, table-filled, target-empty, target-filled, target-within, within-filled}
 use Rattle.scc_draining.proofs.relocate.Relocation.move_in.Goals as goal
 use Rattle.scc_draining.proofs.relocate.Relocation.move_in.Goals.{in-Ok, in-Err}
 
@@ -28,174 +28,60 @@ fill-filled-requires-clause-coming g c =
     rw c.requires.count (rw (made, hash_in) at c.requires.coming)
 
 pub fill-filled-requires-clause-target : goal.fill-filled-requires-clause-target
-fill-filled-requires-clause-target g c =
-    let cur = c.args.current.now in
-    let bs = c.current.inside.buckets in
-    let i = c.args.self.now.target in
-    let counted = count-view bs _ cur c.current.view_is in
-    let l : i < length bs = omega (arith, counted, c.requires.target) in
-    l
+fill-filled-requires-clause-target g c = target-within g.H.Hashes.hash_of g.E.Keyed.key_of c.current.view_is c.current.invariant.table c.args.self.now.target c.requires.target c.requires.bare
 
 pub fill-filled-requires-clause-empty : goal.fill-filled-requires-clause-empty
-fill-filled-requires-clause-empty g c =
-    let cur = c.args.current.now in
-    let bs = c.current.inside.buckets in
-    let i = c.args.self.now.target in
-    let counted = count-view bs _ cur c.current.view_is in
-    let l : i < length bs = omega (arith, counted, c.requires.target) in
-    let b = shelf_of bs i in
-    let at = shelf-at bs i l in
-    let bare : shelf_entries b ≡ [] = sym (list-were cur bs (lists-view bs _ cur c.current.view_is) i b l at) ∙ c.requires.bare in
-    let hash = λ (e : g.row.E.Denot). g.H.Hashes.hash_of c.current.inside.router.hasher (g.E.Keyed.key_of e) in
-    is-bare hash c.current.inside.router.skipped i bs b (c.current.invariant.table.own i b l at) bare
+fill-filled-requires-clause-empty g c = target-empty g.H.Hashes.hash_of g.E.Keyed.key_of c.current.view_is c.current.invariant.table c.args.self.now.target c.requires.target c.requires.bare
 
 pub bucket_len-moved-requires-clause-bucket : goal.bucket_len-moved-requires-clause-bucket
-bucket_len-moved-requires-clause-bucket g c =
-    let cur = c.args.current.now in
-    let bs = c.current.inside.buckets in
-    let i = c.args.self.now.target in
-    let counted = count-view bs _ cur c.current.view_is in
-    let l : i < length bs = omega (arith, counted, c.requires.target) in
-    let b = shelf_of bs i in
-    let at = shelf-at bs i l in
-    let bare : shelf_entries b ≡ [] = sym (list-were cur bs (lists-view bs _ cur c.current.view_is) i b l at) ∙ c.requires.bare in
-    let made = settings-view bs _ cur c.current.view_is in
-    let t = c.current.inside.router.skipped in
-    let hash = λ (e : g.row.E.Denot). g.H.Hashes.hash_of c.current.inside.router.hasher (g.E.Keyed.key_of e) in
-    let n : c.args.self.now.count ≡ length bs = c.requires.count ∙ counted in
-    let ns = c.fill-filled.new.into in
-    let x : IsFilled hash t i bs c.args.old.now c.fill-filled.new.old ns c.current.inside.length c.current.inside.overflowing c.overflow_room-left.result c.args.coming c.fill-filled.result =
-    record { table = c.current.invariant.table; within = l; bare = bare; most = rw (made, counted, hash_in) at c.requires.coming; fills = rw n at c.fill-filled.ensures } in
-    within-filled x
+bucket_len-moved-requires-clause-bucket g c = within-filled (target-filled g.H.Hashes.hash_of g.E.Keyed.key_of c.current.view_is c.current.invariant.table c.args.self.now.target c.requires.target c.requires.bare c.requires.count c.requires.coming c.fill-filled.ensures)
 
 pub bucket_len-moved-requires-clause-few : goal.bucket_len-moved-requires-clause-few
 bucket_len-moved-requires-clause-few g c =
-    let cur = c.args.current.now in
-    let bs = c.current.inside.buckets in
-    let i = c.args.self.now.target in
-    let counted = count-view bs _ cur c.current.view_is in
-    let l : i < length bs = omega (arith, counted, c.requires.target) in
-    let b = shelf_of bs i in
-    let at = shelf-at bs i l in
-    let bare : shelf_entries b ≡ [] = sym (list-were cur bs (lists-view bs _ cur c.current.view_is) i b l at) ∙ c.requires.bare in
-    let made = settings-view bs _ cur c.current.view_is in
-    let t = c.current.inside.router.skipped in
-    let hash = λ (e : g.row.E.Denot). g.H.Hashes.hash_of c.current.inside.router.hasher (g.E.Keyed.key_of e) in
-    let n : c.args.self.now.count ≡ length bs = c.requires.count ∙ counted in
-    let ns = c.fill-filled.new.into in
-    let x : IsFilled hash t i bs c.args.old.now c.fill-filled.new.old ns c.current.inside.length c.current.inside.overflowing c.overflow_room-left.result c.args.coming c.fill-filled.result =
-    record { table = c.current.invariant.table; within = l; bare = bare; most = rw (made, counted, hash_in) at c.requires.coming; fills = rw n at c.fill-filled.ensures } in
+    let x = target-filled g.H.Hashes.hash_of g.E.Keyed.key_of c.current.view_is c.current.invariant.table c.args.self.now.target c.requires.target c.requires.bare c.requires.count c.requires.coming c.fill-filled.ensures in
     let few : c.current.inside.overflowing + c.overflow_room-left.result < 2 ^ 62 = omega (arith, c.overflow_room-left.ensures) in
     bucket-filled x few
 
 pub overflow_add-current : goal.overflow_add-current
 overflow_add-current g c =
-    let cur = c.args.current.now in
-    let bs = c.current.inside.buckets in
-    let i = c.args.self.now.target in
-    let counted = count-view bs _ cur c.current.view_is in
-    let l : i < length bs = omega (arith, counted, c.requires.target) in
-    let b = shelf_of bs i in
-    let at = shelf-at bs i l in
-    let bare : shelf_entries b ≡ [] = sym (list-were cur bs (lists-view bs _ cur c.current.view_is) i b l at) ∙ c.requires.bare in
-    let made = settings-view bs _ cur c.current.view_is in
-    let t = c.current.inside.router.skipped in
-    let hash = λ (e : g.row.E.Denot). g.H.Hashes.hash_of c.current.inside.router.hasher (g.E.Keyed.key_of e) in
-    let n : c.args.self.now.count ≡ length bs = c.requires.count ∙ counted in
-    let ns = c.fill-filled.new.into in
-    let x : IsFilled hash t i bs c.args.old.now c.fill-filled.new.old ns c.current.inside.length c.current.inside.overflowing c.overflow_room-left.result c.args.coming c.fill-filled.result =
-    record { table = c.current.invariant.table; within = l; bare = bare; most = rw (made, counted, hash_in) at c.requires.coming; fills = rw n at c.fill-filled.ensures } in
+    let x = target-filled g.H.Hashes.hash_of g.E.Keyed.key_of c.current.view_is c.current.invariant.table c.args.self.now.target c.requires.target c.requires.bare c.requires.count c.requires.coming c.fill-filled.ensures in
     let few : c.current.inside.overflowing + c.overflow_room-left.result < 2 ^ 62 = omega (arith, c.overflow_room-left.ensures) in
-    let moved : c.bucket_len-moved.result ≡ length (shelf_entries (shelf_of ns i)) = c.bucket_len-moved.ensures in
-    let most = table-bound hash t _ _ ns (table-filled x few) in
-    record { fits = omega (arith, moved, most) }
+    let most = table-bound _ _ _ _ c.fill-filled.new.into (table-filled x few) in
+    record { fits = omega (arith, c.bucket_len-moved.ensures, most) }
 
 pub overflow_len-requires : goal.overflow_len-requires
-overflow_len-requires g c =
-    let cur = c.args.current.now in
-    let bs = c.current.inside.buckets in
-    let i = c.args.self.now.target in
-    let counted = count-view bs _ cur c.current.view_is in
-    let l : i < length bs = omega (arith, counted, c.requires.target) in
-    let b = shelf_of bs i in
-    let at = shelf-at bs i l in
-    let bare : shelf_entries b ≡ [] = sym (list-were cur bs (lists-view bs _ cur c.current.view_is) i b l at) ∙ c.requires.bare in
-    let made = settings-view bs _ cur c.current.view_is in
-    let t = c.current.inside.router.skipped in
-    let hash = λ (e : g.row.E.Denot). g.H.Hashes.hash_of c.current.inside.router.hasher (g.E.Keyed.key_of e) in
-    let n : c.args.self.now.count ≡ length bs = c.requires.count ∙ counted in
-    let ns = c.fill-filled.new.into in
-    let x : IsFilled hash t i bs c.args.old.now c.fill-filled.new.old ns c.current.inside.length c.current.inside.overflowing c.overflow_room-left.result c.args.coming c.fill-filled.result =
-    record { table = c.current.invariant.table; within = l; bare = bare; most = rw (made, counted, hash_in) at c.requires.coming; fills = rw n at c.fill-filled.ensures } in
-    within-filled x
+overflow_len-requires g c = within-filled (target-filled g.H.Hashes.hash_of g.E.Keyed.key_of c.current.view_is c.current.invariant.table c.args.self.now.target c.requires.target c.requires.bare c.requires.count c.requires.coming c.fill-filled.ensures)
 
 pub overflow_add-current-2 : goal.overflow_add-current-2
 overflow_add-current-2 g c =
-    let cur = c.args.current.now in
-    let bs = c.current.inside.buckets in
-    let i = c.args.self.now.target in
-    let counted = count-view bs _ cur c.current.view_is in
-    let l : i < length bs = omega (arith, counted, c.requires.target) in
-    let b = shelf_of bs i in
-    let at = shelf-at bs i l in
-    let bare : shelf_entries b ≡ [] = sym (list-were cur bs (lists-view bs _ cur c.current.view_is) i b l at) ∙ c.requires.bare in
-    let made = settings-view bs _ cur c.current.view_is in
-    let t = c.current.inside.router.skipped in
-    let hash = λ (e : g.row.E.Denot). g.H.Hashes.hash_of c.current.inside.router.hasher (g.E.Keyed.key_of e) in
-    let n : c.args.self.now.count ≡ length bs = c.requires.count ∙ counted in
-    let ns = c.fill-filled.new.into in
-    let x : IsFilled hash t i bs c.args.old.now c.fill-filled.new.old ns c.current.inside.length c.current.inside.overflowing c.overflow_room-left.result c.args.coming c.fill-filled.result =
-    record { table = c.current.invariant.table; within = l; bare = bare; most = rw (made, counted, hash_in) at c.requires.coming; fills = rw n at c.fill-filled.ensures } in
+    let x = target-filled g.H.Hashes.hash_of g.E.Keyed.key_of c.current.view_is c.current.invariant.table c.args.self.now.target c.requires.target c.requires.bare c.requires.count c.requires.coming c.fill-filled.ensures in
     let few : c.current.inside.overflowing + c.overflow_room-left.result < 2 ^ 62 = omega (arith, c.overflow_room-left.ensures) in
-    let spilled : c.overflow_len.result ≡ length (shelf_of ns i).overflow = c.overflow_len.ensures in
-    record { fits = let z = (table-filled x few).few in omega (arith, spilled, z) }
+    let filled = table-filled x few in
+    record { fits = omega (arith, c.overflow_len.ensures, filled.few) }
 
 pub invariant_of-current : goal.invariant_of-current
 invariant_of-current g c =
+    let x = target-filled g.H.Hashes.hash_of g.E.Keyed.key_of c.current.view_is c.current.invariant.table c.args.self.now.target c.requires.target c.requires.bare c.requires.count c.requires.coming c.fill-filled.ensures in
+    let few : c.current.inside.overflowing + c.overflow_room-left.result < 2 ^ 62 = omega (arith, c.overflow_room-left.ensures) in
     let cur = c.args.current.now in
     let bs = c.current.inside.buckets in
-    let i = c.args.self.now.target in
-    let counted = count-view bs _ cur c.current.view_is in
-    let l : i < length bs = omega (arith, counted, c.requires.target) in
-    let b = shelf_of bs i in
-    let at = shelf-at bs i l in
-    let bare : shelf_entries b ≡ [] = sym (list-were cur bs (lists-view bs _ cur c.current.view_is) i b l at) ∙ c.requires.bare in
-    let made = settings-view bs _ cur c.current.view_is in
-    let t = c.current.inside.router.skipped in
-    let hash = λ (e : g.row.E.Denot). g.H.Hashes.hash_of c.current.inside.router.hasher (g.E.Keyed.key_of e) in
-    let n : c.args.self.now.count ≡ length bs = c.requires.count ∙ counted in
-    let ns = c.fill-filled.new.into in
-    let x : IsFilled hash t i bs c.args.old.now c.fill-filled.new.old ns c.current.inside.length c.current.inside.overflowing c.overflow_room-left.result c.args.coming c.fill-filled.result =
-    record { table = c.current.invariant.table; within = l; bare = bare; most = rw (made, counted, hash_in) at c.requires.coming; fills = rw n at c.fill-filled.ensures } in
-    let few : c.current.inside.overflowing + c.overflow_room-left.result < 2 ^ 62 = omega (arith, c.overflow_room-left.ensures) in
-    let moved : c.bucket_len-moved.result ≡ length (shelf_entries (shelf_of ns i)) = c.bucket_len-moved.ensures in
-    let spilled : c.overflow_len.result ≡ length (shelf_of ns i).overflow = c.overflow_len.ensures in
-    let there = rw (made, counted, hash_in) at c.requires.unique in
+    let there = rw (settings-view bs _ cur c.current.view_is, count-view bs _ cur c.current.view_is, hash_in) at c.requires.unique in
     let unique : IsUniqueBy g.E.Key.PartialEq.eq g.E.Keyed.key_of cur = rw (entries-view bs _ cur c.current.view_is) c.current.invariant.unique in
     record {
-      table = rw (moved, spilled) (table-filled x few);
+      table = rw (c.bucket_len-moved.ensures, c.overflow_len.ensures) (table-filled x few);
       small_minimum = c.current.invariant.small_minimum;
       unique = distinct-filled x g.E.Key.PartialEq.eq g.E.Keyed.key_of cur (lists-view bs _ cur c.current.view_is) unique there;
     }
 
 pub returns : goal.returns
 returns g c =
+    let x = target-filled g.H.Hashes.hash_of g.E.Keyed.key_of c.current.view_is c.current.invariant.table c.args.self.now.target c.requires.target c.requires.bare c.requires.count c.requires.coming c.fill-filled.ensures in
+    let few : c.current.inside.overflowing + c.overflow_room-left.result < 2 ^ 62 = omega (arith, c.overflow_room-left.ensures) in
     let cur = c.args.current.now in
     let bs = c.current.inside.buckets in
-    let i = c.args.self.now.target in
-    let counted = count-view bs _ cur c.current.view_is in
-    let l : i < length bs = omega (arith, counted, c.requires.target) in
-    let b = shelf_of bs i in
-    let at = shelf-at bs i l in
-    let bare : shelf_entries b ≡ [] = sym (list-were cur bs (lists-view bs _ cur c.current.view_is) i b l at) ∙ c.requires.bare in
-    let made = settings-view bs _ cur c.current.view_is in
-    let t = c.current.inside.router.skipped in
-    let hash = λ (e : g.row.E.Denot). g.H.Hashes.hash_of c.current.inside.router.hasher (g.E.Keyed.key_of e) in
-    let n : c.args.self.now.count ≡ length bs = c.requires.count ∙ counted in
     let ns = c.fill-filled.new.into in
-    let x : IsFilled hash t i bs c.args.old.now c.fill-filled.new.old ns c.current.inside.length c.current.inside.overflowing c.overflow_room-left.result c.args.coming c.fill-filled.result =
-    record { table = c.current.invariant.table; within = l; bare = bare; most = rw (made, counted, hash_in) at c.requires.coming; fills = rw n at c.fill-filled.ensures } in
-    let few : c.current.inside.overflowing + c.overflow_room-left.result < 2 ^ 62 = omega (arith, c.overflow_room-left.ensures) in
+    let i = c.args.self.now.target in
+    let made = settings-view bs _ cur c.current.view_is in
     let moved : c.bucket_len-moved.result ≡ length (shelf_entries (shelf_of ns i)) = c.bucket_len-moved.ensures in
     let spilled : c.overflow_len.result ≡ length (shelf_of ns i).overflow = c.overflow_len.ensures in
     let were = lists-view bs _ cur c.current.view_is in
@@ -207,7 +93,7 @@ returns g c =
     let lists = lists-view ns _ d refl ∙ ap (map shelf_entries) x.fills.others ∙ lists-set g.E.Key.PartialEq.eq g.E.Keyed.key_of cur bs were i (shelf_of ns i) in
     let now = spilled-view ns _ d refl ∙ sym (table-filled x few).spilled in
     let khash = λ (e : g.row.E.Denot). hash_in g.H.Hashes.hash_of cur (g.E.Keyed.key_of e) in
-    let routed : IsRouted khash cur = rw (made, hash_in) (routed-view hash _ _ bs _ cur c.current.view_is c.current.invariant.table) in
+    let routed : IsRouted khash cur = rw (made, hash_in) (routed-view _ _ _ bs _ cur c.current.view_is c.current.invariant.table) in
     elim c.match-filled.branch [
       | in-Ok w ↦
           let drains : Drains khash (settings_of cur).skipped (bucket_count cur) i c.args.old.now empty_shelf c.fill-filled.new.old (shelf_of ns i) =
@@ -239,7 +125,7 @@ returns g c =
             ok = tt;
             few = tt;
             short = tt;
-            err = same-contents cur d (lists ∙ same-lists g.E.Key.PartialEq.eq g.E.Keyed.key_of cur bs were i (shelf_of ns i) b l at bare none) same noted (omega (arith, now, over, no_overflow))
+            err = same-contents cur d (lists ∙ same-lists g.E.Key.PartialEq.eq g.E.Keyed.key_of cur bs were i (shelf_of ns i) (shelf_of bs i) x.within (shelf-at bs i x.within) x.bare none) same noted (omega (arith, now, over, no_overflow))
                 (waiting-view ns _ d refl ∙ sym (waiting-view bs _ cur c.current.view_is)) (owed-view ns _ d refl ∙ sym (owed-view bs _ cur c.current.view_is));
             stays = w.in-Err.ensures.err;
             refused = w.in-Err.ensures.refused;
