@@ -1,7 +1,6 @@
 -- New arrays, whose buckets are empty.
-use Rattle.std.proofs.Common.{◌≡◌, ℕ, ◌<◌, List, [], length, replicate, Result, Ok, Err, ap, ◌∙◌, arith}
+use Rattle.std.proofs.Common.{◌≡◌, ℕ, ◌<◌, List, [], length, replicate, ap, ◌∙◌, arith}
 use Rattle.std.proofs.lemmas.List.{get_or-replicate, length-replicate}
-use Rattle.std.specs.Result.{IfOk}
 use Rattle.scc_array.specs.Shelves.{shelf_of}
 use Rattle.scc_array.specs.Shelf.{Shelf, empty_shelf, shelf_entries}
 use Rattle.scc_buckets.specs.Tables.{AllEmpty}
@@ -14,10 +13,6 @@ empty-replicate E n = record {
       let is : b ≡ empty_shelf = at ∙ get_or-replicate n i empty_shelf b (omega arith) in
       (ap shelf_entries is, ap (λ (s : Shelf E). s.tags) is);
 }
-
-pub if-ok : {A B : Type 0} {P Q : A → Type 0} (r : Result A B) → ((a : A) → P a → Q a) → IfOk r P → IfOk r Q
-if-ok (Ok a) f p = f a p
-if-ok (Err e) f p = tt
 
 pub all-empty : {E : Type 0} (bs : List (Shelf E)) → AllEmpty bs → (i : ℕ) → i < length bs → shelf_entries (shelf_of bs i) ≡ []
 all-empty bs h i l = (h.empty i (shelf_of bs i) l (shelf-at bs i l)).0

@@ -1,5 +1,6 @@
 -- Walks whose closure only tests: the pairs that stay are a filter of the pairs. What look-ups find after such a walk.
-use Rattle.std.proofs.Common.{◌≡◌, Bool, true, false, cond, not, List, [], ◌∷◌, ◌++◌, Option, None, Some, Result, Ok, Err, refl, sym, ap, subst, ◌∙◌, append-nil}
+use Rattle.std.proofs.Common.{◌≡◌, Bool, true, false, cond, not, List, [], ◌∷◌, ◌++◌, Option, None, Some, Result, refl, sym, ap, subst, ◌∙◌, append-nil}
+use Rattle.std.proofs.lemmas.Result.{on_ok_weaker}
 use Rattle.std.specs.Cmp.{IsEquivalence}
 use Rattle.std.specs.List.{filter, IsDistinct, AllByRecursion}
 use Rattle.std.specs.List.Sorted.{IsPermutation}
@@ -52,10 +53,6 @@ stops_taking : (b : Bool) → TakeStop ≡ cond b Take Keep → ⊥
 stops_taking true e = let h : TakeStop ≡ Take = e in cc
 stops_taking false e = let h : TakeStop ≡ Keep = e in cc
 
-on_ok : {A E P Q : Type 0} (r : Result A E) → (P → Q) → OnOk r P → OnOk r Q
-on_ok (Ok x) h p = h p
-on_ok (Err x) h p = tt
-
 -- all pairs that a walk took pass, and the others stay. If the walk went through, just the pairs that fail stay
 pub record Sorts {K V E : Type 0} (test : K × V → Bool) (es stay more : List (K × V)) (r : Result Bool E) : Type 0 where
   pub all : IsPermutation es (stay ++ more)
@@ -76,7 +73,7 @@ module _ {F K V : Type 0} (T : F → K × V → Verdict → V → F → Type 0) 
       record {
         all = subst (λ v. IsPermutation (p ∷ es) ((p.0, v) ∷ (stay ++ more))) (sym s.1) (IsPermutation-cons p es (stay ++ more) n.all);
         taken = n.taken;
-        left = on_ok r (λ h. (λ i. (p.0, s.1 i) ∷ h i) ∙ sym (cond-true (p ∷ filter (λ p. not (test p)) es) (filter (λ p. not (test p)) es) no)) n.left;
+        left = on_ok_weaker r (λ h. (λ i. (p.0, s.1 i) ∷ h i) ∙ sym (cond-true (p ∷ filter (λ p. not (test p)) es) (filter (λ p. not (test p)) es) no)) n.left;
       }
   sorted e (walks.took {f = g} {f' = g'} {p = p} {w = w} {es = es} {stay = stay} {taken = more} {r = r} t rest) =
       let s = told g p Take w g' e t in
@@ -85,7 +82,7 @@ module _ {F K V : Type 0} (T : F → K × V → Verdict → V → F → Type 0) 
       record {
         all = subst (λ v. IsPermutation (p ∷ es) (stay ++ (p.0, v) ∷ more)) (sym s.1) (IsPermutation-trans (p ∷ es) (p ∷ (stay ++ more)) (stay ++ p ∷ more) (IsPermutation-cons p es (stay ++ more) n.all) (IsPermutation-sym (stay ++ p ∷ more) (p ∷ (stay ++ more)) (IsPermutation-middle stay p more)));
         taken = (subst (λ v. test (p.0, v) ≡ true) (sym s.1) yes, n.taken);
-        left = on_ok r (λ h. h ∙ sym (cond-false (p ∷ filter (λ p. not (test p)) es) (filter (λ p. not (test p)) es) (ap not yes))) n.left;
+        left = on_ok_weaker r (λ h. h ∙ sym (cond-false (p ∷ filter (λ p. not (test p)) es) (filter (λ p. not (test p)) es) (ap not yes))) n.left;
       }
   sorted e (walks.kept_last {f = g} {f' = g'} {p = p} {w = w} t) = absurd (stops (test p) (told g p KeepStop w g' e t).0)
   sorted e (walks.took_last {f = g} {f' = g'} {p = p} {w = w} t) = absurd (stops_taking (test p) (told g p TakeStop w g' e t).0)

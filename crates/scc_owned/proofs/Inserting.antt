@@ -35,10 +35,6 @@ pub map-err : {A B : Type 0} (P Q : B → Type 0) (r : Result A B) → ((e : B) 
 map-err P Q (Ok a) f p = tt
 map-err P Q (Err e) f p = f e p
 
-pub on-err : {A B P Q : Type 0} (r : Result A B) → (P → Q) → OnErr r P → OnErr r Q
-on-err (Ok a) f p = tt
-on-err (Err b) f p = f p
-
 pub on-err3 : {A B P Q R T : Type 0} (r : Result A B) → (P → Q → R → T) → OnErr r P → OnErr r Q → OnErr r R → OnErr r T
 on-err3 (Ok a) f p q t = tt
 on-err3 (Err b) f p q t = f p q t

@@ -1,5 +1,6 @@
 -- The map's words about room say of pairs what the set's words say of keys.
 use Rattle.std.proofs.Common.{◌≡◌, ◌⊎◌, ℕ, Bool, inl, inr, map, sym, ap, subst, ◌∙◌}
+use Rattle.std.proofs.lemmas.Result.{on_err_weaker, on_ok_weaker}
 use Rattle.std.specs.Prelude.{Result}
 use Rattle.std.specs.Hash.{HashWrites}
 use Rattle.std.specs.declared.hash.Hasher as hasher
@@ -12,7 +13,7 @@ use Rattle.scc_buckets.proofs.Mapped.{Rests-mapped, Grows-mapped, HasRoomBy-mapp
 use Rattle.scc_table.specs.Marks.{MarksPreparation}
 use Rattle.scc_owned.specs.Rooms.{MakesRoom}
 use Rattle.scc_set.specs.Keys.{find, of_map}
-use Rattle.scc_set.proofs.Sets.{found-is, found-none, hash-same, none-found, on-err, on-ok, shows, waiting-keys}
+use Rattle.scc_set.proofs.Sets.{found-is, found-none, hash-same, none-found, shows, waiting-keys}
 
 pub lists-keys : {K S : Type 0} (c d : Contents (K × Unit {0}) S) → lists_of d ≡ lists_of c → lists_of (of_map d) ≡ lists_of (of_map c)
 unfolding mapped lists_of
@@ -115,10 +116,10 @@ module _ {K S T : Type 0} (build : builder.Ghosts S T) (feed : hasher.Ghosts T) 
       → MakesRoom (key_hash build feed input (of_map c)) (λ q. q) (find eq (entries (of_map c)) k) (of_map c) k result (of_map d)
   makes-hashed eq result d h = record {
     present = λ there. let p = h.present (found-is eq c k there) in (p.0, ap of_map p.1);
-    ok = λ none. on-ok result (room-hashed d) (h.ok (none-found eq c k none));
+    ok = λ none. on_ok_weaker result (room-hashed d) (h.ok (none-found eq c k none));
     marks = λ none. marks-hashed d (h.marks (none-found eq c k none));
     marked = marked-keys c d h.marked;
-    err = on-err result (λ e. (found-none eq c k e.0, (shows c).buckets ∙ e.1)) h.err;
-    same = on-err result (ap of_map) h.same;
+    err = on_err_weaker result (λ e. (found-none eq c k e.0, (shows c).buckets ∙ e.1)) h.err;
+    same = on_err_weaker result (ap of_map) h.same;
     settings = (shows d).settings ∙ h.settings ∙ sym (shows c).settings;
   }

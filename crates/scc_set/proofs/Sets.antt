@@ -256,14 +256,6 @@ pub on-none : {A P Q : Type 0} (o : Option A) → (P → Q) → IfNone o P → I
 on-none None f h = f h
 on-none (Some x) f h = tt
 
-pub on-err : {A E P Q : Type 0} (r : Result A E) → (P → Q) → OnErr r P → OnErr r Q
-on-err (Ok x) f h = tt
-on-err (Err e) f h = f h
-
-pub on-ok : {A E P Q : Type 0} (r : Result A E) → (P → Q) → OnOk r P → OnOk r Q
-on-ok (Ok x) f h = f h
-on-ok (Err e) f h = tt
-
 -- the number of a key's bucket in the set is equal to the number of its bucket in the map behind the set
 pub bucket-same : {K S T : Type 0} (build : builder.Ghosts S T) (feed : hasher.Ghosts T) (input : K → HashWrites) (c : Contents (K × Unit {0}) S) (k : K)
     → bucket_of (key_hash build feed input (of_map c)) (of_map c) k ≡ bucket_of (key_hash build feed input c) c k

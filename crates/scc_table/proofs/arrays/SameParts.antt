@@ -1,6 +1,6 @@
 -- Contents that have the same lists, or the same settings.
 use Rattle.std.proofs.Common.{◌≡◌, ℕ, ◌≤◌, Bool, List, [], length, map, get_or, Result, Ok, Err, sym, ap, ◌∙◌, subst}
-use Rattle.std.specs.Prelude.{OnOk, OnErr, IfOk, IfErr}
+use Rattle.std.specs.Prelude.{OnErr, IfOk}
 use Rattle.std.specs.List.{flat_map, slice_get, count_by, IsDistinct}
 use Rattle.scc_buckets.specs.Bounded.{IsListed}
 use Rattle.scc_common.specs.Contents.{Contents, entries, bucket_count, list_of, lists_of, settings_of, overflow_of, waiting_of, pending_of, IsUniqueBy, hash_in}
@@ -65,23 +65,6 @@ regrouped-from build hash n a b d same lists settings h = record {
   each = λ i l. h.each i l ∙ ap (λ f. destined_for f (settings_of b).skipped n i (entries b)) same ∙ ap (λ s. destined_for hash s.skipped n i (entries b)) settings ∙ ap (destined_for hash (settings_of a).skipped n i) (entries-same a b lists);
   settings = h.settings ∙ settings;
 }
-
--- if P implies Q, and P holds in one case of a result, Q holds in this case
-pub on-ok : {X Y P Q : Type 0} (r : Result X Y) → (P → Q) → OnOk r P → OnOk r Q
-on-ok (Ok x) f p = f p
-on-ok (Err y) f p = p
-
-pub on-err : {X Y P Q : Type 0} (r : Result X Y) → (P → Q) → OnErr r P → OnErr r Q
-on-err (Ok x) f p = p
-on-err (Err y) f p = f p
-
-pub if-ok : {X Y : Type 0} {P Q : X → Type 0} (r : Result X Y) → ((x : X) → P x → Q x) → IfOk r P → IfOk r Q
-if-ok (Ok x) f p = f x p
-if-ok (Err y) f p = p
-
-pub if-err : {X Y : Type 0} {P Q : Y → Type 0} (r : Result X Y) → ((y : Y) → P y → Q y) → IfErr r P → IfErr r Q
-if-err (Ok x) f p = p
-if-err (Err y) f p = f y p
 
 pub by-answer : {X Y : Type 0} {P : X → Type 0} {Q R : Type 0} (r : Result X Y) → IfOk r P → OnErr r Q → ((x : X) → P x → R) → (Q → R) → R
 by-answer (Ok x) p q f h = f x p

@@ -1,18 +1,19 @@
 -- What an insertion into a bucket that doesn't wait leaves, whether it succeeds or not.
 use Rattle.std.proofs.Common.{◌≡◌, ℕ, ◌+◌, ◌^◌, ◌<◌, Bool, false, map, Result, sym, ap, ◌∙◌, subst}
+use Rattle.std.proofs.lemmas.Result.{IfOk-weaker, on_err_weaker}
 use Rattle.std.specs.Cmp.{IsEquivalence}
 use Rattle.std.specs.List.{IsDistinct}
 use Rattle.std.specs.Prelude.{IfOk, OnErr}
 use Rattle.scc_buckets.specs.Insertions.{IsNewIn}
 use Rattle.scc_buckets.specs.OneList.{HasSameLists, IsPutIn}
 use Rattle.scc_buckets.specs.declared.place.Place.{Place}
-use Rattle.scc_common.specs.Contents.{Contents, bucket_count, entries, hash_in, overflow_of, owed_of, settings_of, waiting_of}
+use Rattle.scc_common.specs.Contents.{Contents, bucket_count, entries, hash_in, overflow_of, owed_of, waiting_of}
 use Rattle.scc_draining.specs.Drainings.{Draining}
 use Rattle.scc_table.specs.TwoArrays.{IsTable, together, waits_at}
 use Rattle.scc_table.proofs.arrays.JoinedLists.{waiting-together}
 use Rattle.scc_table.proofs.arrays.Notes.{fields-less, owed-kept}
 use Rattle.scc_table.proofs.arrays.OneBucket.{flag-down, within-own}
-use Rattle.scc_table.proofs.arrays.SameParts.{by-answer, hash-same, if-ok, on-err}
+use Rattle.scc_table.proofs.arrays.SameParts.{by-answer, hash-same}
 use Rattle.scc_table.proofs.arrays.Views.{settings-seen, waiting-seen}
 use Rattle.scc_table.proofs.insertions.CurrentArray.{fields-put, new-own, owed-put, put-together, same-together, unique-answered}
 
@@ -42,12 +43,12 @@ module _ {E K S X : Type 0} {eq : K → K → Bool} (laws : IsEquivalence eq) (h
 
   pub answered-put : IfOk r (IsPutIn a i e (together (λ x. hash_in hash_of b (key x)) b drain.waiting drain.array))
   answered-put =
-      if-ok r (λ p put. subst (λ (f : K → ℕ). IsPutIn a i e (together (λ x. f (key x)) b drain.waiting drain.array) p) (sym same) (put-together key (hash_in hash_of c) c drain.waiting drain.array inv.arrays a view e i b p put within down)) exact
+      IfOk-weaker r _ _ (λ p put. subst (λ (f : K → ℕ). IsPutIn a i e (together (λ x. f (key x)) b drain.waiting drain.array) p) (sym same) (put-together key (hash_in hash_of c) c drain.waiting drain.array inv.arrays a view e i b p put within down)) exact
 
   pub answered-stays : OnErr r (HasSameLists a (together (λ x. hash_in hash_of b (key x)) b drain.waiting drain.array))
   answered-stays =
       let hash = λ (x : E). hash_in hash_of c (key x) in
-      on-err r (λ z. subst (λ (f : K → ℕ). HasSameLists a (together (λ x. f (key x)) b drain.waiting drain.array)) (sym same) (subst (λ x. HasSameLists x (together hash b drain.waiting drain.array)) view (same-together hash c b drain.waiting drain.array z))) stays
+      on_err_weaker r (λ z. subst (λ (f : K → ℕ). HasSameLists a (together (λ x. f (key x)) b drain.waiting drain.array)) (sym same) (subst (λ x. HasSameLists x (together hash b drain.waiting drain.array)) view (same-together hash c b drain.waiting drain.array z))) stays
 
   -- the waiting buckets stay, and so does what the old array owes
   pub answered-waiting : waiting_of (together (λ x. hash_in hash_of b (key x)) b drain.waiting drain.array) ≡ waiting_of a

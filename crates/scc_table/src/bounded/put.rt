@@ -79,7 +79,7 @@ where
     /// the list holds 32 entries, first takes its first entry out, and returns that entry too. `bucket` must be the
     /// bucket of `hash`. Allocates nothing.
     #[inline(always)]
-    pub fn put_last(&mut self, bucket: usize, hash: u64, entry: E) -> (Option<E>, usize)
+    pub(crate) fn put_last(&mut self, bucket: usize, hash: u64, entry: E) -> (Option<E>, usize)
         requires new { IsNewIn E.Key.eq E.key_of (hash_in H.hash_of self.old) self.old
             bucket hash (E.key_of entry) }
         requires not_waiting { IsWaiting self.old bucket → ⊥ }

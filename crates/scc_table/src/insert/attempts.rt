@@ -137,7 +137,7 @@ where
     /// Inserts `entry`, whose key is new, into `bucket`, and returns its place. `bucket` must be the bucket of `hash`,
     /// and not wait. Fails if the bucket is full and the overflow list can't grow; then `entry` is handed back.
     #[inline(always)]
-    pub fn insert_in(&mut self, bucket: usize, hash: u64, entry: E) -> Result<Place, E>
+    pub(crate) fn insert_in(&mut self, bucket: usize, hash: u64, entry: E) -> Result<Place, E>
         requires new { IsNewIn E.Key.eq E.key_of (hash_in H.hash_of self.old) self.old
             bucket hash (E.key_of entry) }
         requires not_waiting { waits_at (waiting_of self.old) bucket ≡ false }

@@ -1,10 +1,11 @@
 use Rattle.std.proofs.Common.{arith, ap, sym, ◌∙◌}
+use Rattle.std.proofs.lemmas.Result.{on_err_weaker}
 use Rattle.std.proofs.lemmas.List.{length-map}
 use Rattle.scc_common.specs.PairWalks.{GoesOn}
 use Rattle.scc_owned.specs.Sinks.{with_units}
 use Rattle.scc_buckets.proofs.Mapped.{Holds-mapped, ShrinksWhenDue-mapped}
 use Rattle.scc_table.proofs.relocations.Mapped.{RelocatesNone-mapped}
-use Rattle.scc_set.proofs.Sets.{noted-keys, on-err, shows, smaller-keys, unique-keys, waiting-keys}
+use Rattle.scc_set.proofs.Sets.{noted-keys, shows, smaller-keys, unique-keys, waiting-keys}
 use Rattle.scc_set.proofs.Walks.{ordered-keys, callable-writes, to-key, Takes-keys, taken-keys, units-same}
 use Rattle.scc_set.proofs.Owned.iter_mut_sync.Goals as goal
 
@@ -21,7 +22,7 @@ returns g c =
       noted = rw (← c.self.view_is) (λ e. noted-keys _ _ (c.iter_mut_into.ensures.noted (ap (λ ks. with_units ks) e)));
       rests = rw (← c.self.view_is) (λ e. waiting-keys _ _ (c.iter_mut_into.ensures.rests (ap (λ ks. with_units ks) e)));
       smaller = rw (← c.self.view_is) (smaller-keys _ _ c.iter_mut_into.ensures.smaller);
-      full = on-err c.iter_mut_into.result (λ h. omega (arith, h, length-map {B = g.row.K.Denot × Unit {0}} c.iter_mut_into.new.taken.items (λ k. (k, tt)))) c.iter_mut_into.ensures.full;
+      full = on_err_weaker c.iter_mut_into.result (λ h. omega (arith, h, length-map {B = g.row.K.Denot × Unit {0}} c.iter_mut_into.new.taken.items (λ k. (k, tt)))) c.iter_mut_into.ensures.full;
       room = c.iter_mut_into.ensures.room;
       due = rw (← c.self.view_is) (λ t. ShrinksWhenDue-mapped _ _ _ (c.iter_mut_into.ensures.due (λ e. t (units-same _ _ e))));
       relocates = rw (← c.self.view_is) (RelocatesNone-mapped _ _ _ c.iter_mut_into.ensures.relocates);

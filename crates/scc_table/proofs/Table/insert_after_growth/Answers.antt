@@ -1,4 +1,5 @@
 use Rattle.std.proofs.Common.{◌≡◌, ◌∙◌, ◌-◌, ◌≤◌, ◌≢◌, ◌*◌, ℕ, length, replicate, true, false, sym, ap, subst, arith, Bool, rules}
+use Rattle.std.proofs.lemmas.Result.{IfErr-weaker, IfOk-weaker, on_err_weaker, on_ok_weaker}
 use Rattle.std.specs.List.{count_by, range_with_len}
 use Rattle.scc_common.specs.Contents.{HasRoomAt, bucket_count, entries, hash_in, minimum_of, settings_of, waiting_of}
 use Rattle.scc_buckets.specs.Pour.{IsRegrouped}
@@ -11,7 +12,7 @@ use Rattle.scc_table.specs.Relocates.{AreMovedBeside, AreShort, left_after}
 use Rattle.scc_table.specs.TwoArrays.{pending_targets, waits_at}
 use Rattle.scc_table.proofs.relocations.OneByOne.{pending-is}
 use Rattle.scc_table.proofs.resizes.Growth.{grown-spread}
-use Rattle.scc_table.proofs.arrays.SameParts.{if-err, if-ok, list-same, on-err, on-ok, pending-same}
+use Rattle.scc_table.proofs.arrays.SameParts.{list-same, pending-same}
 use Rattle.scc_table.proofs.insertions.Room.{once-made, rests-kept}
 use Rattle.scc_table.proofs.resizes.Installation.{count-up}
 use Rattle.scc_table.proofs.relocations.Targets.{all-but-two, by-two, targets-all, targets-same}
@@ -36,10 +37,10 @@ returns-in-Ok g c =
     let same : n ≡ bucket_count b = c.insert_and_relocate.ensures.buckets in
     let hash = λ (e : g.row.E.Denot). hash_in g.H.Hashes.hash_of a (g.E.Keyed.key_of e) in
     record {
-      ok = (if-ok c.insert_and_relocate.result (λ p i. rests-inserted c.args.self.now c.bucket_for_new.new.self c.insert_and_relocate.new.self c.args.entry (spot_of c.insert_and_relocate.new.self p) c.bucket_for_new.ensures.finds.rests i) c.insert_and_relocate.ensures.ok);
-      err = (if-err c.insert_and_relocate.result (λ y p. (p.0, rests-kept a b f p.1 made.rests)) c.insert_and_relocate.ensures.err);
+      ok = (IfOk-weaker c.insert_and_relocate.result _ _ (λ p i. rests-inserted c.args.self.now c.bucket_for_new.new.self c.insert_and_relocate.new.self c.args.entry (spot_of c.insert_and_relocate.new.self p) c.bucket_for_new.ensures.finds.rests i) c.insert_and_relocate.ensures.ok);
+      err = (IfErr-weaker c.insert_and_relocate.result _ _ (λ y p. (p.0, rests-kept a b f p.1 made.rests)) c.insert_and_relocate.ensures.err);
       full = (
-          on-err c.insert_and_relocate.result
+          on_err_weaker c.insert_and_relocate.result
           (λ none room.
           let had : HasRoomAt (hash_in g.H.Hashes.hash_of c.args.self.now) g.E.Keyed.key_of c.args.self.now c.args.hash = rw c.requires.hashed room in
           let same = c.bucket_for_new.ensures.finds.still had in
@@ -69,9 +70,9 @@ returns-in-Ok g c =
                 (r.0, λ e. r.1 (sym c.insert_and_relocate.ensures.buckets ∙ e));
             down = λ some ne. ap (λ (x : Bool × Bool). x.0) c.insert_and_relocate.ensures.refused ∙ c.bucket_for_new.ensures.finds.down some (λ e. ne (c.insert_and_relocate.ensures.buckets ∙ e));
           });
-      first = (on-ok c.insert_and_relocate.result (λ h. record { made = λ z. rw c.insert_and_relocate.ensures.buckets (c.in-Ok.ensures.finds.first.made z) }) c.insert_and_relocate.ensures.exact);
+      first = (on_ok_weaker c.insert_and_relocate.result (λ h. record { made = λ z. rw c.insert_and_relocate.ensures.buckets (c.in-Ok.ensures.finds.first.made z) }) c.insert_and_relocate.ensures.exact);
       none = (
-          on-err c.insert_and_relocate.result
+          on_err_weaker c.insert_and_relocate.result
           (λ full none.
           let bare = c.bucket_for_new.ensures.finds.bare none in
           absurd (full (omega (arith, c.in-Ok.ensures.finds.within), rw bare (omega arith))))
@@ -106,9 +107,9 @@ returns-in-Ok g c =
       not_waiting = (
           let settings = (rests-resizes a b made.rests).settings in
           let at = c.in-Ok.ensures.finds.routed ∙ ap (λ s. bucket_number s.skipped (bucket_count b) c.args.hash) settings ∙ ap (λ m. bucket_number (settings_of a).skipped m c.args.hash) (sym same) in
-          on-ok c.insert_and_relocate.result (subst (λ i. waits_at (waiting_of f) i ≡ false) at) c.insert_and_relocate.ensures.not_waiting);
+          on_ok_weaker c.insert_and_relocate.result (subst (λ i. waits_at (waiting_of f) i ≡ false) at) c.insert_and_relocate.ensures.not_waiting);
       exact = (
-          on-ok c.insert_and_relocate.result
+          on_ok_weaker c.insert_and_relocate.result
           (λ h some same short.
           let e : bucket_count b ≡ bucket_count a = sym c.insert_and_relocate.ensures.buckets ∙ same in
           let w = made.waiting some e in
@@ -118,7 +119,7 @@ returns-in-Ok g c =
           ∙ ap (λ i. left_after i (pending_targets a)) (c.in-Ok.ensures.finds.routed ∙ ap (λ s. bucket_number s.skipped (bucket_count b) c.args.hash) settings ∙ ap (λ m. bucket_number (settings_of a).skipped m c.args.hash) e))
           c.insert_and_relocate.ensures.exact);
       spread = (
-          on-ok c.insert_and_relocate.result
+          on_ok_weaker c.insert_and_relocate.result
           (λ h some ne.
           let other = λ (z : bucket_count b ≡ bucket_count a). ne (same ∙ z) in
           let reg : IsRegrouped hash n a b = subst (λ m. IsRegrouped hash m a b) (sym same) (made.lists some other) in
@@ -126,7 +127,7 @@ returns-in-Ok g c =
           grown-spread hash n a b f c.args.hash c.in-Ok.bucket reg all c.in-Ok.ensures.finds.routed h)
           c.insert_and_relocate.ensures.exact);
       all_but_two = (
-          on-ok c.insert_and_relocate.result
+          on_ok_weaker c.insert_and_relocate.result
           (λ h some ne short.
           let other = λ (z : bucket_count b ≡ bucket_count a). ne (same ∙ z) in
           let reg : IsRegrouped hash n a b = subst (λ m. IsRegrouped hash m a b) (sym same) (made.lists some other) in
@@ -135,7 +136,7 @@ returns-in-Ok g c =
           all-but-two _ n f (omega arith) (grown-spread hash n a b f c.args.hash c.in-Ok.bucket reg all c.in-Ok.ensures.finds.routed h short))
           c.insert_and_relocate.ensures.exact);
       by_two = (
-          on-ok c.insert_and_relocate.result
+          on_ok_weaker c.insert_and_relocate.result
           (λ h some kept short.
           let e : bucket_count b ≡ bucket_count a = sym same ∙ kept in
           let w = made.waiting some e in
@@ -143,7 +144,7 @@ returns-in-Ok g c =
           by-two c.in-Ok.bucket b f (h after) ∙ ap (λ m. m - 2) (pending-same a b w))
           c.insert_and_relocate.ensures.exact);
       moved = (
-          on-ok c.insert_and_relocate.result
+          on_ok_weaker c.insert_and_relocate.result
           (λ h some same.
           let e : bucket_count b ≡ bucket_count a = sym c.insert_and_relocate.ensures.buckets ∙ same in
           let settings = (rests-resizes a b made.rests).settings in
@@ -151,7 +152,7 @@ returns-in-Ok g c =
           subst (λ i. AreMovedBeside i (pending_targets a) f) at (subst (λ ts. AreMovedBeside c.in-Ok.bucket ts f) (targets-same a b (made.waiting some e)) h))
           c.insert_and_relocate.ensures.moved);
       drained = (
-          on-ok c.insert_and_relocate.result
+          on_ok_weaker c.insert_and_relocate.result
           (λ h some ne.
           let other = λ (z : bucket_count b ≡ bucket_count a). ne (same ∙ z) in
           let all : waiting_of b ≡ replicate n true = made.all some other ∙ ap (λ m. replicate m true) (sym same) in

@@ -1,8 +1,9 @@
 use Rattle.std.proofs.Common.{◌≡◌, ◌∙◌, ◌<◌, ◌≤◌, ℕ, true, false, inl, inr, length, sym, ap, subst, arith, rules}
+use Rattle.std.proofs.lemmas.Result.{on_err_weaker}
 use Rattle.scc_common.specs.Contents.{HasRoomBy, bucket_count, hash_in, list_of, settings_of}
 use Rattle.scc_common.specs.Routing.{bucket_number}
 use Rattle.scc_table.proofs.arrays.OneBucket.{flag-down, routed-own, within-own}
-use Rattle.scc_table.proofs.arrays.SameParts.{hash-same, on-err}
+use Rattle.scc_table.proofs.arrays.SameParts.{hash-same}
 use Rattle.scc_table.proofs.arrays.Views.{settings-seen}
 use Rattle.scc_table.proofs.insertions.Answered.{answered-fields, answered-new, answered-owed, answered-put, answered-stays, answered-unique, answered-waiting}
 use Rattle.scc_table.proofs.insertions.CurrentArray.{long-full, room-own}
@@ -69,7 +70,7 @@ returns g c =
           let t = c.self.inside in
           let hk = hash_in g.H.Hashes.hash_of t.current in
           let outer = hash-same g.H.Hashes.hash_of t.current c.args.self.now (settings-seen _ t.current t.draining.waiting.items t.draining.array c.args.self.now c.self.view_is) in
-          on-err c.insert_in.result
+          on_err_weaker c.insert_in.result
           (λ no. subst (λ (h : g.row.E-Key.Denot → ℕ). HasRoomBy h g.E.Keyed.key_of c.args.self.now (g.E.Keyed.key_of c.args.entry) → ⊥) (sym outer) (λ r. no (room-own g.E.Keyed.key_of hk t.current t.draining.waiting.items t.draining.array c.self.invariant.arrays c.args.self.now c.self.view_is (g.E.Keyed.key_of c.args.entry) r)))
           c.insert_in.ensures.full);
       waiting = answered-waiting g.met.E.Key.Eq.laws g.H.Hashes.hash_of c.self.invariant c.self.view_is c.args.entry _ _ c.requires.new c.requires.not_waiting c.insert_in.new.self c.insert_in.result c.insert_in.ensures.exact c.insert_in.ensures.stays;

@@ -1,4 +1,5 @@
 use Rattle.std.proofs.Common.{◌≡◌, ◌==◌, ◌∙◌, ◌<◌, inl, inr, true, false, length, sym, ap, subst, arith, Bool, rules}
+use Rattle.std.proofs.lemmas.Result.{on_ok_weaker}
 use Rattle.std.specs.List.{count_by}
 use Rattle.std.proofs.lemmas.List.{nil_from_length}
 use Rattle.scc_common.specs.Contents.{HasRoomAt, bucket_count, entries, hash_in, list_of, pending_of, settings_of}
@@ -11,7 +12,7 @@ use Rattle.scc_table.proofs.relocations.OneByOne.{pending-is}
 use Rattle.scc_table.proofs.places.OneList.{count-listed}
 use Rattle.scc_table.proofs.insertions.Room.{once-made}
 use Rattle.scc_table.proofs.insertions.Places.{moved-nothing, none-left}
-use Rattle.scc_table.proofs.arrays.SameParts.{any-err, on-ok}
+use Rattle.scc_table.proofs.arrays.SameParts.{any-err}
 use Rattle.scc_table.proofs.relocations.Targets.{all-but-two, by-two, targets-length}
 use Rattle.scc_table.proofs.Table.insert_made.Goals as goal
 
@@ -64,10 +65,10 @@ returns-then-pending-gt0 g c =
       exact = (search rules);
       spread = (any-ok c.insert_made_and_relocate.result (λ some ne. absurd (ne c.insert_made_and_relocate.ensures.buckets)));
       all_but_two = (any-ok c.insert_made_and_relocate.result (λ some ne. absurd (ne c.insert_made_and_relocate.ensures.buckets)));
-      by_two = (on-ok c.insert_made_and_relocate.result (λ h some same short. by-two c.bucket_at-bucket.result c.args.self.now c.insert_made_and_relocate.new.self (h short)) c.insert_made_and_relocate.ensures.exact);
+      by_two = (on_ok_weaker c.insert_made_and_relocate.result (λ h some same short. by-two c.bucket_at-bucket.result c.args.self.now c.insert_made_and_relocate.new.self (h short)) c.insert_made_and_relocate.ensures.exact);
       moved = (
           let ts = pending_targets c.args.self.now in
-          on-ok c.insert_made_and_relocate.result (λ h some same. subst (λ i. AreMovedBeside i ts c.insert_made_and_relocate.new.self) c.bucket_at-bucket.ensures.value h) c.insert_made_and_relocate.ensures.moved);
+          on_ok_weaker c.insert_made_and_relocate.result (λ h some same. subst (λ i. AreMovedBeside i ts c.insert_made_and_relocate.new.self) c.bucket_at-bucket.ensures.value h) c.insert_made_and_relocate.ensures.moved);
       drained = (any-ok c.insert_made_and_relocate.result (λ some ne. absurd (ne c.insert_made_and_relocate.ensures.buckets)));
       unique = (search rules);
     }
@@ -100,11 +101,11 @@ returns-then-list_len-lt32 g c =
       exact = (search rules);
       spread = (any-ok c.insert_made_and_relocate-then-list_len-lt32.result (λ some ne. absurd (ne c.insert_made_and_relocate-then-list_len-lt32.ensures.buckets)));
       all_but_two = (any-ok c.insert_made_and_relocate-then-list_len-lt32.result (λ some ne. absurd (ne c.insert_made_and_relocate-then-list_len-lt32.ensures.buckets)));
-      by_two = (on-ok c.insert_made_and_relocate-then-list_len-lt32.result (λ h some same short. by-two c.bucket_at-bucket.result c.args.self.now c.insert_made_and_relocate-then-list_len-lt32.new.self (h short)) c.insert_made_and_relocate-then-list_len-lt32.ensures.exact);
+      by_two = (on_ok_weaker c.insert_made_and_relocate-then-list_len-lt32.result (λ h some same short. by-two c.bucket_at-bucket.result c.args.self.now c.insert_made_and_relocate-then-list_len-lt32.new.self (h short)) c.insert_made_and_relocate-then-list_len-lt32.ensures.exact);
       moved = (
           let ts = pending_targets c.args.self.now in
           let f = c.insert_made_and_relocate-then-list_len-lt32.new.self in
-          on-ok c.insert_made_and_relocate-then-list_len-lt32.result (λ h some same. subst (λ i. AreMovedBeside i ts f) c.bucket_at-bucket.ensures.value h) c.insert_made_and_relocate-then-list_len-lt32.ensures.moved);
+          on_ok_weaker c.insert_made_and_relocate-then-list_len-lt32.result (λ h some same. subst (λ i. AreMovedBeside i ts f) c.bucket_at-bucket.ensures.value h) c.insert_made_and_relocate-then-list_len-lt32.ensures.moved);
       drained = (any-ok c.insert_made_and_relocate-then-list_len-lt32.result (λ some ne. absurd (ne c.insert_made_and_relocate-then-list_len-lt32.ensures.buckets)));
       unique = (search rules);
     }
@@ -155,9 +156,9 @@ returns g c =
           (λ some same short.
           let left : pending_of f ≡ 0 = let l = c.insert_made_full.ensures.less same in omega arith in
           none-left (bucket_number (settings_of a).skipped (bucket_count a) c.args.hash) a (pending_targets f) none (nil_from_length (pending_targets f) (targets-length f ∙ left) ∙ sym (nil_from_length (pending_targets a) (targets-length a ∙ none)))));
-      spread = (on-ok c.insert_made_full.result (λ h some ne. h ne) c.insert_made_full.ensures.spread);
+      spread = (on_ok_weaker c.insert_made_full.result (λ h some ne. h ne) c.insert_made_full.ensures.spread);
       all_but_two = (
-          on-ok c.insert_made_full.result
+          on_ok_weaker c.insert_made_full.result
           (λ h some ne short.
           let twice = c.insert_made_full.ensures.growth.doubled some ne in
           all-but-two _ (bucket_count f) f (omega arith) (h ne short))
@@ -171,6 +172,6 @@ returns g c =
           (λ some same.
           let left : pending_of f ≡ 0 = let l = c.insert_made_full.ensures.less same in omega arith in
           moved-nothing (bucket_number (settings_of a).skipped (bucket_count a) c.args.hash) a f none left));
-      drained = (on-ok c.insert_made_full.result (λ h some ne. h ne) c.insert_made_full.ensures.drained);
+      drained = (on_ok_weaker c.insert_made_full.result (λ h some ne. h ne) c.insert_made_full.ensures.drained);
       unique = (search rules);
     }

@@ -1,7 +1,8 @@
 use Rattle.std.proofs.Common.{◌∙◌, rules}
+use Rattle.std.proofs.lemmas.Result.{IfErr-weaker, IfOk-weaker, on_ok_weaker}
 use Rattle.scc_table.specs.TwoArrays.{pending_targets}
 use Rattle.scc_table.proofs.insertions.Places.{moved-relocated, relocated-fewer, relocated-inserted, relocated-left, relocated-short}
-use Rattle.scc_table.proofs.arrays.SameParts.{count-same, entries-same, if-err, if-ok, on-ok, hash-same}
+use Rattle.scc_table.proofs.arrays.SameParts.{count-same, entries-same, hash-same}
 use Rattle.scc_table.proofs.insertions.CurrentArray.{new-same}
 use Rattle.scc_table.proofs.Table.insert_made_after_relocation.Goals as goal
 
@@ -14,8 +15,8 @@ returns-in-Ok g c =
     let b = c.relocate.new.self in
     let r = c.in-Ok.ensures.ok in
     record {
-      ok = (if-ok c.insert_made_then_relocate.result (λ p h. relocated-inserted c.args.bucket c.args.self.now c.relocate.new.self c.in-Ok.ensures.ok (g.E.Made.made_of c.args.parts) c.insert_made_then_relocate.new.self p h) c.insert_made_then_relocate.ensures.ok);
-      err = (if-err c.insert_made_then_relocate.result (λ e h. (h.0, record { exact = h.1.exact ∙ entries-same a b r.lists; buckets = h.1.buckets ∙ count-same a b r.lists; settings = h.1.settings ∙ r.settings })) c.insert_made_then_relocate.ensures.err);
+      ok = (IfOk-weaker c.insert_made_then_relocate.result _ _ (λ p h. relocated-inserted c.args.bucket c.args.self.now c.relocate.new.self c.in-Ok.ensures.ok (g.E.Made.made_of c.args.parts) c.insert_made_then_relocate.new.self p h) c.insert_made_then_relocate.ensures.ok);
+      err = (IfErr-weaker c.insert_made_then_relocate.result _ _ (λ e h. (h.0, record { exact = h.1.exact ∙ entries-same a b r.lists; buckets = h.1.buckets ∙ count-same a b r.lists; settings = h.1.settings ∙ r.settings })) c.insert_made_then_relocate.ensures.err);
       full = (search rules);
       buckets = (c.insert_made_then_relocate.ensures.buckets ∙ count-same c.args.self.now c.relocate.new.self c.in-Ok.ensures.ok.lists);
       refused = (search rules);
@@ -23,7 +24,7 @@ returns-in-Ok g c =
       less = (search rules);
       most = (search rules);
       not_waiting = (search rules);
-      moved = (on-ok c.insert_made_then_relocate.result (λ h. moved-relocated c.args.bucket a b c.in-Ok.ensures.ok c.insert_made_then_relocate.new.self h) c.insert_made_then_relocate.ensures.moved);
-      exact = (on-ok c.insert_made_then_relocate.result (λ h short. relocated-left c.args.bucket a b r (pending_targets c.insert_made_then_relocate.new.self) (h (relocated-short c.args.bucket a b r short))) c.insert_made_then_relocate.ensures.exact);
+      moved = (on_ok_weaker c.insert_made_then_relocate.result (λ h. moved-relocated c.args.bucket a b c.in-Ok.ensures.ok c.insert_made_then_relocate.new.self h) c.insert_made_then_relocate.ensures.moved);
+      exact = (on_ok_weaker c.insert_made_then_relocate.result (λ h short. relocated-left c.args.bucket a b r (pending_targets c.insert_made_then_relocate.new.self) (h (relocated-short c.args.bucket a b r short))) c.insert_made_then_relocate.ensures.exact);
       unique = (search rules);
     }

@@ -1,9 +1,9 @@
 use Rattle.std.proofs.Common.{◌≡◌, ◌∙◌, true, false, sym, rules}
+use Rattle.std.proofs.lemmas.Result.{on_ok_weaker}
 use Rattle.scc_common.specs.Contents.{waiting_of}
 use Rattle.scc_buckets.proofs.PairSplits.{by_answer}
 use Rattle.scc_table.specs.TwoArrays.{pending_targets, waits_at}
 use Rattle.scc_table.proofs.insertions.Places.{moved-not_waiting, not_waiting-left}
-use Rattle.scc_table.proofs.arrays.SameParts.{on-ok}
 use Rattle.scc_table.proofs.Table.insert_made_and_relocate.Goals as goal
 
 pub returns : goal.returns
@@ -20,7 +20,7 @@ returns g c =
       less = (search rules);
       most = (search rules);
       not_waiting = (search rules);
-      moved = (on-ok c.insert_made_then_relocate.result (λ h. moved-not_waiting c.args.bucket a c.insert_made_then_relocate.new.self down h) c.insert_made_then_relocate.ensures.moved);
-      exact = (on-ok c.insert_made_then_relocate.result (λ h short. not_waiting-left c.args.bucket a (pending_targets c.insert_made_then_relocate.new.self) down (h short)) c.insert_made_then_relocate.ensures.exact);
+      moved = (on_ok_weaker c.insert_made_then_relocate.result (λ h. moved-not_waiting c.args.bucket a c.insert_made_then_relocate.new.self down h) c.insert_made_then_relocate.ensures.moved);
+      exact = (on_ok_weaker c.insert_made_then_relocate.result (λ h short. not_waiting-left c.args.bucket a (pending_targets c.insert_made_then_relocate.new.self) down (h short)) c.insert_made_then_relocate.ensures.exact);
       unique = (search rules);
     }

@@ -1,4 +1,5 @@
 use Rattle.std.proofs.Common.{◌≡◌, ◌∙◌, ℕ, None, List, map, sym, ap, subst, arith}
+use Rattle.std.proofs.lemmas.Result.{IfErr-weaker, IfOk-weaker, on_ok_weaker}
 use Rattle.std.specs.List.{position, IsDistinct}
 use Rattle.scc_common.specs.Contents.{bucket_count, hash_in, settings_of}
 use Rattle.scc_draining.specs.Drainings.{draining_of}
@@ -7,7 +8,7 @@ use Rattle.scc_table.proofs.arrays.OneArray.{entries-alone, lists-alone}
 use Rattle.scc_table.proofs.resizes.FirstArray.{no-flags}
 use Rattle.scc_table.proofs.arrays.JoinedLists.{refused-together, settings-together, waiting-together}
 use Rattle.scc_table.proofs.arrays.CurrentCalls.{fields-lone, over-first, over-grows, over-inserted, over-unchanged}
-use Rattle.scc_table.proofs.arrays.SameParts.{entries-same, hash-same, if-err, if-ok, on-ok}
+use Rattle.scc_table.proofs.arrays.SameParts.{entries-same, hash-same}
 use Rattle.scc_table.proofs.arrays.NoneWaits.{either-answer}
 use Rattle.scc_table.proofs.arrays.Views.{count-seen, lists-seen, refused-seen, settings-seen}
 use Rattle.scc_table.proofs.Table.insert_made_first.Goals as goal
@@ -88,11 +89,11 @@ returns g c =
     let after = lists-alone later new ws olds none in
     let has = settings-together later new ws olds in
     record {
-      ok = (if-ok c.insert_made_first.result (λ p i. over-inserted a cur new d before had after has (waiting-together later new ws olds ∙ none) (g.E.Made.made_of c.args.parts) p i) c.insert_made_first.ensures.ok);
-      err = (if-err c.insert_made_first.result (λ p u. (u.0, over-unchanged a cur new d before had after has u.1)) c.insert_made_first.ensures.err);
+      ok = (IfOk-weaker c.insert_made_first.result _ _ (λ p i. over-inserted a cur new d before had after has (waiting-together later new ws olds ∙ none) (g.E.Made.made_of c.args.parts) p i) c.insert_made_first.ensures.ok);
+      err = (IfErr-weaker c.insert_made_first.result _ _ (λ p u. (u.0, over-unchanged a cur new d before had after has u.1)) c.insert_made_first.ensures.err);
       growth = (over-grows a cur new d before had after has c.requires.none c.insert_made_first.ensures.growth);
       noted = (refused-together later new ws olds ∙ c.insert_made_first.ensures.noted ∙ sym (refused-seen hash cur ws olds a c.self.view_is));
-      first = (on-ok c.insert_made_first.result (λ f. over-first a cur new d before had after has f) c.insert_made_first.ensures.first);
+      first = (on_ok_weaker c.insert_made_first.result (λ f. over-first a cur new d before had after has f) c.insert_made_first.ensures.first);
       waiting = (waiting-together later new ws olds ∙ none);
       unique = (subst (λ (es : List g.row.E.Denot). IsDistinct g.E.Key.PartialEq.eq (map g.E.Keyed.key_of es)) (sym (entries-alone later new ws olds none)) c.insert_made_first.ensures.unique);
     }

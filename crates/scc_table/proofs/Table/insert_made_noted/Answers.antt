@@ -1,8 +1,9 @@
 use Rattle.std.proofs.Common.{◌∙◌, inl, sym, ap, arith, rules}
+use Rattle.std.proofs.lemmas.Result.{IfErr-weaker, IfOk-weaker}
 use Rattle.scc_buckets.proofs.Resizes.{rests-inserted}
 use Rattle.scc_table.specs.Places.{spot_of}
 use Rattle.scc_table.specs.TwoArrays.{waits_at}
-use Rattle.scc_table.proofs.arrays.SameParts.{count-same, entries-same, if-err, if-ok, pending-same, unchanged-same, hash-same}
+use Rattle.scc_table.proofs.arrays.SameParts.{count-same, entries-same, pending-same, unchanged-same, hash-same}
 use Rattle.scc_table.proofs.insertions.CurrentArray.{new-same}
 use Rattle.scc_table.proofs.Table.insert_made_noted.Goals as goal
 
@@ -16,8 +17,8 @@ returns g c =
     record {
       ok = (
           let f = c.insert_made_and_relocate.new.self in
-          if-ok c.insert_made_and_relocate.result (λ p h. rests-inserted a d f (g.E.Made.made_of c.args.parts) (spot_of f p) (inl (unchanged-same a d c.note.ensures.lists c.note.ensures.settings)) h) c.insert_made_and_relocate.ensures.ok);
-      err = (if-err c.insert_made_and_relocate.result (λ e h. (h.0, record { exact = h.1.exact ∙ entries-same a d c.note.ensures.lists; buckets = h.1.buckets ∙ count-same a d c.note.ensures.lists; settings = h.1.settings ∙ c.note.ensures.settings })) c.insert_made_and_relocate.ensures.err);
+          IfOk-weaker c.insert_made_and_relocate.result _ _ (λ p h. rests-inserted a d f (g.E.Made.made_of c.args.parts) (spot_of f p) (inl (unchanged-same a d c.note.ensures.lists c.note.ensures.settings)) h) c.insert_made_and_relocate.ensures.ok);
+      err = (IfErr-weaker c.insert_made_and_relocate.result _ _ (λ e h. (h.0, record { exact = h.1.exact ∙ entries-same a d c.note.ensures.lists; buckets = h.1.buckets ∙ count-same a d c.note.ensures.lists; settings = h.1.settings ∙ c.note.ensures.settings })) c.insert_made_and_relocate.ensures.err);
       buckets = (c.insert_made_and_relocate.ensures.buckets ∙ count-same c.args.self.now c.note.new.self c.note.ensures.lists);
       up = (search rules);
       unmarked = (search rules);

@@ -1,9 +1,10 @@
 use Rattle.std.proofs.Common.{◌≡◌, ◌∙◌, ℕ, ap, subst, arith, rules}
+use Rattle.std.proofs.lemmas.Result.{on_err_weaker, on_ok_weaker}
 use Rattle.std.specs.List.{count_by}
 use Rattle.std.specs.List.Sorted.{IsPermutation}
 use Rattle.scc_common.specs.Contents.{entries, hash_in}
 use Rattle.scc_table.proofs.relocations.OneByOne.{pending-is}
-use Rattle.scc_table.proofs.arrays.SameParts.{count-same, entries-same, hash-same, on-ok, on-err, pending-same, regrouped-from, unchanged-same}
+use Rattle.scc_table.proofs.arrays.SameParts.{count-same, entries-same, hash-same, pending-same, regrouped-from, unchanged-same}
 use Rattle.scc_table.proofs.Table.resize_to.Goals as goal
 
 pub install_fresh-requires-clause-not_waiting : goal.install_fresh-requires-clause-not_waiting
@@ -25,15 +26,15 @@ returns-in-Ok g c =
           let outer = λ (e : g.row.E.Denot). hash_in g.H.Hashes.hash_of a (g.E.Keyed.key_of e) in
           let keys = hash-same g.H.Hashes.hash_of a b c.finish.ensures.settings in
           let same : inner ≡ outer = ap (λ (h : g.row.E-Key.Denot → ℕ). let f : g.row.E.Denot → ℕ = λ e. h (g.E.Keyed.key_of e) in f) keys in
-          on-ok c.install_fresh.result (regrouped-from inner outer c.args.count a b c.install_fresh.new.self same c.finish.ensures.lists c.finish.ensures.settings) c.install_fresh.ensures.lists);
-      same = (on-ok c.install_fresh.result (λ p. subst (λ es. IsPermutation es (entries c.install_fresh.new.self)) (entries-same c.args.self.now c.finish.new.self c.finish.ensures.lists) p) c.install_fresh.ensures.same);
+          on_ok_weaker c.install_fresh.result (regrouped-from inner outer c.args.count a b c.install_fresh.new.self same c.finish.ensures.lists c.finish.ensures.settings) c.install_fresh.ensures.lists);
+      same = (on_ok_weaker c.install_fresh.result (λ p. subst (λ es. IsPermutation es (entries c.install_fresh.new.self)) (entries-same c.args.self.now c.finish.new.self c.finish.ensures.lists) p) c.install_fresh.ensures.same);
       waiting = (search rules);
       pending = (search rules);
       down = (search rules);
-      err = (on-err c.install_fresh.result (λ z. unchanged-same c.args.self.now c.install_fresh.new.self (z ∙ c.finish.ensures.lists) (c.install_fresh.ensures.settings ∙ c.finish.ensures.settings)) c.install_fresh.ensures.err);
+      err = (on_err_weaker c.install_fresh.result (λ z. unchanged-same c.args.self.now c.install_fresh.new.self (z ∙ c.finish.ensures.lists) (c.install_fresh.ensures.settings ∙ c.finish.ensures.settings)) c.install_fresh.ensures.err);
       fewer = (search rules);
-      less = (on-err c.install_fresh.result (λ z. let n = pending-same c.finish.new.self c.install_fresh.new.self z in omega (arith, c.finish.ensures.less)) c.install_fresh.ensures.stays);
-      still = (on-err c.install_fresh.result (λ z. z ∙ c.finish.ensures.lists) c.install_fresh.ensures.err);
+      less = (on_err_weaker c.install_fresh.result (λ z. let n = pending-same c.finish.new.self c.install_fresh.new.self z in omega (arith, c.finish.ensures.less)) c.install_fresh.ensures.stays);
+      still = (on_err_weaker c.install_fresh.result (λ z. z ∙ c.finish.ensures.lists) c.install_fresh.ensures.err);
       settings = (search rules);
       bounded = (λ none short. c.install_fresh.ensures.bounded (c.finish.ensures.bounded none short));
       up = (search rules);

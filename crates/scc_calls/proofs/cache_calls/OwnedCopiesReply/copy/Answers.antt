@@ -1,9 +1,9 @@
 use Rattle.std.proofs.Common.{◌∙◌, refl, sym, arith}
+use Rattle.std.proofs.lemmas.Result.{on_err_weaker}
 use Rattle.std.proofs.lemmas.Bool.Decides.{nat_tests}
 use Rattle.scc_common.specs.Contents.{key_hash}
 use Rattle.scc_buckets.proofs.PairSplits.{by_answer}
 use Rattle.scc_cache.specs.CacheSteps.{pair_of}
-use Rattle.scc_table.proofs.arrays.SameParts.{on-err}
 use Rattle.scc_calls.specs.declared.replies.Reply.TheVariants.{Exists, Old, Key, Pair, Value}
 use Rattle.scc_calls.proofs.CacheReplies.{count-lists, put-new, put-there, told-there}
 use Rattle.scc_calls.proofs.Runs.{when_err}
@@ -18,7 +18,7 @@ returns-in-None-clause-ok g c =
 pub returns-in-None-clause-refused : goal.returns-in-None-clause-refused
 returns-in-None-clause-refused g c =
     let new = put-new (key_hash g.H.BuildHasher g.H.Hasher.Hasher g.K.Hash.hash_input c.args.self.now.contents) g.K.PartialEq.eq c.args.self.now.contents c.in-Put.k c.in-Put.v (rw (c.in-Put.is, c.in-None.is) at c.requires.known) in
-    rw c.in-Put.is (rw new (on-err c.copy_evicted.result (λ h. (refl, h)) c.copy_evicted.ensures.refused))
+    rw c.in-Put.is (rw new (on_err_weaker c.copy_evicted.result (λ h. (refl, h)) c.copy_evicted.ensures.refused))
 
 pub returns-in_err-key-in-Some-clause-refused : goal.returns-in_err-key-in-Some-clause-refused
 returns-in_err-key-in-Some-clause-refused g c =

@@ -1,6 +1,6 @@
 use Rattle.std.proofs.Common.{Some, refl, arith}
+use Rattle.std.proofs.lemmas.Result.{on_err_weaker}
 use Rattle.std.proofs.lemmas.Bool.Decides.{nat_tests}
-use Rattle.scc_table.proofs.arrays.SameParts.{on-err}
 use Rattle.scc_calls.specs.declared.replies.Reply.TheVariants.{Exists, Key}
 use Rattle.scc_calls.proofs.SetCalls.{is-there, key-there}
 use Rattle.scc_calls.proofs.set_calls.OwnedCopiesReply.copy.Goals as goal
@@ -36,10 +36,10 @@ pub returns-in-Remove-clause-ok : goal.returns-in-Remove-clause-ok
 returns-in-Remove-clause-ok g c = rw c.in-Remove.is c.copy_key.ensures.ok
 
 pub returns-in-Remove-clause-refused : goal.returns-in-Remove-clause-refused
-returns-in-Remove-clause-refused g c = rw c.in-Remove.is (on-err c.copy_key.result (λ h. (refl, h)) c.copy_key.ensures.refused)
+returns-in-Remove-clause-refused g c = rw c.in-Remove.is (on_err_weaker c.copy_key.result (λ h. (refl, h)) c.copy_key.ensures.refused)
 
 pub returns-in-Read-clause-ok : goal.returns-in-Read-clause-ok
 returns-in-Read-clause-ok g c = rw c.in-Read.is c.copy_key-in-Read.ensures.ok
 
 pub returns-in-Read-clause-refused : goal.returns-in-Read-clause-refused
-returns-in-Read-clause-refused g c = rw c.in-Read.is (on-err c.copy_key-in-Read.result (λ h. (refl, h)) c.copy_key-in-Read.ensures.refused)
+returns-in-Read-clause-refused g c = rw c.in-Read.is (on_err_weaker c.copy_key-in-Read.result (λ h. (refl, h)) c.copy_key-in-Read.ensures.refused)

@@ -1,6 +1,7 @@
+use Rattle.std.proofs.lemmas.Result.{on_err_weaker}
 use Rattle.scc_common.specs.Contents.{entries}
 use Rattle.scc_buckets.proofs.Lookups.{find-position_none}
-use Rattle.scc_owned.proofs.Inserting.{on-err, on-ok2}
+use Rattle.scc_owned.proofs.Inserting.{on-ok2}
 use Rattle.scc_owned.proofs.stored.Tuple2Stored.insert_into.Goals as goal
 
 pub insert_new-requires-clause-absent : goal.insert_new-requires-clause-absent
@@ -12,7 +13,7 @@ returns g c =
     record {
       ok = done.ok;
       refused = done.refused;
-      rests = on-err c.insert_new.result (λ rests. record { rests = rests; grows = done.grows; once = done.once; relocates = done.relocates; unique = done.unique }) done.rests;
+      rests = on_err_weaker c.insert_new.result (λ rests. record { rests = rests; grows = done.grows; once = done.once; relocates = done.relocates; unique = done.unique }) done.rests;
       full = done.full;
       growth = on-ok2 c.insert_new.result (λ first more. record { grows = done.grows; first = first; once = done.once }) done.first done.first;
       relocates = done.relocates;

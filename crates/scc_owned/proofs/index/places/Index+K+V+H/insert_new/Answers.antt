@@ -1,4 +1,5 @@
 use Rattle.std.proofs.Common.{Result, Ok, Err, subst, rules}
+use Rattle.std.proofs.lemmas.Result.{on_ok_weaker}
 use Rattle.std.specs.Prelude.{IfErr}
 use Rattle.std.specs.Result.{OnOk, OnErr}
 use Rattle.scc_common.specs.Contents.{entries}
@@ -8,10 +9,6 @@ use Rattle.scc_owned.proofs.index.places.Index+K+V+H.insert_new.Goals as goal
 
 pub insert_made-requires-clause-absent : goal.insert_made-requires-clause-absent
 insert_made-requires-clause-absent g c = position-find_none (g.K.PartialEq.eq c.args.k) (entries c.self.inside.table) (rw (← c.self.view_is) at c.requires.absent)
-
-on_ok : {A B P Q : Type 0} (r : Result A B) → (P → Q) → OnOk r P → OnOk r Q
-on_ok (Ok a) f p = f p
-on_ok (Err b) f p = tt
 
 all_ok : {A B P Q R T U : Type 0} (r : Result A B) → (P → Q → R → T → U) → OnOk r P → OnOk r Q → OnOk r R → OnOk r T → OnOk r U
 all_ok (Ok a) f p q s t = f p q s t
@@ -32,7 +29,7 @@ returns g c =
       undone = (rw (← c.self.view_is) c.insert_made.ensures.undone);
       grows = (
           rw (← c.self.view_is)
-          (on_ok c.insert_made.result (λ due. record { growth = c.insert_made.ensures.growth; due = due; kept = c.insert_made.ensures.kept }) c.insert_made.ensures.due));
+          (on_ok_weaker c.insert_made.result (λ due. record { growth = c.insert_made.ensures.growth; due = due; kept = c.insert_made.ensures.kept }) c.insert_made.ensures.due));
       once = (rw (← c.self.view_is) c.insert_made.ensures.once);
       first = (rw (← c.self.view_is) c.insert_made.ensures.first);
       relocates = (rw (← c.self.view_is) record { fewer = c.insert_made.ensures.fewer; less = c.insert_made.ensures.less; most = c.insert_made.ensures.most; grown = c.insert_made.ensures.grown; array = c.insert_made.ensures.array });
