@@ -52,6 +52,11 @@ count-listed {E} hash d i routed =
     let z : i ≡ 0 + i = omega arith in
     sym (length-filter (λ e. f e == i) (flat_map (λ l. l) d.lists)) ∙ ap length (flat-at f i 0 i d.lists (λ k m e g. let y : k ≡ 0 + k = omega arith in routed.routed k m e g ∙ y) z)
 
+-- the bucket of the hash h has as many entries as its list, which has m
+pub room-listed : {E K S : Type 0} (hash : K → ℕ) (key : E → K) (d : Contents E S) (h : ℕ) {i m : ℕ} → i ≡ bucket_number (settings_of d).skipped (bucket_count d) h → IsRouted (λ e. hash (key e)) d → m ≡ length (list_of d i)
+    → count_by (λ e. bucket_number (settings_of d).skipped (bucket_count d) (hash (key e)) == bucket_number (settings_of d).skipped (bucket_count d) h) (entries d) ≡ m
+room-listed hash key d h {i} at routed len = ap (λ n. count_by (λ e. bucket_number (settings_of d).skipped (bucket_count d) (hash (key e)) == n) (entries d)) (sym at) ∙ count-listed (λ e. hash (key e)) d i routed ∙ sym len
+
 -- the entries that belong to bucket i are those of its list, in their order
 pub listed-is : {E S : Type 0} (hash : E → ℕ) (d : Contents E S) (i : ℕ) → IsRouted hash d → filter (λ e. bucket_number (settings_of d).skipped (bucket_count d) (hash e) == i) (entries d) ≡ list_of d i
 unfolding entries list_of

@@ -2,7 +2,7 @@ use Rattle.std.proofs.Common.{◌≡◌, ◌==◌, ◌∙◌, ◌<◌, length, s
 use Rattle.std.specs.List.{count_by}
 use Rattle.scc_common.specs.Contents.{HasRoomAt, bucket_count, entries, hash_in, list_of, pending_of, settings_of}
 use Rattle.scc_common.specs.Routing.{bucket_number}
-use Rattle.scc_table.proofs.places.OneList.{count-listed}
+use Rattle.scc_table.proofs.places.OneList.{room-listed}
 use Rattle.scc_table.proofs.relocations.ShortLists.{listed-none}
 use Rattle.scc_table.proofs.resizes.Below.{grows-waiting}
 use Rattle.scc_table.proofs.Table.bucket_for_new.Goals as goal
@@ -12,10 +12,7 @@ returns-then-list_len-lt32-clause-finds g c =
     let a = c.args.self.now in
     let i = c.bucket_at-bucket.result in
     let hk = hash_in g.H.Hashes.hash_of a in
-    let n = bucket_number (settings_of a).skipped (bucket_count a) c.args.hash in
-    let left : count_by (λ (e : g.row.E.Denot). bucket_number (settings_of a).skipped (bucket_count a) (hk (g.E.Keyed.key_of e)) == n) (entries a) ≡ length (list_of a i) =
-    ap (λ m. count_by (λ (e : g.row.E.Denot). bucket_number (settings_of a).skipped (bucket_count a) (hk (g.E.Keyed.key_of e)) == m) (entries a)) (sym c.bucket_at-bucket.ensures.value) ∙ count-listed (λ (e : g.row.E.Denot). hk (g.E.Keyed.key_of e)) a i c.bucket_at-bucket.ensures.routed in
-    let long = c.list_len.ensures.len in
+    let held = room-listed hk g.E.Keyed.key_of a c.args.hash c.bucket_at-bucket.ensures.value c.bucket_at-bucket.ensures.routed c.list_len.ensures.len in
     record {
       rests = (search rules);
       growth = (search rules);
@@ -48,10 +45,7 @@ returns-clause-finds g c =
     let a = c.args.self.now in
     let i = c.bucket_at-bucket.result in
     let hk = hash_in g.H.Hashes.hash_of a in
-    let n = bucket_number (settings_of a).skipped (bucket_count a) c.args.hash in
-    let left : count_by (λ (e : g.row.E.Denot). bucket_number (settings_of a).skipped (bucket_count a) (hk (g.E.Keyed.key_of e)) == n) (entries a) ≡ length (list_of a i) =
-    ap (λ m. count_by (λ (e : g.row.E.Denot). bucket_number (settings_of a).skipped (bucket_count a) (hk (g.E.Keyed.key_of e)) == m) (entries a)) (sym c.bucket_at-bucket.ensures.value) ∙ count-listed (λ (e : g.row.E.Denot). hk (g.E.Keyed.key_of e)) a i c.bucket_at-bucket.ensures.routed in
-    let long = c.list_len.ensures.len in
+    let held = room-listed hk g.E.Keyed.key_of a c.args.hash c.bucket_at-bucket.ensures.value c.bucket_at-bucket.ensures.routed c.list_len.ensures.len in
     record {
       rests = (search rules);
       growth = (search rules);

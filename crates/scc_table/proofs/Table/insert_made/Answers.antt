@@ -9,7 +9,7 @@ use Rattle.scc_table.specs.Relocates.{AreMovedBeside}
 use Rattle.scc_table.specs.TwoArrays.{pending_targets}
 use Rattle.scc_draining.proofs.Arriving.{any-ok}
 use Rattle.scc_table.proofs.relocations.OneByOne.{pending-is}
-use Rattle.scc_table.proofs.places.OneList.{count-listed}
+use Rattle.scc_table.proofs.places.OneList.{room-listed}
 use Rattle.scc_table.proofs.insertions.Room.{once-made}
 use Rattle.scc_table.proofs.insertions.Places.{moved-nothing, none-left}
 use Rattle.scc_table.proofs.arrays.SameParts.{any-err}
@@ -78,10 +78,7 @@ returns-then-list_len-lt32 g c =
     let a = c.args.self.now in
     let i = c.bucket_at-bucket.result in
     let hk = hash_in g.H.Hashes.hash_of a in
-    let n = bucket_number (settings_of a).skipped (bucket_count a) c.args.hash in
-    let left : count_by (λ (e : g.row.E.Denot). bucket_number (settings_of a).skipped (bucket_count a) (hk (g.E.Keyed.key_of e)) == n) (entries a) ≡ length (list_of a i) =
-    ap (λ m. count_by (λ (e : g.row.E.Denot). bucket_number (settings_of a).skipped (bucket_count a) (hk (g.E.Keyed.key_of e)) == m) (entries a)) (sym c.bucket_at-bucket.ensures.value) ∙ count-listed (λ (e : g.row.E.Denot). hk (g.E.Keyed.key_of e)) a i c.bucket_at-bucket.ensures.routed in
-    let long = c.list_len.ensures.len in
+    let held = room-listed hk g.E.Keyed.key_of a c.args.hash c.bucket_at-bucket.ensures.value c.bucket_at-bucket.ensures.routed c.list_len.ensures.len in
     record {
       ok = (search rules);
       err = (search rules);
@@ -115,10 +112,7 @@ returns g c =
     let a = c.args.self.now in
     let i = c.bucket_at-bucket.result in
     let hk = hash_in g.H.Hashes.hash_of a in
-    let n = bucket_number (settings_of a).skipped (bucket_count a) c.args.hash in
-    let left : count_by (λ (e : g.row.E.Denot). bucket_number (settings_of a).skipped (bucket_count a) (hk (g.E.Keyed.key_of e)) == n) (entries a) ≡ length (list_of a i) =
-    ap (λ m. count_by (λ (e : g.row.E.Denot). bucket_number (settings_of a).skipped (bucket_count a) (hk (g.E.Keyed.key_of e)) == m) (entries a)) (sym c.bucket_at-bucket.ensures.value) ∙ count-listed (λ (e : g.row.E.Denot). hk (g.E.Keyed.key_of e)) a i c.bucket_at-bucket.ensures.routed in
-    let long = c.list_len.ensures.len in
+    let held = room-listed hk g.E.Keyed.key_of a c.args.hash c.bucket_at-bucket.ensures.value c.bucket_at-bucket.ensures.routed c.list_len.ensures.len in
     let full : HasRoomAt hk g.E.Keyed.key_of a c.args.hash → ⊥ = λ room. absurd (let r = room.1 in omega arith) in
     let some : 0 < bucket_count a = let z = c.if-bucket_count-eq0.false in let m = c.bucket_count.ensures.count in omega arith in
     let f = c.insert_made_full.new.self in

@@ -5,7 +5,7 @@ use Rattle.scc_common.specs.Contents.{bucket_count, hash_in, settings_of}
 use Rattle.scc_draining.specs.Drainings.{draining_of}
 use Rattle.scc_table.specs.TwoArrays.{IsTable, together}
 use Rattle.scc_table.proofs.arrays.OneArray.{entries-alone, lists-alone}
-use Rattle.scc_table.proofs.resizes.FirstArray.{no-flags}
+use Rattle.scc_table.proofs.resizes.FirstArray.{first-flags}
 use Rattle.scc_table.proofs.arrays.JoinedLists.{refused-together, settings-together, waiting-together}
 use Rattle.scc_table.proofs.arrays.CurrentCalls.{fields-lone, over-first, over-grows, over-inserted, over-unchanged}
 use Rattle.scc_table.proofs.arrays.SameParts.{entries-same, hash-same}
@@ -44,29 +44,19 @@ insert_made_first-requires-clause-absent g c =
     let hk = hash_in g.H.Hashes.hash_of cur in
     let hash = λ (e : g.row.E.Denot). hk (g.E.Keyed.key_of e) in
     let view = c.self.view_is in
-    let count = count-seen hash cur ws olds a view inv.arrays.flags in
-    let none = no-flags ws (bucket_count cur) inv.arrays.flags (sym count ∙ c.requires.none) in
+    let none = first-flags inv view c.requires.none in
     let before = lists-seen hash cur ws olds a view none in
     subst (λ es. position (λ e. g.E.Key.PartialEq.eq (g.E.Keyed.key_of (g.E.Made.made_of c.args.parts)) (g.E.Keyed.key_of e)) es ≡ None) (entries-same cur a before) c.requires.absent
 
 pub invariant_of-self : goal.invariant_of-self
 invariant_of-self g c =
     let t = c.self.inside in
-    let cur = t.current in
-    let ws = t.draining.waiting.items in
-    let olds = t.draining.array in
-    let a = c.args.self.now in
     let new = c.insert_made_first.new.self in
-    let inv = c.self.invariant in
-    let hk = hash_in g.H.Hashes.hash_of cur in
-    let hash = λ (e : g.row.E.Denot). hk (g.E.Keyed.key_of e) in
-    let view = c.self.view_is in
-    let count = count-seen hash cur ws olds a view inv.arrays.flags in
-    let none = no-flags ws (bucket_count cur) inv.arrays.flags (sym count ∙ c.requires.none) in
-    let kept : settings_of new ≡ settings_of cur = either-answer c.insert_made_first.result c.insert_made_first.ensures.ok c.insert_made_first.ensures.err (λ p i. i.holds.settings) (λ p u. u.1.settings) in
-    let same = hash-same g.H.Hashes.hash_of cur new kept in
-    subst (λ (h : g.row.E-Key.Denot → ℕ). IsTable g.E.Key.PartialEq.eq g.E.Keyed.key_of h new (draining_of t.draining)) (sym same)
-    (fields-lone g.E.Key.PartialEq.eq g.E.Keyed.key_of hk cur new (draining_of t.draining) inv none kept (omega (arith, c.insert_made_first.ensures.few)) c.insert_made_first.ensures.unique)
+    let e = c.insert_made_first.ensures in
+    let none = first-flags c.self.invariant c.self.view_is c.requires.none in
+    let kept : settings_of new ≡ settings_of t.current = either-answer c.insert_made_first.result e.ok e.err (λ p i. i.holds.settings) (λ p u. u.1.settings) in
+    subst (λ (h : g.row.E-Key.Denot → ℕ). IsTable g.E.Key.PartialEq.eq g.E.Keyed.key_of h new (draining_of t.draining)) (sym (hash-same g.H.Hashes.hash_of t.current new kept))
+    (fields-lone g.E.Key.PartialEq.eq g.E.Keyed.key_of (hash_in g.H.Hashes.hash_of t.current) t.current new (draining_of t.draining) c.self.invariant none kept (omega (arith, e.few)) e.unique)
 
 pub returns : goal.returns
 returns g c =
@@ -80,8 +70,7 @@ returns g c =
     let hk = hash_in g.H.Hashes.hash_of cur in
     let hash = λ (e : g.row.E.Denot). hk (g.E.Keyed.key_of e) in
     let view = c.self.view_is in
-    let count = count-seen hash cur ws olds a view inv.arrays.flags in
-    let none = no-flags ws (bucket_count cur) inv.arrays.flags (sym count ∙ c.requires.none) in
+    let none = first-flags inv view c.requires.none in
     let later = λ (e : g.row.E.Denot). hash_in g.H.Hashes.hash_of new (g.E.Keyed.key_of e) in
     let d = together later new ws olds in
     let before = lists-seen hash cur ws olds a view none in

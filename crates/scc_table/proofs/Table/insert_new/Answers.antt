@@ -4,7 +4,7 @@ use Rattle.scc_common.specs.Contents.{HasRoomAt, bucket_count, entries, hash_in,
 use Rattle.scc_common.specs.Routing.{bucket_number}
 use Rattle.scc_table.specs.Relocates.{AreMovedBeside}
 use Rattle.scc_table.specs.TwoArrays.{pending_targets}
-use Rattle.scc_table.proofs.places.OneList.{count-listed}
+use Rattle.scc_table.proofs.places.OneList.{room-listed}
 use Rattle.scc_table.proofs.relocations.Targets.{by-two}
 use Rattle.scc_table.proofs.arrays.Views.{pending-seen}
 use Rattle.scc_table.proofs.Table.insert_new.Goals as goal
@@ -25,10 +25,7 @@ returns-then-list_len-lt32 g c =
           let a = c.args.self.now in
           let i = c.bucket_at-bucket.result in
           let hk = hash_in g.H.Hashes.hash_of a in
-          let n = bucket_number (settings_of a).skipped (bucket_count a) c.args.hash in
-          let left : count_by (λ (e : g.row.E.Denot). bucket_number (settings_of a).skipped (bucket_count a) (hk (g.E.Keyed.key_of e)) == n) (entries a) ≡ length (list_of a i) =
-          ap (λ m. count_by (λ (e : g.row.E.Denot). bucket_number (settings_of a).skipped (bucket_count a) (hk (g.E.Keyed.key_of e)) == m) (entries a)) (sym c.bucket_at-bucket.ensures.value) ∙ count-listed (λ (e : g.row.E.Denot). hk (g.E.Keyed.key_of e)) a i c.bucket_at-bucket.ensures.routed in
-          let long = c.list_len.ensures.len in
+          let held = room-listed hk g.E.Keyed.key_of a c.args.hash c.bucket_at-bucket.ensures.value c.bucket_at-bucket.ensures.routed c.list_len.ensures.len in
           record {
             doubled = λ due down. absurd (due.full (rw c.requires.hashed at (let had : HasRoomAt hk g.E.Keyed.key_of a c.args.hash = (due.array, omega arith) in had)));
             raised = λ low up. absurd (let z : false ≡ true = sym low ∙ sym (ap (λ (x : Bool × Bool). x.0) c.insert_with_room.ensures.refused) ∙ up in cc);

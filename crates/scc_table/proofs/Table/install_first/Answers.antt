@@ -7,7 +7,7 @@ use Rattle.scc_draining.specs.Drainings.{draining_of}
 use Rattle.scc_table.specs.TwoArrays.{IsTable, together}
 use Rattle.scc_table.proofs.arrays.OneArray.{count-alone, entries-alone, nothing-owed, spilled-bare, spilled-together}
 use Rattle.scc_draining.proofs.Arriving.{IsDistinct-nil}
-use Rattle.scc_table.proofs.resizes.FirstArray.{fields-first, first-grows, first-rests, no-flags, same-rests}
+use Rattle.scc_table.proofs.resizes.FirstArray.{fields-first, first-grows, first-rests, first-flags, same-rests}
 use Rattle.scc_table.proofs.arrays.JoinedLists.{refused-together, settings-together, waiting-together}
 use Rattle.scc_table.proofs.arrays.SameParts.{any-err, hash-same}
 use Rattle.scc_table.proofs.relocations.ShortLists.{first-resized}
@@ -22,20 +22,11 @@ install_first-requires g c =
 pub invariant_of-self-2 : goal.invariant_of-self-2
 invariant_of-self-2 g c =
     let t = c.self.inside in
-    let cur = t.current in
-    let ws = t.draining.waiting.items in
-    let olds = t.draining.array in
-    let a = c.args.self.now in
     let new = c.install_first.new.self in
-    let inv = c.self.invariant in
-    let hk = hash_in g.H.Hashes.hash_of cur in
-    let hash = λ (e : g.row.E.Denot). hk (g.E.Keyed.key_of e) in
-    let view = c.self.view_is in
-    let count = count-seen hash cur ws olds a view inv.arrays.flags in
-    let none = no-flags ws (bucket_count cur) inv.arrays.flags (sym count ∙ c.requires) in
-    let same = hash-same g.H.Hashes.hash_of cur new c.install_first.ensures.settings in
+    let none = first-flags c.self.invariant c.self.view_is c.requires in
+    let same = hash-same g.H.Hashes.hash_of t.current new c.install_first.ensures.settings in
     subst (λ (h : g.row.E-Key.Denot → ℕ). IsTable g.E.Key.PartialEq.eq g.E.Keyed.key_of h new (draining_of t.draining)) (sym same)
-    (fields-first g.E.Key.PartialEq.eq g.E.Keyed.key_of hk cur new (draining_of t.draining) inv none c.install_first.ensures.settings c.install_first.ensures.still c.in_ok-install_first.ensures.resized.bounded)
+    (fields-first g.E.Key.PartialEq.eq g.E.Keyed.key_of (hash_in g.H.Hashes.hash_of t.current) t.current new (draining_of t.draining) c.self.invariant none c.install_first.ensures.settings c.install_first.ensures.still c.in_ok-install_first.ensures.resized.bounded)
 
 pub returns : goal.returns
 returns g c =
@@ -49,8 +40,7 @@ returns g c =
     let hk = hash_in g.H.Hashes.hash_of cur in
     let hash = λ (e : g.row.E.Denot). hk (g.E.Keyed.key_of e) in
     let view = c.self.view_is in
-    let count = count-seen hash cur ws olds a view inv.arrays.flags in
-    let none = no-flags ws (bucket_count cur) inv.arrays.flags (sym count ∙ c.requires) in
+    let none = first-flags inv view c.requires in
     let later = λ (e : g.row.E.Denot). hash_in g.H.Hashes.hash_of new (g.E.Keyed.key_of e) in
     let d = together later new ws olds in
     let still = entries-alone later new ws olds none ∙ c.install_first.ensures.still in
@@ -86,49 +76,22 @@ invariant_of-self g c =
 pub returns-in_err-install_first : goal.returns-in_err-install_first
 returns-in_err-install_first g c =
     let t = c.self.inside in
-    let cur = t.current in
-    let ws = t.draining.waiting.items in
-    let olds = t.draining.array in
-    let a = c.args.self.now in
     let new = c.install_first.new.self in
-    let inv = c.self.invariant in
-    let hk = hash_in g.H.Hashes.hash_of cur in
-    let hash = λ (e : g.row.E.Denot). hk (g.E.Keyed.key_of e) in
-    let view = c.self.view_is in
-    let count = count-seen hash cur ws olds a view inv.arrays.flags in
-    let none = no-flags ws (bucket_count cur) inv.arrays.flags (sym count ∙ c.requires) in
     let later = λ (e : g.row.E.Denot). hash_in g.H.Hashes.hash_of new (g.E.Keyed.key_of e) in
-    let still = entries-alone later new ws olds none ∙ c.install_first.ensures.still in
+    let none = first-flags c.self.invariant c.self.view_is c.requires in
+    let still = entries-alone later new t.draining.waiting.items t.draining.array none ∙ c.install_first.ensures.still in
+    let same : together later new t.draining.waiting.items t.draining.array ≡ c.args.self.now = rw c.in_err-install_first.ensures.same c.self.view_is in
+    let rests = same-rests c.args.self.now _ same in
     record {
-      rests = (
-          let d = together (λ e. hash_in g.H.Hashes.hash_of c.install_first.new.self (g.E.Keyed.key_of e)) c.install_first.new.self t.draining.waiting.items t.draining.array in
-          let same : d ≡ c.args.self.now = rw c.in_err-install_first.ensures.same c.self.view_is in
-          inl (same-rests c.args.self.now d same).0);
-      growth = (
-          let d = together (λ e. hash_in g.H.Hashes.hash_of c.install_first.new.self (g.E.Keyed.key_of e)) c.install_first.new.self t.draining.waiting.items t.draining.array in
-          let same : d ≡ c.args.self.now = rw c.in_err-install_first.ensures.same c.self.view_is in
-          (same-rests c.args.self.now d same).1);
-      noted = (
-          let d = together (λ e. hash_in g.H.Hashes.hash_of c.install_first.new.self (g.E.Keyed.key_of e)) c.install_first.new.self t.draining.waiting.items t.draining.array in
-          let same : d ≡ c.args.self.now = rw c.in_err-install_first.ensures.same c.self.view_is in
-          ap notes_of same);
+      rests = inl rests.0;
+      growth = rests.1;
+      noted = ap notes_of same;
       first = (search rules);
       array = (search rules);
-      bare = (
-          let d = together later new ws olds in
-          still);
-      waiting = (
-          let d = together later new ws olds in
-          waiting-together later new ws olds ∙ none);
-      refused = (
-          let d = together (λ e. hash_in g.H.Hashes.hash_of c.install_first.new.self (g.E.Keyed.key_of e)) c.install_first.new.self t.draining.waiting.items t.draining.array in
-          let same : d ≡ c.args.self.now = rw c.in_err-install_first.ensures.same c.self.view_is in
-          any-err c.from_residual.result (same-rests c.args.self.now d same).0);
+      bare = still;
+      waiting = waiting-together later new t.draining.waiting.items t.draining.array ∙ none;
+      refused = any-err c.from_residual.result rests.0;
       resized = (search rules);
-      same = (
-          let d = together (λ e. hash_in g.H.Hashes.hash_of c.install_first.new.self (g.E.Keyed.key_of e)) c.install_first.new.self t.draining.waiting.items t.draining.array in
-          let same : d ≡ c.args.self.now = rw c.in_err-install_first.ensures.same c.self.view_is in
-          any-err c.from_residual.result same);
-      unique = (
-          subst (λ (es : List g.row.E.Denot). IsDistinct g.E.Key.PartialEq.eq (map g.E.Keyed.key_of es)) (sym still) (IsDistinct-nil g.E.Key.PartialEq.eq));
+      same = any-err c.from_residual.result same;
+      unique = subst (λ (es : List g.row.E.Denot). IsDistinct g.E.Key.PartialEq.eq (map g.E.Keyed.key_of es)) (sym still) (IsDistinct-nil g.E.Key.PartialEq.eq);
     }

@@ -5,7 +5,7 @@ use Rattle.scc_common.specs.Routing.{bucket_number}
 use Rattle.scc_buckets.specs.Bounded.{HasListsOf}
 use Rattle.scc_buckets.proofs.Resizes.{rests-resizes}
 use Rattle.scc_table.specs.Bounded.{IsDoublingDue}
-use Rattle.scc_table.proofs.places.OneList.{count-listed}
+use Rattle.scc_table.proofs.places.OneList.{room-listed}
 use Rattle.scc_table.proofs.relocations.OneByOne.{pending-is}
 use Rattle.scc_table.proofs.relocations.ShortLists.{listed-later}
 use Rattle.scc_table.proofs.resizes.Below.{grows-marked}
@@ -33,10 +33,7 @@ returns-then-list_len-lt32-clause-ok g c =
     let hk = hash_in g.H.Hashes.hash_of a in
     let hb = hash_in g.H.Hashes.hash_of b in
     let i = c.in_ok-bucket.bucket in
-    let n = bucket_number (settings_of b).skipped (bucket_count b) c.args.hash in
-    let left : count_by (λ (e : g.row.E.Denot). bucket_number (settings_of b).skipped (bucket_count b) (hb (g.E.Keyed.key_of e)) == n) (entries b) ≡ length (list_of b i) =
-    ap (λ m. count_by (λ (e : g.row.E.Denot). bucket_number (settings_of b).skipped (bucket_count b) (hb (g.E.Keyed.key_of e)) == m) (entries b)) (sym c.in_ok-bucket.ensures.finds.routed) ∙ count-listed (λ (e : g.row.E.Denot). hb (g.E.Keyed.key_of e)) b i c.list_len.ensures.routed in
-    let short = c.list_len.ensures.len in
+    let held = room-listed hb g.E.Keyed.key_of b c.args.hash c.in_ok-bucket.ensures.finds.routed c.list_len.ensures.routed c.list_len.ensures.len in
     let some : 0 < bucket_count b = omega (arith, c.in_ok-bucket.ensures.finds.within) in
     let room : HasRoomAt hb g.E.Keyed.key_of b c.args.hash = (some, omega arith) in
     let like = hash-same g.H.Hashes.hash_of a b (rests-resizes a b m.rests).settings in
@@ -93,10 +90,7 @@ returns-then-list_len-lt32-clause-marks g c =
     let hk = hash_in g.H.Hashes.hash_of a in
     let hb = hash_in g.H.Hashes.hash_of b in
     let i = c.in_ok-bucket.bucket in
-    let n = bucket_number (settings_of b).skipped (bucket_count b) c.args.hash in
-    let left : count_by (λ (e : g.row.E.Denot). bucket_number (settings_of b).skipped (bucket_count b) (hb (g.E.Keyed.key_of e)) == n) (entries b) ≡ length (list_of b i) =
-    ap (λ m. count_by (λ (e : g.row.E.Denot). bucket_number (settings_of b).skipped (bucket_count b) (hb (g.E.Keyed.key_of e)) == m) (entries b)) (sym c.in_ok-bucket.ensures.finds.routed) ∙ count-listed (λ (e : g.row.E.Denot). hb (g.E.Keyed.key_of e)) b i c.list_len.ensures.routed in
-    let short = c.list_len.ensures.len in
+    let held = room-listed hb g.E.Keyed.key_of b c.args.hash c.in_ok-bucket.ensures.finds.routed c.list_len.ensures.routed c.list_len.ensures.len in
     let some : 0 < bucket_count b = omega (arith, c.in_ok-bucket.ensures.finds.within) in
     let room : HasRoomAt hb g.E.Keyed.key_of b c.args.hash = (some, omega arith) in
     let settings = (rests-resizes a b m.rests).settings in
@@ -114,10 +108,7 @@ returns-clause-marks g c =
     let hk = hash_in g.H.Hashes.hash_of a in
     let hb = hash_in g.H.Hashes.hash_of b in
     let i = c.in_ok-bucket.bucket in
-    let n = bucket_number (settings_of b).skipped (bucket_count b) c.args.hash in
-    let left : count_by (λ (e : g.row.E.Denot). bucket_number (settings_of b).skipped (bucket_count b) (hb (g.E.Keyed.key_of e)) == n) (entries b) ≡ length (list_of b i) =
-    ap (λ m. count_by (λ (e : g.row.E.Denot). bucket_number (settings_of b).skipped (bucket_count b) (hb (g.E.Keyed.key_of e)) == m) (entries b)) (sym c.in_ok-bucket.ensures.finds.routed) ∙ count-listed (λ (e : g.row.E.Denot). hb (g.E.Keyed.key_of e)) b i c.list_len.ensures.routed in
-    let long = c.list_len.ensures.len in
+    let held = room-listed hb g.E.Keyed.key_of b c.args.hash c.in_ok-bucket.ensures.finds.routed c.list_len.ensures.routed c.list_len.ensures.len in
     let some : 0 < bucket_count b = omega (arith, c.in_ok-bucket.ensures.finds.within) in
     let settings = (rests-resizes a b m.rests).settings in
     let like = hash-same g.H.Hashes.hash_of a b settings in
