@@ -105,8 +105,8 @@ pub fn run<T: Sync>(parts: &[T], part: impl Fn(&T) -> u64 + Sync) -> (f64, u64) 
     let part = &part;
     let t = Instant::now();
     let sum = std::thread::scope(|s| {
-        let crew: Vec<_> = parts.iter().map(|own| s.spawn(move || part(own))).collect();
-        crew.into_iter().fold(0u64, |sum, one| sum.wrapping_add(one.join().unwrap()))
+        let threads: Vec<_> = parts.iter().map(|own| s.spawn(move || part(own))).collect();
+        threads.into_iter().fold(0u64, |sum, one| sum.wrapping_add(one.join().unwrap()))
     });
     (t.elapsed().as_nanos() as f64, sum)
 }

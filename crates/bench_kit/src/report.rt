@@ -19,7 +19,7 @@ pub fn line(rt: &impl Print, work: &str, peer: &str, total: u64, count: u64) -> 
 }
 
 /// Prints a quotient to two places, of a workload with `threads` threads.
-pub fn crew_line(
+pub fn threads_line(
     rt: &impl Print,
     work: &str,
     threads: u64,
@@ -41,7 +41,7 @@ pub fn check(rt: &impl Print, work: &str, peer: &str, sum: u64) -> io::Result<()
 }
 
 /// Prints a sum in which all peers must agree, of a workload with `threads` threads.
-pub fn crew_check(
+pub fn threads_check(
     rt: &impl Print,
     work: &str,
     threads: u64,

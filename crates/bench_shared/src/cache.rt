@@ -1,8 +1,8 @@
 //! Steps over a shared cache that get a key, and put it if it is missing.
-use crate::crew::{Outcome, run};
 use crate::request::Request;
+use crate::threads::{Outcome, run};
 use bench_kit::arguments::out_of_memory;
-use bench_kit::report::{crew_check, crew_line};
+use bench_kit::report::{threads_check, threads_line};
 use bench_kit::streams::{Streams, value};
 use scc_common::InsertError;
 use scc_shared_cache::HashCache;
@@ -115,7 +115,7 @@ fn print_hits<R: Threads + Wait + Clock + Print + Sync>(
     count: u64,
 ) -> io::Result<()> {
     let hits = run_once(rt, alloc, steps.first, steps.next, true)?.sum;
-    crew_line(
+    threads_line(
         rt,
         "hitrate",
         threads,
@@ -134,7 +134,7 @@ fn run_and_print<R: Threads + Wait + Clock + Print + Sync>(
     count: u64,
 ) -> io::Result<u64> {
     let outcome = run_once(rt, alloc, steps.first, steps.next, false)?;
-    crew_line(rt, "cache", threads, PEER, outcome.spent, count)?;
+    threads_line(rt, "cache", threads, PEER, outcome.spent, count)?;
     Ok(outcome.sum)
 }
 
@@ -152,7 +152,7 @@ fn go_often<R: Threads + Wait + Clock + Print + Sync>(
     for _ in 0..request.runs {
         last = run_and_print(rt, alloc, threads, steps, count)?;
     }
-    crew_check(rt, "cache", threads, PEER, last)
+    threads_check(rt, "cache", threads, PEER, last)
 }
 
 /// Measures the workload with `threads` threads.

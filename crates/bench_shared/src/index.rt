@@ -1,8 +1,8 @@
 //! Peeks into an index that nobody writes.
-use crate::crew::{Outcome, run};
 use crate::request::Request;
+use crate::threads::{Outcome, run};
 use bench_kit::arguments::out_of_memory;
-use bench_kit::report::{crew_check, crew_line};
+use bench_kit::report::{threads_check, threads_line};
 use bench_kit::streams::{Streams, value};
 use scc_shared::index::HashIndex;
 use std::alloc::Global;
@@ -77,7 +77,7 @@ fn run_and_print<R: Threads + Wait + Clock + Print + Sync>(
     let outcome = run_once(rt, alloc, index, keys, threads as usize)?;
     if is_measured {
         let count = (keys.len() as u64).saturating_mul(threads);
-        crew_line(rt, "index_peek", threads, PEER, outcome.spent, count)?;
+        threads_line(rt, "index_peek", threads, PEER, outcome.spent, count)?;
     }
     Ok(outcome.sum)
 }
@@ -94,7 +94,7 @@ fn measure_one<R: Threads + Wait + Clock + Print + Sync>(
     for run in 0..=runs {
         last = run_and_print(rt, alloc, index, keys, threads, run > 0)?;
     }
-    crew_check(rt, "index_peek", threads, PEER, last)
+    threads_check(rt, "index_peek", threads, PEER, last)
 }
 
 /// Measures one thread and four.

@@ -1,9 +1,9 @@
 //! Insertions into an empty map by several threads, together and one by one.
-use crate::crew::{Outcome, run};
 use crate::reads::{Map, PEER, sum_of_values};
 use crate::request::Request;
+use crate::threads::{Outcome, run};
 use bench_kit::arguments::out_of_memory;
-use bench_kit::report::{crew_check, crew_line, nanos, print_quantiles};
+use bench_kit::report::{nanos, print_quantiles, threads_check, threads_line};
 use bench_kit::streams::value;
 use scc_shared::map::HashMap;
 use std::alloc::Global;
@@ -14,7 +14,7 @@ use std::thread::{Threads, map_indices};
 use std::time::Instant;
 
 /// The number of threads in the group of single insertions.
-const CREW: usize = 4;
+const THREADS: usize = 4;
 
 fn empty(alloc: Global) -> io::Result<Map> {
     match HashMap::new(alloc) {
@@ -70,7 +70,7 @@ fn run_and_print<R: Threads + Wait + Clock + Print + Sync>(
     let outcome = run_once(rt, alloc, keys, threads as usize)?;
     if is_measured {
         let count = keys.len() as u64;
-        crew_line(rt, "shared_insert", threads, PEER, outcome.spent, count)?;
+        threads_line(rt, "shared_insert", threads, PEER, outcome.spent, count)?;
     }
     Ok(outcome.sum)
 }
@@ -87,7 +87,7 @@ fn run_often<R: Threads + Wait + Clock + Print + Sync>(
     for run in 0..=runs {
         last = run_and_print(rt, alloc, keys, threads, run > 0)?;
     }
-    crew_check(rt, "shared_insert", threads, PEER, last)
+    threads_check(rt, "shared_insert", threads, PEER, last)
 }
 
 /// Measures insertions by `threads` threads.
@@ -158,8 +158,8 @@ fn times_of<R: Threads + Wait + Clock + Sync>(
     let parts = map_indices(
         rt,
         alloc,
-        CREW,
-        &|thread| { insert_timed(rt, alloc, &map, part_of(keys, thread, CREW)) },
+        THREADS,
+        &|thread| { insert_timed(rt, alloc, &map, part_of(keys, thread, THREADS)) },
     )?;
     joined(alloc, parts.as_slice())
 }

@@ -4,7 +4,6 @@
 #![tactic(auto)]
 
 mod cache;
-mod crew;
 mod index;
 mod insertions;
 mod memory;
@@ -13,6 +12,7 @@ mod mixed;
 mod reads;
 mod request;
 mod texts;
+mod threads;
 
 use bench_kit::arguments::words;
 use request::{Group, Request, parse_request};
@@ -31,14 +31,14 @@ scc-shared-cache cache
 scc-memo memo";
 
 /// The numbers of threads of the workloads of the map and of the cache.
-const CREWS: [u64; 3] = [1, 2, 4];
+const THREAD_COUNTS: [u64; 3] = [1, 2, 4];
 
 fn measure_map<R: Clock + Print + Threads + Wait + Sync>(
     rt: &R,
     alloc: Global,
     request: Request,
 ) -> io::Result<()> {
-    for threads in CREWS {
+    for threads in THREAD_COUNTS {
         reads::measure(rt, alloc, threads, request)?;
         insertions::measure(rt, alloc, threads, request)?;
         mixed::measure(rt, alloc, threads, request)?;
@@ -51,7 +51,7 @@ fn measure_caches<R: Clock + Print + Threads + Wait + Sync>(
     alloc: Global,
     request: Request,
 ) -> io::Result<()> {
-    for threads in CREWS {
+    for threads in THREAD_COUNTS {
         cache::measure(rt, alloc, threads, request)?;
     }
     Ok(())
@@ -62,7 +62,7 @@ fn measure_memos<R: Clock + Print + Threads + Wait + Sync>(
     alloc: Global,
     request: Request,
 ) -> io::Result<()> {
-    for threads in CREWS {
+    for threads in THREAD_COUNTS {
         memos::measure(rt, alloc, threads, request)?;
     }
     Ok(())

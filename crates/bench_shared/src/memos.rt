@@ -4,10 +4,10 @@ ghost use Rattle.std.proofs.Common.{ap};
 ghost use Rattle.std.proofs.lemmas.Bool.{eqb-true};
 
 use crate::cache::crew_keys;
-use crate::crew::run;
 use crate::request::Request;
+use crate::threads::run;
 use bench_kit::arguments::out_of_memory;
-use bench_kit::report::crew_line;
+use bench_kit::report::threads_line;
 use scc_memo::{Memo, Pure};
 use std::alloc::Global;
 use std::hash::{BuildHasherDefault, FoldHasher};
@@ -130,9 +130,9 @@ fn run_both<R: Threads + Wait + Clock + Print + Sync>(
     count: u64,
 ) -> io::Result<()> {
     let each = run_each(rt, alloc, keys)?;
-    crew_line(rt, "memo_each", threads, PEER, each, count)?;
+    threads_line(rt, "memo_each", threads, PEER, each, count)?;
     let locked = run_locked(rt, alloc, keys)?;
-    crew_line(rt, "memo_locked", threads, PEER, locked, count)
+    threads_line(rt, "memo_locked", threads, PEER, locked, count)
 }
 
 /// Measures both, `runs` times.

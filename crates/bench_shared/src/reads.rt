@@ -1,9 +1,9 @@
 //! Reads and writes of present keys.
-use crate::crew::{Outcome, run};
 use crate::mixed::mix;
 use crate::request::Request;
+use crate::threads::{Outcome, run};
 use bench_kit::arguments::out_of_memory;
-use bench_kit::report::{crew_check, crew_line};
+use bench_kit::report::{threads_check, threads_line};
 use bench_kit::steps::{Spread, Step, crew_steps};
 use bench_kit::streams::{Streams, value};
 use scc_shared::map::HashMap;
@@ -123,7 +123,7 @@ fn run_and_print<R: Threads + Wait + Clock + Print + Sync>(
             None => 0,
         };
         let count = entries.saturating_mul(threads);
-        crew_line(rt, work.name, threads, PEER, outcome.spent, count)?;
+        threads_line(rt, work.name, threads, PEER, outcome.spent, count)?;
     }
     Ok(outcome.sum)
 }
@@ -137,7 +137,7 @@ fn print_sum<R: Wait + Print>(
     sum: u64,
 ) -> io::Result<()> {
     let sum = sum.wrapping_add(sum_of_values(rt, map));
-    crew_check(rt, work.name, threads, PEER, sum)
+    threads_check(rt, work.name, threads, PEER, sum)
 }
 
 /// Runs a workload on a map once to warm up and then `runs` times.

@@ -1,9 +1,9 @@
 //! Insertions and reads of texts of 20 bytes, under a hasher for keys that others choose.
-use crate::crew::{Outcome, run};
 use crate::insertions::part_of;
 use crate::request::Request;
+use crate::threads::{Outcome, run};
 use bench_kit::arguments::out_of_memory;
-use bench_kit::report::{crew_check, crew_line};
+use bench_kit::report::{threads_check, threads_line};
 use bench_kit::streams::value;
 use scc_shared::map::HashMap;
 use std::alloc::{AllocError, Global};
@@ -116,10 +116,10 @@ fn print_run<R: Print>(
 ) -> io::Result<()> {
     let threads = threads as u64;
     if place.number > 0 {
-        crew_line(rt, work, threads, PEER, outcome.spent, count as u64)?;
+        threads_line(rt, work, threads, PEER, outcome.spent, count as u64)?;
     }
     if place.number == place.last {
-        crew_check(rt, work, threads, PEER, outcome.sum)?;
+        threads_check(rt, work, threads, PEER, outcome.sum)?;
     }
     Ok(())
 }
@@ -166,7 +166,7 @@ fn measure_reads<R: Threads + Wait + Clock + Print + Sync>(
 }
 
 /// The numbers of threads.
-const CREWS: [usize; 3] = [1, 2, 4];
+const THREAD_COUNTS: [usize; 3] = [1, 2, 4];
 
 fn measure_all_insertions<R: Threads + Wait + Clock + Print + Sync>(
     rt: &R,
@@ -176,7 +176,7 @@ fn measure_all_insertions<R: Threads + Wait + Clock + Print + Sync>(
 ) -> io::Result<()> {
     let keys = request.streams.inserted(alloc)?;
     let lines = lines_of(alloc, keys.as_slice())?;
-    for threads in CREWS {
+    for threads in THREAD_COUNTS {
         measure_insertions(rt, alloc, hasher, lines.as_slice(), threads, request.runs)?;
     }
     Ok(())
@@ -194,7 +194,7 @@ fn measure_all_reads<R: Threads + Wait + Clock + Print + Sync>(
     if insert_all(rt, &map, lines.as_slice()).is_none() {
         return Err(out_of_memory());
     }
-    for threads in CREWS {
+    for threads in THREAD_COUNTS {
         measure_reads(rt, alloc, &map, lines.as_slice(), threads, request.runs)?;
     }
     Ok(())

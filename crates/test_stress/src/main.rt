@@ -7,7 +7,6 @@
 
 mod called;
 mod counted;
-mod crews;
 mod finished;
 mod kinds;
 mod phases;
@@ -16,8 +15,8 @@ mod request;
 mod rounds;
 mod tally;
 mod turns;
+mod workers;
 
-use crews::run_crews;
 use phases::run_phases;
 use request::{Request, parse_request};
 use rounds::soak;
@@ -27,6 +26,7 @@ use std::rt::Clock;
 use std::sync::Wait;
 use std::thread::Threads;
 use std::{env, io};
+use workers::run_workers;
 
 /// The status for an argument that is not understood.
 const BAD_ARGUMENT: u8 = 2;
@@ -50,7 +50,7 @@ fn play<R: Threads + Wait + Sync + AllocGlobal + Print + Clock>(rt: &R, request:
         status = status.max(soak(rt, rt.alloc(), request).unwrap_or(REFUSED));
     }
     if request.crowds {
-        status = status.max(run_crews(rt)).max(run_phases(rt));
+        status = status.max(run_workers(rt)).max(run_phases(rt));
     }
     status
 }

@@ -3,10 +3,10 @@
 ghost use Rattle.std.specs.Prelude.{◌≡◌, Some};
 ghost use Rattle.scc_recorded.specs.Setups.{request_of};
 
-use crate::crews::shared;
 use crate::finished::{finish_late, has_each_place};
 use crate::kinds::Map;
 use crate::turns::{callers_of, passes_of};
+use crate::workers::shared;
 use scc_calls::{MapCall, Reply};
 use scc_common::Shared;
 use scc_recorded::{Finished, Pass, Recorded, Setup, Site};

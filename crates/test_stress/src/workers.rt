@@ -195,7 +195,7 @@ fn of_cache<R: Threads + Wait + Sync>(rt: &R, alloc: Global) -> Result<bool, All
 }
 
 /// Prints a line for each kind. Returns the worst status.
-pub(crate) fn run_crews<R: Threads + Wait + Sync + AllocGlobal + Print>(rt: &R) -> u8 {
+pub(crate) fn run_workers<R: Threads + Wait + Sync + AllocGlobal + Print>(rt: &R) -> u8 {
     let alloc = rt.alloc();
     let what = "eight workers on one stripe";
     let map = say(rt, "recorded map", what, of_map(rt, alloc));

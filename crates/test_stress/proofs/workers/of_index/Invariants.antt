@@ -1,6 +1,6 @@
 use Rattle.std.proofs.Common.{Some}
 use Rattle.scc_recorded.specs.Setups.{request_of}
-use Rattle.test_stress.proofs.crews.of_index.Given as goal
+use Rattle.test_stress.proofs.workers.of_index.Given as goal
 
 abbrev pub ghosts-work_on_index-L-Ledger : goal.ghosts-work_on_index-L-Ledger
 ghosts-work_on_index-L-Ledger g a = record { name = a.receipts.name; parts = a.receipts.parts }
