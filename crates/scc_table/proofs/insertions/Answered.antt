@@ -6,7 +6,7 @@ use Rattle.std.specs.Prelude.{IfOk, OnErr}
 use Rattle.scc_buckets.specs.Insertions.{IsNewIn}
 use Rattle.scc_buckets.specs.OneList.{HasSameLists, IsPutIn}
 use Rattle.scc_buckets.specs.declared.place.Place.{Place}
-use Rattle.scc_common.specs.Contents.{Contents, bucket_count, entries, hash_in, overflow_of, owed_of, settings_of, waiting_of}
+use Rattle.scc_common.specs.Contents.{Contents, bucket_count, entries, hash_in, overflow_of, owed_of, waiting_of}
 use Rattle.scc_draining.specs.Drainings.{Draining}
 use Rattle.scc_table.specs.TwoArrays.{IsTable, together, waits_at}
 use Rattle.scc_table.proofs.arrays.JoinedLists.{waiting-together}

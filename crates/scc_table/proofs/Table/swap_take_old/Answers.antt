@@ -1,10 +1,7 @@
-use Rattle.std.proofs.Common.{◌-◌, ◌<◌, length, arith}
-use Rattle.scc_common.specs.Contents.{bucket_count, hash_in}
-use Rattle.scc_table.proofs.arrays.OldSwaps.{swap-table, swap-takes}
-use Rattle.scc_table.proofs.arrays.OneBucket.{left-most, old-here}
+use Rattle.std.proofs.Common.{arith}
+use Rattle.scc_table.proofs.arrays.OneBucket.{left-most}
 use Rattle.scc_table.proofs.removals.OldEntry.{entry-far, entry-swapped, entry-swapped_table, entry-there}
 use Rattle.scc_table.proofs.removals.OneList.{swapped-count, swapped-moved, swapped-unique, taken-swapped}
-use Rattle.scc_table.proofs.arrays.Writes.{place-seen}
 use Rattle.scc_table.specs.Places.{spot_of}
 use Rattle.scc_table.proofs.Table.swap_take_old.Goals as goal
 
