@@ -3,15 +3,18 @@ use Rattle.std.proofs.Common.{◌≡◌, ℕ, ◌-◌, ◌<◌, ◌≤◌, Bool,
 use Rattle.std.specs.Cmp.{IsEquivalence}
 use Rattle.std.specs.List.{slice_get}
 use Rattle.scc_array.specs.Shelves.{shelf_of}
-use Rattle.scc_array.specs.Shelf.{Shelf, shelf_entries, without_slot}
+use Rattle.scc_array.specs.Shelf.{Shelf, shelf_entries, swapped_out, without_slot}
 use Rattle.scc_common.specs.Contents.{Contents, bucket_count, entries, owed_of, waiting_of}
 use Rattle.scc_buckets.specs.OneList.{IsTakenFrom}
 use Rattle.scc_buckets.specs.declared.place.Place.{Place}
 use Rattle.scc_draining.specs.Drainings.{Draining}
 use Rattle.scc_table.specs.Places.{IsPlace, index_of, spot_of}
+use Rattle.scc_table.specs.Removals.{SwapTakesAt}
 use Rattle.scc_table.specs.Takes.{owed_taken}
 use Rattle.scc_table.specs.TwoArrays.{together, IsTable}
 use Rattle.scc_table.proofs.arrays.JoinedLists.{waiting-together}
+use Rattle.scc_table.proofs.arrays.OldSwaps.{swap-table, swap-takes}
+use Rattle.scc_table.proofs.arrays.OneBucket.{old-here}
 use Rattle.scc_table.proofs.arrays.Views.{count-seen}
 use Rattle.scc_table.proofs.arrays.Writes.{place-seen, old-got, old-is}
 use Rattle.scc_table.proofs.removals.Fields.{old-owed_taken, old-less, old-some, old-taken_at}
@@ -66,3 +69,14 @@ module _ {E K S : Type 0} {eq : K → K → Bool} (laws : IsEquivalence eq) {key
       entry-taken =
           let first = subst (λ os. IsTakenFrom (together (λ e. hash (key e)) c drain.waiting drain.array) (spot_of (together (λ e. hash (key e)) c drain.waiting drain.array) p) (together (λ e. hash (key e)) c drain.waiting os)) (sym new) (old-taken_at laws inv p within far e got) in
           subst (λ (z : Contents E S). IsTakenFrom z (spot_of z p) (together (λ e. hash (key e)) c drain.waiting ns)) view first
+
+    -- if the old array has more buckets than the current one, the last entry may take the slot
+    module _ (fewer : bucket_count c < length drain.array) where
+      pub entry-swapped_table : IsTable eq key hash c (record drain { array = set drain.array (p.bucket - n) (swapped_out (shelf_of drain.array (p.bucket - n)) p.slot e); left = drain.left - 1 })
+      entry-swapped_table = let at = old-here inv p view place n count entry-far in swap-table laws inv p within (p.bucket - n) at.0 at.1 e read fewer
+
+      pub entry-swapped : SwapTakesAt eq key a p e (together (λ e. hash (key e)) c drain.waiting (set drain.array (p.bucket - n) (swapped_out (shelf_of drain.array (p.bucket - n)) p.slot e)))
+      entry-swapped =
+          let at = old-here inv p view place n count entry-far in
+          let ns : List (Shelf E) = set drain.array (p.bucket - n) (swapped_out (shelf_of drain.array (p.bucket - n)) p.slot e) in
+          subst (λ (z : Contents E S). SwapTakesAt eq key z p e (together (λ e. hash (key e)) c drain.waiting ns)) view (swap-takes laws inv p within (p.bucket - n) at.0 at.1 e read fewer)

@@ -1,15 +1,12 @@
 -- The first array is made.
-use Rattle.std.proofs.Common.{◌≡◌, ◌==◌, ℕ, ◌*◌, ◌⊎◌, inl, inr, Bool, true, false, List, [], length, map, sym, ap, ◌∙◌, subst, arith}
-use Rattle.std.specs.List.{filter, flat_map, IsDistinct}
+use Rattle.std.proofs.Common.{◌≡◌, ℕ, ◌*◌, ◌⊎◌, inl, inr, Bool, List, [], length, map, sym, ap, ◌∙◌, subst, arith}
+use Rattle.std.specs.List.{IsDistinct}
 use Rattle.std.specs.List.Sorted.{IsPermutation}
 use Rattle.std.proofs.lemmas.List.{nil_from_length}
 use Rattle.std.proofs.lemmas.List.Sorted.{IsPermutation-refl}
-use Rattle.scc_array.specs.Shelf.{shelf_entries}
 use Rattle.scc_common.specs.Contents.{Contents, entries, bucket_count, minimum_of, settings_of, overflow_of}
-use Rattle.scc_common.specs.Routing.{bucket_number}
 use Rattle.scc_common.specs.Sizes.{IsBucketCount, IsArraySize}
 use Rattle.scc_common.specs.Steps.{Grows, IsUnchanged, Rests}
-use Rattle.scc_draining.specs.Moves.{AreOwn}
 use Rattle.scc_draining.specs.Drainings.{Draining}
 use Rattle.scc_table.specs.TwoArrays.{IsTable, together}
 use Rattle.scc_table.proofs.arrays.CurrentCalls.{fields-lone}

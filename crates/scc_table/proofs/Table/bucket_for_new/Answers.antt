@@ -1,7 +1,5 @@
-use Rattle.std.proofs.Common.{◌≡◌, ◌==◌, ◌∙◌, ◌<◌, length, sym, ap, arith, rules}
-use Rattle.std.specs.List.{count_by}
-use Rattle.scc_common.specs.Contents.{HasRoomAt, bucket_count, entries, hash_in, list_of, pending_of, settings_of}
-use Rattle.scc_common.specs.Routing.{bucket_number}
+use Rattle.std.proofs.Common.{◌≡◌, ◌<◌, arith, rules}
+use Rattle.scc_common.specs.Contents.{HasRoomAt, bucket_count, hash_in, pending_of}
 use Rattle.scc_table.proofs.places.OneList.{room-listed}
 use Rattle.scc_table.proofs.relocations.ShortLists.{listed-none}
 use Rattle.scc_table.proofs.resizes.Below.{grows-waiting}

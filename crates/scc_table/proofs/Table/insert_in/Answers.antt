@@ -1,4 +1,4 @@
-use Rattle.std.proofs.Common.{◌≡◌, ◌∙◌, ◌<◌, ◌≤◌, ℕ, true, false, inl, inr, length, sym, ap, subst, arith, rules}
+use Rattle.std.proofs.Common.{◌≡◌, ◌∙◌, ◌≤◌, ℕ, true, false, inl, inr, length, sym, ap, subst, arith, rules}
 use Rattle.std.proofs.lemmas.Result.{on_err_weaker}
 use Rattle.scc_common.specs.Contents.{HasRoomBy, bucket_count, hash_in, list_of, settings_of}
 use Rattle.scc_common.specs.Routing.{bucket_number}

@@ -1,8 +1,8 @@
-use Rattle.std.proofs.Common.{◌≡◌, ◌==◌, ◌∙◌, ◌<◌, inl, inr, true, false, length, sym, ap, subst, arith, Bool, rules}
+use Rattle.std.proofs.Common.{◌≡◌, ◌∙◌, ◌<◌, inl, inr, true, false, sym, ap, subst, arith, Bool, rules}
 use Rattle.std.proofs.lemmas.Result.{on_ok_weaker}
 use Rattle.std.specs.List.{count_by}
 use Rattle.std.proofs.lemmas.List.{nil_from_length}
-use Rattle.scc_common.specs.Contents.{HasRoomAt, bucket_count, entries, hash_in, list_of, pending_of, settings_of}
+use Rattle.scc_common.specs.Contents.{HasRoomAt, bucket_count, hash_in, pending_of, settings_of}
 use Rattle.scc_common.specs.Routing.{bucket_number}
 use Rattle.scc_common.specs.Steps.{GrowsWhenDue}
 use Rattle.scc_table.specs.Relocates.{AreMovedBeside}

@@ -1,7 +1,5 @@
-use Rattle.std.proofs.Common.{◌≡◌, ◌==◌, ◌∙◌, length, true, false, sym, ap, subst, arith, Bool, rules}
-use Rattle.std.specs.List.{count_by}
-use Rattle.scc_common.specs.Contents.{HasRoomAt, bucket_count, entries, hash_in, list_of, settings_of}
-use Rattle.scc_common.specs.Routing.{bucket_number}
+use Rattle.std.proofs.Common.{◌≡◌, ◌∙◌, true, false, sym, ap, subst, arith, Bool, rules}
+use Rattle.scc_common.specs.Contents.{HasRoomAt, hash_in}
 use Rattle.scc_table.specs.Relocates.{AreMovedBeside}
 use Rattle.scc_table.specs.TwoArrays.{pending_targets}
 use Rattle.scc_table.proofs.places.OneList.{room-listed}

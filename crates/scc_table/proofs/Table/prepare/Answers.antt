@@ -1,6 +1,6 @@
-use Rattle.std.proofs.Common.{◌≡◌, ◌≢◌, ◌==◌, ◌∙◌, ◌<◌, ◌≤◌, ℕ, Bool, true, inl, inr, length, replicate, sym, ap, subst, arith}
+use Rattle.std.proofs.Common.{◌≡◌, ◌≢◌, ◌∙◌, ◌<◌, ◌≤◌, ℕ, Bool, true, inl, inr, length, replicate, sym, ap, subst, arith}
 use Rattle.std.specs.List.{count_by}
-use Rattle.scc_common.specs.Contents.{HasRoomAt, bucket_count, entries, hash_in, list_of, pending_of, settings_of}
+use Rattle.scc_common.specs.Contents.{HasRoomAt, bucket_count, hash_in, list_of, pending_of, settings_of}
 use Rattle.scc_common.specs.Routing.{bucket_number}
 use Rattle.scc_buckets.specs.Bounded.{HasListsOf}
 use Rattle.scc_buckets.proofs.Resizes.{rests-resizes}

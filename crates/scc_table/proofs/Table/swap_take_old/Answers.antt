@@ -1,10 +1,7 @@
-use Rattle.std.proofs.Common.{◌-◌, ◌<◌, length, arith}
-use Rattle.scc_common.specs.Contents.{bucket_count, hash_in}
-use Rattle.scc_table.proofs.arrays.OldSwaps.{swap-table, swap-takes}
-use Rattle.scc_table.proofs.arrays.OneBucket.{left-most, old-here}
-use Rattle.scc_table.proofs.removals.OldEntry.{entry-far, entry-there}
+use Rattle.std.proofs.Common.{arith}
+use Rattle.scc_table.proofs.arrays.OneBucket.{left-most}
+use Rattle.scc_table.proofs.removals.OldEntry.{entry-far, entry-swapped, entry-swapped_table, entry-there}
 use Rattle.scc_table.proofs.removals.OneList.{swapped-count, swapped-moved, swapped-unique, taken-swapped}
-use Rattle.scc_table.proofs.arrays.Writes.{place-seen}
 use Rattle.scc_table.specs.Places.{spot_of}
 use Rattle.scc_table.proofs.Table.swap_take_old.Goals as goal
 
@@ -39,42 +36,7 @@ pub swap_remove_at-requires-clause-slot : goal.swap_remove_at-requires-clause-sl
 swap_remove_at-requires-clause-slot g c = (entry-there g.met.E.Key.Eq.laws c.self.invariant c.self.view_is c.args.place c.requires.place c.requires.old c.bucket_count-count.ensures.count).1
 
 pub invariant_of-self : goal.invariant_of-self
-invariant_of-self g c =
-    let t = c.self.inside in
-    let cur = t.current in
-    let inv = c.self.invariant in
-    let hk = hash_in g.H.Hashes.hash_of cur in
-    let key = g.E.Keyed.key_of in
-    let p = c.args.place in
-    let view = c.self.view_is in
-    let n = c.bucket_count-count.result in
-    let count = c.bucket_count-count.ensures.count in
-    let far = entry-far g.met.E.Key.Eq.laws inv view p c.requires.place c.requires.old count in
-    let there = old-here inv p view c.requires.place n count far in
-    let fewer : bucket_count cur < length t.draining.array = omega (arith, count, c.len.ensures.count, c.if-len-count.false) in
-    let within = place-seen inv p view c.requires.place in
-    let laws = g.met.E.Key.Eq.laws in
-    let j = p.bucket - n in
-    let x = c.swap_remove_at.result in
-    rw c.swap_remove_at.ensures.others (swap-table laws inv p within j there.0 there.1 x c.swap_remove_at.ensures.entry fewer)
+invariant_of-self g c = rw c.swap_remove_at.ensures.others (entry-swapped_table g.met.E.Key.Eq.laws c.self.invariant c.self.view_is c.args.place c.requires.place c.requires.old c.bucket_count-count.ensures.count c.swap_remove_at.result c.swap_remove_at.ensures.entry (omega (arith, c.bucket_count-count.ensures.count, c.len.ensures.count, c.if-len-count.false)))
 
 pub returns : goal.returns
-returns g c =
-    let t = c.self.inside in
-    let cur = t.current in
-    let inv = c.self.invariant in
-    let hk = hash_in g.H.Hashes.hash_of cur in
-    let key = g.E.Keyed.key_of in
-    let p = c.args.place in
-    let view = c.self.view_is in
-    let n = c.bucket_count-count.result in
-    let count = c.bucket_count-count.ensures.count in
-    let far = entry-far g.met.E.Key.Eq.laws inv view p c.requires.place c.requires.old count in
-    let there = old-here inv p view c.requires.place n count far in
-    let fewer : bucket_count cur < length t.draining.array = omega (arith, count, c.len.ensures.count, c.if-len-count.false) in
-    let within = place-seen inv p view c.requires.place in
-    let laws = g.met.E.Key.Eq.laws in
-    let j = p.bucket - n in
-    let x = c.swap_remove_at.result in
-    let takes = swap-takes laws inv p within j there.0 there.1 x c.swap_remove_at.ensures.entry fewer in
-    rw (c.swap_remove_at.ensures.others, ← c.self.view_is) takes
+returns g c = rw c.swap_remove_at.ensures.others (entry-swapped g.met.E.Key.Eq.laws c.self.invariant c.self.view_is c.args.place c.requires.place c.requires.old c.bucket_count-count.ensures.count c.swap_remove_at.result c.swap_remove_at.ensures.entry (omega (arith, c.bucket_count-count.ensures.count, c.len.ensures.count, c.if-len-count.false)))

@@ -8,7 +8,7 @@ use Rattle.scc_buckets.proofs.Views.{count-view, entries-view, lists-view, owed-
 use Rattle.scc_common.specs.Contents.{Settings, bucket_count, hash_in, lists_of, overflow_of, settings_of, IsRouted, IsUniqueBy}
 use Rattle.scc_draining.specs.Moves.{Drains}
 use Rattle.scc_draining.proofs.Arriving.{lists-set, same-contents, same-lists}
-use Rattle.scc_draining.proofs.Filled.{IsFilled, bucket-filled, distinct-filled, spilled-filled, spilled-none, table-filled, target-empty, target-filled, target-within, within-filled}
+use Rattle.scc_draining.proofs.Filled.{bucket-filled, distinct-filled, spilled-filled, spilled-none, table-filled, target-empty, target-filled, target-within, within-filled}
 use Rattle.scc_draining.proofs.relocate.Relocation.move_in.Goals as goal
 use Rattle.scc_draining.proofs.relocate.Relocation.move_in.Goals.{in-Ok, in-Err}
 
