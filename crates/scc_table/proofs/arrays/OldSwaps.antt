@@ -274,10 +274,6 @@ module _ {E K S : Type 0} {eq : K → K → Bool} (laws : IsEquivalence eq) {key
         unique = unique;
       }
 
-  -- the old array held an entry
-  pub swap-some : 1 ≤ drain.left
-  swap-some = let n = owed-swapped (λ x. hash (key x)) c drain.waiting drain.array inv.arrays j p.slot e lj got fewer in let m = inv.left_is in omega arith
-
   -- the invariant `IsTable` holds afterwards
   pub swap-table : IsTable eq key hash c (record drain { array = news; left = drain.left - 1 })
   swap-table =

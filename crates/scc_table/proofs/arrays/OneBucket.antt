@@ -1,17 +1,14 @@
 -- What the invariant of a table says of one bucket.
-use Rattle.std.proofs.Common.{◌≡◌, ℕ, ◌+◌, ◌-◌, ◌<◌, ◌≤◌, Bool, true, false, List, length, map, set, get_or, sym, ap, ◌∙◌, subst, arith}
+use Rattle.std.proofs.Common.{◌≡◌, ℕ, ◌+◌, ◌-◌, ◌<◌, ◌≤◌, Bool, true, false, length, map, set, get_or, sym, ap, ◌∙◌, subst, arith}
 use Rattle.std.specs.List.{flat_map, sum_by, IsDistinct}
-use Rattle.std.proofs.lemmas.List.{get_or_read}
 use Rattle.std.proofs.lemmas.List.Sums.{count_by-le-length, get_or-le-sum_by}
-use Rattle.std.proofs.lemmas.List.Concat.{length-flat_map}
 use Rattle.scc_array.specs.Shelves.{shelf_of}
 use Rattle.scc_array.specs.Shelf.{Shelf, empty_shelf, shelf_entries}
 use Rattle.scc_common.specs.Contents.{Contents, IsRouted, bucket_count, list_of, lists_of, settings_of, waiting_of, owed_of, pending_of, hash_in}
 use Rattle.scc_common.specs.Routing.{bucket_number}
 use Rattle.scc_common.specs.Sizes.{IsBucketCount}
 use Rattle.scc_buckets.specs.Pour.{destined_for}
-use Rattle.scc_draining.specs.Moves.{AreMultiples, TakesOver}
-use Rattle.scc_draining.proofs.Counted.{destined-le}
+use Rattle.scc_draining.specs.Moves.{AreMultiples}
 use Rattle.scc_buckets.specs.Places as spots
 use Rattle.scc_buckets.specs.declared.place.Place.{Place}
 use Rattle.scc_table.specs.Places.{IsPlace}
@@ -21,7 +18,7 @@ use Rattle.scc_table.proofs.arrays.JoinedLists.{flags-length}
 use Rattle.scc_table.proofs.places.NextPlaces.{owed-count}
 use Rattle.scc_table.proofs.places.OldSpots.{old-at, own-at}
 use Rattle.scc_table.proofs.relocations.Preparation.{unique-before, waiting-list, long-flags, multiple-flags, sized-flags}
-use Rattle.scc_draining.proofs.Flags.{up-within, one-down}
+use Rattle.scc_draining.proofs.Flags.{up-within}
 use Rattle.scc_table.proofs.places.Searches.{not_true, routed-together}
 use Rattle.scc_table.proofs.arrays.Views.{count-seen, pending-seen, settings-seen, waiting-seen}
 
@@ -96,16 +93,6 @@ module _ {E K S : Type 0} {eq : K → K → Bool} {key : E → K} {hash : K → 
     pub owed-length : {a : Contents E S} → together (λ e. hash (key e)) c drain.waiting drain.array ≡ a → length (owed_of a) ≡ length drain.array
     owed-length view = ap (λ d. length (owed_of d)) (sym view) ∙ owed-count (λ e. hash (key e)) c drain.waiting drain.array inv.arrays i up
 
-    pub some-pending : 1 ≤ drain.pending
-    some-pending = let fewer = one-down drain.waiting i (up-within drain.waiting i up) up in omega (arith, inv.counted, fewer)
-
-  -- a relocation moves at most as many entries as the old array holds
-  pub moved-within : {i n : ℕ} {d : Contents E S} {news : List (Shelf E)} → TakesOver (λ e. hash (key e)) i n c drain.array d news → n ≤ drain.left
-  moved-within {i} {n} takes =
-      let le = destined-le (λ e. hash (key e)) (settings_of c).skipped (bucket_count c) i (flat_map shelf_entries drain.array) in
-      let all = inv.left_is ∙ sym (length-flat_map shelf_entries drain.array) in
-      omega (arith, takes.moved, le, all)
-
   -- an old bucket holds at most as many entries as the old array
   pub left-most : (j : ℕ) → j < length drain.array → length (shelf_entries (shelf_of drain.array j)) ≤ drain.left
   left-most j l =
@@ -128,16 +115,9 @@ module _ {E K S : Type 0} {eq : K → K → Bool} {key : E → K} {hash : K → 
     pub index-within : {i : ℕ} → (0 < bucket_count c → i < bucket_count c) → i < length drain.waiting
     index-within within = let l = bucket-within within in let long = flags-all in omega (arith, l, long)
 
-    -- the flag that is read is the flag of bucket i
-    pub flag-read : {i : ℕ} {r : Bool} → (0 < bucket_count c → i < bucket_count c) → r ≡ get_or drain.waiting i r → r ≡ waits_at drain.waiting i
-    flag-read {i} {r} within read = get_or_read drain.waiting i r (index-within within) read false
-
   -- the old bucket of a hash is a bucket of the old array
   pub source-within : (i : ℕ) {j n : ℕ} → waits_at drain.waiting i ≡ true → n ≡ length drain.array → (0 < n → j < n) → j < length drain.array
   source-within i up len within =
       let least = (old-sized i up).least in
       let l = within (omega (arith, len, least)) in
       omega (arith, l, len)
-
-  pub source-number : {j n : ℕ} (h : ℕ) → n ≡ length drain.array → j ≡ bucket_number (settings_of c).skipped n h → j ≡ bucket_number (settings_of c).skipped (length drain.array) h
-  source-number {n = n} h len value = value ∙ ap (λ m. bucket_number (settings_of c).skipped m h) len

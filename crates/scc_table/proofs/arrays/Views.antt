@@ -2,11 +2,11 @@
 use Rattle.std.proofs.Common.{◌≡◌, ℕ, ◌+◌, ◌⊎◌, Bool, List, [], length, sym, ap, ◌∙◌}
 use Rattle.std.specs.List.{count_by}
 use Rattle.scc_array.specs.Shelf.{Shelf}
-use Rattle.scc_common.specs.Contents.{Contents, bucket_count, lists_of, settings_of, notes_of, overflow_of, waiting_of, owed_of, pending_of}
+use Rattle.scc_common.specs.Contents.{Contents, bucket_count, lists_of, settings_of, notes_of, overflow_of, waiting_of, pending_of}
 use Rattle.scc_buckets.specs.Tables.{overflow_in}
 use Rattle.scc_draining.specs.Drainings.{Draining}
 use Rattle.scc_table.specs.TwoArrays.{together, IsTable}
-use Rattle.scc_table.proofs.arrays.OneArray.{lists-alone, owed-alone, spilled-together}
+use Rattle.scc_table.proofs.arrays.OneArray.{lists-alone, spilled-together}
 use Rattle.scc_table.proofs.arrays.JoinedLists.{settings-together, refused-together, waiting-together, pending-together, count-together}
 
 module _ {E S : Type 0} (hash : E → ℕ) (c : Contents E S) (ws : List Bool) (olds : List (Shelf E)) (d : Contents E S) (view : together hash c ws olds ≡ d) where
@@ -31,9 +31,6 @@ module _ {E S : Type 0} (hash : E → ℕ) (c : Contents E S) (ws : List Bool) (
   -- if no bucket waits, the lists are those of the current array
   pub lists-seen : ws ≡ [] → lists_of d ≡ lists_of c
   lists-seen none = ap lists_of (sym view) ∙ lists-alone hash c ws olds none
-
-  pub owed-seen : ws ≡ [] → owed_of d ≡ []
-  owed-seen none = ap owed_of (sym view) ∙ owed-alone hash c ws olds none
 
 -- if the number of waiting buckets is 0, there are no flags
 pub not_waiting-flags : {E K S : Type 0} {eq : K → K → Bool} {key : E → K} {hash : K → ℕ} {c : Contents E S} {drain : Draining E} (d : Contents E S) → IsTable eq key hash c drain → together (λ e. hash (key e)) c drain.waiting drain.array ≡ d → pending_of d ≡ 0 → drain.waiting ≡ []

@@ -17,7 +17,7 @@ use Rattle.scc_table.proofs.arrays.OldSwaps.{swap-table, swap-takes}
 use Rattle.scc_table.proofs.arrays.OneBucket.{old-here}
 use Rattle.scc_table.proofs.arrays.Views.{count-seen}
 use Rattle.scc_table.proofs.arrays.Writes.{place-seen, old-got, old-is}
-use Rattle.scc_table.proofs.removals.Fields.{old-owed_taken, old-less, old-some, old-taken_at}
+use Rattle.scc_table.proofs.removals.Fields.{old-owed_taken, old-less, old-taken_at}
 
 module _ {E K S : Type 0} {eq : K → K → Bool} (laws : IsEquivalence eq) {key : E → K} {hash : K → ℕ} {c a : Contents E S} {drain : Draining E} (inv : IsTable eq key hash c drain) (view : together (λ e. hash (key e)) c drain.waiting drain.array ≡ a)
     (p : Place) (place : IsPlace a p) (old : bucket_count a ≤ p.bucket) {n : ℕ} (count : n ≡ bucket_count c) where
@@ -38,10 +38,6 @@ module _ {E K S : Type 0} {eq : K → K → Bool} (laws : IsEquivalence eq) {key
   module _ (e : E) (read : slice_get (shelf_entries (shelf_of drain.array (p.bucket - n))) p.slot ≡ Some e) where
     got : slice_get (shelf_entries (shelf_of drain.array (p.bucket - bucket_count c))) p.slot ≡ Some e
     got = subst (λ m. slice_get (shelf_entries (shelf_of drain.array (p.bucket - m))) p.slot ≡ Some e) count read
-
-    -- the old array holds an entry
-    pub entry-some : 1 ≤ drain.left
-    entry-some = old-some laws inv p within far e got
 
     -- the entry at the place is the one that was read
     pub entry-read : slice_get (entries a) (index_of a p) ≡ Some e
