@@ -104,6 +104,15 @@ class Copies(unittest.TestCase):
         tools.write(worker.root, {"crates/low/out/incremental/c": ""})
         self.assertEqual(worker.built_below(), ["low"])
 
+    def test_a_crate_may_be_listed_before_those_below(self):
+        tools.write(self.top, {"crates.txt": "high: low\nlow:\n", "HANDLES": "none\n"})
+        tools.write(f"{self.top}/crates", {"low/src/lib.rt": "", "low/out/rlib/a": "", "high/src/lib.rt": "", "high/out/incremental/b": ""})
+        worker = slips.Worker(self.top, 0, {"high": ["low"], "low": []})
+        worker.turn_to("high")
+        self.assertEqual(worker.built_below(), [])
+        tools.write(worker.root, {"crates/low/out/incremental/c": ""})
+        self.assertEqual(worker.built_below(), ["low"])
+
 
 class Planted(unittest.TestCase):
     def test_bodies_with_the_paths_of_their_functions(self):
