@@ -25,6 +25,7 @@ pub mod Spots
 pub mod Standing
 pub mod SwapRemoves
 pub mod TakenFirst
+pub mod Unmarked
 pub mod UpdatingLemmas
 pub mod Views
 pub mod WritingTables

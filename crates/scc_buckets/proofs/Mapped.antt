@@ -9,7 +9,7 @@ use Rattle.scc_common.specs.Mapped.{mapped}
 use Rattle.scc_buckets.specs.Places.{IsSpot, index_of_spot}
 use Rattle.scc_buckets.specs.Standing.{StandsAtSpot}
 use Rattle.scc_buckets.specs.declared.place.Place.{Place}
-use Rattle.scc_common.specs.Steps.{Holds, HoldsExactly, HoldsWith, IsUnchanged, KeepsSize, Rests, Grows, Reserves, Releases, FirstArrayWhenDue, GrowsWhenDue, IsGrowthDue, ShrinksWhenDue, ReachesMinimumWhenDue}
+use Rattle.scc_common.specs.Steps.{Holds, HoldsExactly, HoldsWith, IsUnchanged, KeepsSize, Rests, Grows, Reserves, Releases, FirstArrayWhenDue, GrowsWhenDue, IsBelowMinimumOf, IsGrowthDue, IsShrinkDueFor, ShrinksWhenDue, ReachesMinimumWhenDue}
 
 joined-map : {E F : Type 0} (f : E → F) (ls : List (List E)) → flat_map (λ l. l) (map (λ l. map f l) ls) ≡ map f (flat_map (λ l. l) ls)
 joined-map f [] = refl
@@ -117,11 +117,51 @@ module _ {E F S : Type 0} (f : E → F) where
   pub FirstArrayWhenDue-mapped : (c d : Contents E S) → FirstArrayWhenDue c d → FirstArrayWhenDue (mapped f c) (mapped f d)
   FirstArrayWhenDue-mapped c d h = record { made = rw (bucket_count-mapped c, bucket_count-mapped d, settings_of-mapped c) h.made }
 
+  IsShrinkDueFor-mapped : (c d : Contents E S) (m n : ℕ) → IsShrinkDueFor c d m n → IsShrinkDueFor (mapped f c) (mapped f d) m n
+  IsShrinkDueFor-mapped c d m n due = record {
+    least = rw (settings_of-mapped d) due.least;
+    fitting = rw (length-mapped d) due.fitting;
+    few = rw (bucket_count-mapped c, length-mapped d) due.few;
+    smaller = rw (bucket_count-mapped c) due.smaller;
+  }
+
+  IsShrinkDueFor-from_mapped : (c d : Contents E S) (m n : ℕ) → IsShrinkDueFor (mapped f c) (mapped f d) m n → IsShrinkDueFor c d m n
+  IsShrinkDueFor-from_mapped c d m n due = record {
+    least = rw (settings_of-mapped d) at due.least;
+    fitting = rw (length-mapped d) at due.fitting;
+    few = rw (bucket_count-mapped c, length-mapped d) at due.few;
+    smaller = rw (bucket_count-mapped c) at due.smaller;
+  }
+
   pub ShrinksWhenDue-mapped : (c d : Contents E S) → ShrinksWhenDue c d → ShrinksWhenDue (mapped f c) (mapped f d)
-  ShrinksWhenDue-mapped c d h = record { shrunk = rw (bucket_count-mapped c, bucket_count-mapped d, settings_of-mapped d, length-mapped d, notes_of-mapped d) h.shrunk; raised = rw (bucket_count-mapped c, settings_of-mapped d, length-mapped d, notes_of-mapped c, notes_of-mapped d) h.raised; lowered = rw (bucket_count-mapped c, bucket_count-mapped d, notes_of-mapped c, notes_of-mapped d) h.lowered; down = rw (bucket_count-mapped c, bucket_count-mapped d, notes_of-mapped d) h.down; marked = rw (notes_of-mapped c, notes_of-mapped d) h.marked }
+  ShrinksWhenDue-mapped c d h = record {
+    still = λ none. notes_of-mapped d ∙ h.still (λ m n due. none m n (IsShrinkDueFor-mapped c d m n due)) ∙ sym (notes_of-mapped c);
+    shrunk = λ ne. notes_of-mapped d ∙ h.shrunk (rw (bucket_count-mapped c, bucket_count-mapped d) at ne);
+    size = rw (bucket_count-mapped c, bucket_count-mapped d, settings_of-mapped d, length-mapped d) h.size;
+    denied = λ m n due same. notes_of-mapped d ∙ h.denied m n (IsShrinkDueFor-from_mapped c d m n due) (rw (bucket_count-mapped c, bucket_count-mapped d) at same);
+  }
+
+  IsBelowMinimumOf-mapped : (c d : Contents E S) (m : ℕ) → IsBelowMinimumOf c d m → IsBelowMinimumOf (mapped f c) (mapped f d) m
+  IsBelowMinimumOf-mapped c d m due = record {
+    least = rw (settings_of-mapped d) due.least;
+    array = rw (bucket_count-mapped c) due.array;
+    fewer = rw (bucket_count-mapped c) due.fewer;
+  }
+
+  IsBelowMinimumOf-from_mapped : (c d : Contents E S) (m : ℕ) → IsBelowMinimumOf (mapped f c) (mapped f d) m → IsBelowMinimumOf c d m
+  IsBelowMinimumOf-from_mapped c d m due = record {
+    least = rw (settings_of-mapped d) at due.least;
+    array = rw (bucket_count-mapped c) at due.array;
+    fewer = rw (bucket_count-mapped c) at due.fewer;
+  }
 
   pub ReachesMinimumWhenDue-mapped : (c d : Contents E S) → ReachesMinimumWhenDue c d → ReachesMinimumWhenDue (mapped f c) (mapped f d)
-  ReachesMinimumWhenDue-mapped c d h = record { reached = rw (bucket_count-mapped c, bucket_count-mapped d, settings_of-mapped d, notes_of-mapped d) h.reached; raised = rw (bucket_count-mapped c, settings_of-mapped d, notes_of-mapped c, notes_of-mapped d) h.raised; lowered = rw (bucket_count-mapped c, bucket_count-mapped d, notes_of-mapped c, notes_of-mapped d) h.lowered; down = rw (bucket_count-mapped c, bucket_count-mapped d, notes_of-mapped d) h.down; marked = rw (notes_of-mapped c, notes_of-mapped d) h.marked }
+  ReachesMinimumWhenDue-mapped c d h = record {
+    still = λ none. notes_of-mapped d ∙ h.still (λ m due. none m (IsBelowMinimumOf-mapped c d m due)) ∙ sym (notes_of-mapped c);
+    grown = λ ne. notes_of-mapped d ∙ h.grown (rw (bucket_count-mapped c, bucket_count-mapped d) at ne);
+    size = rw (bucket_count-mapped c, bucket_count-mapped d, settings_of-mapped d) h.size;
+    denied = λ m due same. notes_of-mapped d ∙ h.denied m (IsBelowMinimumOf-from_mapped c d m due) (rw (bucket_count-mapped c, bucket_count-mapped d) at same);
+  }
 
   HoldsWith-mapped : (c : Contents E S) (s : Settings S) (d : Contents E S) → HoldsWith c s d → HoldsWith (mapped f c) s (mapped f d)
   HoldsWith-mapped c s d h = record {
@@ -173,10 +213,7 @@ module _ {E F S : Type 0} (f : E → F) where
 
     pub GrowsWhenDue-mapped : (hash : K → ℕ) (c : Contents E S) (k : K) (d : Contents E S) → GrowsWhenDue hash (λ e. key (f e)) c k d → GrowsWhenDue hash key (mapped f c) k (mapped f d)
     GrowsWhenDue-mapped hash c k d h = record {
-      doubled = λ due down. rw (bucket_count-mapped c, bucket_count-mapped d) (h.doubled (IsGrowthDue-from_mapped hash c k due) (rw (notes_of-mapped d) at down));
-      raised = λ low up. IsGrowthDue-mapped hash c k (h.raised (rw (notes_of-mapped c) at low) (rw (notes_of-mapped d) at up));
-      unmarked = λ due. ap (λ x. x.1) (notes_of-mapped d) ∙ h.unmarked (IsGrowthDue-from_mapped hash c k due);
-      marked = rw (notes_of-mapped c, notes_of-mapped d) h.marked;
-      lowered = rw (bucket_count-mapped c, bucket_count-mapped d, notes_of-mapped c, notes_of-mapped d) h.lowered;
-      down = rw (bucket_count-mapped c, bucket_count-mapped d, notes_of-mapped d) h.down;
+      still = λ none. notes_of-mapped d ∙ h.still (λ due. none (IsGrowthDue-mapped hash c k due)) ∙ sym (notes_of-mapped c);
+      grown = λ some ne. notes_of-mapped d ∙ h.grown (rw (bucket_count-mapped c) at some) (rw (bucket_count-mapped c, bucket_count-mapped d) at ne);
+      denied = λ due same. notes_of-mapped d ∙ h.denied (IsGrowthDue-from_mapped hash c k due) (rw (bucket_count-mapped c, bucket_count-mapped d) at same);
     }

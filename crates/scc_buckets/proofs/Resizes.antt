@@ -1,15 +1,15 @@
 -- Changes before a resize, and changes after a resize.
-use Rattle.std.proofs.Common.{◌≡◌, ◌≢◌, ℕ, ◌+◌, ◌*◌, ◌^◌, ◌<◌, ◌≤◌, inl, inr, Bool, false, List, [], ◌∷◌, length, sym, ap, ◌∙◌, subst, max, arith, Some, None, ap, Bool}
+use Rattle.std.proofs.Common.{◌≡◌, ◌≢◌, ℕ, ◌+◌, ◌*◌, ◌^◌, ◌<◌, ◌≤◌, inl, inr, Bool, false, true, List, [], ◌∷◌, length, sym, ap, ◌∙◌, subst, max, arith, Some, None, ap, Bool}
 use Rattle.std.specs.List.{All, position}
 use Rattle.std.specs.List.Sorted.{IsPermutation}
 use Rattle.std.proofs.lemmas.List.Elements.{All-cons}
 use Rattle.std.proofs.lemmas.List.Sorted.{length_permutation, All-permutation, IsPermutation-cons, IsPermutation-refl, IsPermutation-trans}
 use native.Mathlib.Decide.{dec_lt}
-use Rattle.scc_common.specs.Contents.{Contents, entries, bucket_count, settings_of, minimum_of, notes_of, IsMarked, IsNoteDown, IsNoteUp}
+use Rattle.scc_common.specs.Contents.{Contents, entries, bucket_count, settings_of, minimum_of, notes_of}
 use Rattle.scc_buckets.specs.Places.{IsInsertedAtSpot}
 use Rattle.scc_buckets.specs.Pour.{IsRegrouped}
 use Rattle.scc_common.specs.Sizes.{IsBucketCount, IsArraySize, IsSmaller}
-use Rattle.scc_common.specs.Steps.{Holds, KeepsSize, IsShrunk, IsUnchanged, Resizes, ReachesMinimumWhenDue, Rests, Shrinks, ShrinksWhenDue}
+use Rattle.scc_common.specs.Steps.{Holds, IsShrinkDueFor, KeepsSize, IsShrunk, IsUnchanged, Resizes, ReachesMinimumWhenDue, Rests, Shrinks, ShrinksWhenDue}
 use Rattle.scc_buckets.specs.declared.place.Place.{Place}
 use Rattle.scc_buckets.proofs.FindingLemmas.{position_hit, position_cons, position_none}
 use Rattle.scc_buckets.proofs.Inserts.{by_answer, none_left}
@@ -94,49 +94,57 @@ module _ {E S : Type 0} where
   }
 
   -- a try to shrink that follows the two sizes does all that is due
-  pub shrinks-due : (k l : ℕ) (a b : Contents E S) → IsArraySize (minimum_of b) (32 * k) → IsArraySize (2 * length (entries b)) (32 * l) → (max k l < bucket_count a → IsNoteDown b → bucket_count b ≡ max k l) → (IsNoteDown a → IsNoteUp b → (length (entries b) ≤ 4 * bucket_count a) × (max k l < bucket_count a))
-      → (IsNoteUp a → IsNoteDown b → bucket_count b ≢ bucket_count a) → (bucket_count b ≢ bucket_count a → IsNoteDown b) → (IsMarked b → IsMarked a) → ShrinksWhenDue a b
-  shrinks-due k l a b sm sl made rose fell low marked = record {
-    shrunk = λ m n am an few less down.
+  pub shrinks-due : (k l : ℕ) (a b : Contents E S) → IsArraySize (minimum_of b) (32 * k) → IsArraySize (2 * length (entries b)) (32 * l) → ((length (entries b) ≤ 4 * bucket_count a → max k l < bucket_count a → ⊥) → notes_of b ≡ notes_of a) → (bucket_count b ≢ bucket_count a → (bucket_count b ≡ max k l) × (notes_of b ≡ (false, false)))
+      → (length (entries b) ≤ 4 * bucket_count a → max k l < bucket_count a → bucket_count b ≡ bucket_count a → notes_of b ≡ (true, false)) → ShrinksWhenDue a b
+  shrinks-due k l a b sm sl kept made left = record {
+    still = λ none. kept (λ few less. none (32 * k) (32 * l) record { least = sm; fitting = sl; few = omega arith; smaller = omega arith });
+    shrunk = λ ne. (made ne).1;
+    size = λ ne m n am an.
         let em = size-once _ _ _ sm am in
         let en = size-once _ _ _ sl an in
-        let e = made (omega arith) down in
+        let e = (made ne).0 in
         omega arith;
-    raised = λ low up m n am an.
-        let em = size-once _ _ _ sm am in
-        let en = size-once _ _ _ sl an in
-        let r = rose low up in
-        (omega (arith, r.0), omega (arith, r.1));
-    lowered = fell;
-    down = low;
-    marked = marked;
+    denied = λ m n due same.
+        let em = size-once _ _ _ sm due.least in
+        let en = size-once _ _ _ sl due.fitting in
+        left (omega (arith, due.few)) (omega (arith, due.smaller)) same;
   }
 
-  -- after a change that kept the buckets and the note of refused memory, a try to shrink still does all that is due
+  -- a shrink that is due by the number of buckets is due for as many
+  shrink-due-same : (a b c : Contents E S) (m n : ℕ) → bucket_count b ≡ bucket_count a → IsShrinkDueFor a c m n → IsShrinkDueFor b c m n
+  shrink-due-same a b c m n same due = record { least = due.least; fitting = due.fitting; few = omega (arith, same, due.few); smaller = omega (arith, same, due.smaller) }
+
+  -- after a change that kept the buckets, the note and the mark, a try to shrink still does all that is due
   pub shrinks-after : (a b c : Contents E S) → bucket_count b ≡ bucket_count a → notes_of b ≡ notes_of a → ShrinksWhenDue b c → ShrinksWhenDue a c
   shrinks-after a b c same noted h = record {
-    shrunk = λ m n am an few less down. h.shrunk m n am an (omega (arith, same)) (omega (arith, same)) down;
-    raised = λ low up m n am an. let r = h.raised (ap (λ (x : Bool × Bool). x.0) noted ∙ low) up m n am an in (omega (arith, same, r.0), omega (arith, same, r.1));
-    lowered = λ up low e. h.lowered (ap (λ (x : Bool × Bool). x.0) noted ∙ up) low (e ∙ sym same);
-    down = λ ne. h.down (λ e. ne (e ∙ same));
-    marked = λ up. sym (ap (λ (x : Bool × Bool). x.1) noted) ∙ h.marked up;
+    still = λ none. h.still (λ m n due. none m n (shrink-due-same b a c m n (sym same) due)) ∙ noted;
+    shrunk = λ ne. h.shrunk (λ e. ne (e ∙ same));
+    size = λ ne. h.size (λ e. ne (e ∙ same));
+    denied = λ m n due e. h.denied m n (shrink-due-same a b c m n same due) (e ∙ sym same);
   }
 
   -- a try to grow that follows the size k does all that is due
-  pub reaches-due : (k : ℕ) (a b : Contents E S) → IsArraySize (minimum_of b) (32 * k) → (0 < bucket_count a → bucket_count a < k → IsNoteDown b → bucket_count b ≡ k) → (IsNoteDown a → IsNoteUp b → (0 < bucket_count a) × (bucket_count a < k))
-      → (IsNoteUp a → IsNoteDown b → bucket_count b ≢ bucket_count a) → (bucket_count b ≢ bucket_count a → IsNoteDown b) → (IsMarked b → IsMarked a) → ReachesMinimumWhenDue a b
-  reaches-due k a b size made rose fell low marked = record {
-    reached = λ m am some less down.
+  pub reaches-due : (k : ℕ) (a b : Contents E S) → IsArraySize (minimum_of b) (32 * k) → ((0 < bucket_count a → bucket_count a < k → ⊥) → notes_of b ≡ notes_of a) → (bucket_count b ≢ bucket_count a → (bucket_count b ≡ k) × (notes_of b ≡ (false, false)))
+      → (0 < bucket_count a → bucket_count a < k → bucket_count b ≡ bucket_count a → notes_of b ≡ (true, false)) → ReachesMinimumWhenDue a b
+  reaches-due k a b size kept made left = record {
+    still = λ none. kept (λ some less. none (32 * k) record { least = size; array = some; fewer = omega arith });
+    grown = λ ne. (made ne).1;
+    size = λ ne m am.
         let e = size-once _ _ _ size am in
-        let z = made some (omega arith) down in
+        let z = (made ne).0 in
         omega arith;
-    raised = λ low up m am.
-        let e = size-once _ _ _ size am in
-        let r = rose low up in
-        (r.0, omega (arith, r.1));
-    lowered = fell;
-    down = low;
-    marked = marked;
+    denied = λ m due same.
+        let e = size-once _ _ _ size due.least in
+        left due.array (omega (arith, due.fewer)) same;
+  }
+
+  -- after a change that kept the buckets, the note and the mark, a try to grow still does all that is due
+  pub reaches-after : (a b c : Contents E S) → bucket_count b ≡ bucket_count a → notes_of b ≡ notes_of a → ReachesMinimumWhenDue b c → ReachesMinimumWhenDue a c
+  reaches-after a b c same noted h = record {
+    still = λ none. h.still (λ m due. none m record { least = due.least; array = omega (arith, same, due.array); fewer = omega (arith, same, due.fewer) }) ∙ noted;
+    grown = λ ne. h.grown (λ e. ne (e ∙ same));
+    size = λ ne. h.size (λ e. ne (e ∙ same));
+    denied = λ m due e. h.denied m record { least = due.least; array = omega (arith, same, due.array); fewer = omega (arith, same, due.fewer) } (e ∙ sym same);
   }
 
   -- a try to shrink that changed the number of buckets made it smaller

@@ -4,7 +4,7 @@
 ghost use Rattle.scc_cache.specs.CacheSteps.{AnswersOn, IsAbsent, IsPresent};
 ghost use Rattle.scc_cache.specs.Caches.{IsCacheState};
 ghost use Rattle.scc_cache.specs.KeyCalls.{PutsByRule, RemovesByRule, RemovesIfByRule};
-ghost use Rattle.scc_common.specs.Contents.{entries, bucket_count, minimum_of, pending_of, key_hash, hash_in};
+ghost use Rattle.scc_common.specs.Contents.{entries, bucket_count, minimum_of, note_of, pending_of, key_hash, hash_in};
 ghost use Rattle.std.specs.Borrow.{Bor};
 ghost use Rattle.std.specs.Fn.{FnOnceTakesAtMut};
 ghost use Rattle.std.specs.Prelude.{◌≡◌, ◌≤◌, ◌*◌, ◌↔◌, [], length, IsTrue, MatchOption};
@@ -81,6 +81,15 @@ impl<K: Eq + Hash, V, H: BuildHasher> Owned<K, V, H> {
         ensures { IsTrue result ↔ (entries self.now.contents ≡ []) }
     {
         self.table.len() == 0
+    }
+
+    /// Returns whether memory was refused for the last resize that was due. The next resize that is made clears this
+    /// note. If the result is false after a call that had to resize, the cache has the size that the rules ask for.
+    #[inline(always)]
+    pub fn is_resize_refused(&self) -> bool
+        ensures { result ≡ note_of self.now.contents }
+    {
+        self.table.is_resize_refused()
     }
 
     /// Returns the number of slots of the array, 32 a bucket, or 0 without an array. There are never more pairs than

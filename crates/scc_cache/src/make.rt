@@ -116,6 +116,7 @@ impl<K: Eq + Hash, V, H: BuildHasher> Owned<K, V, H> {
             → I.IntoIter.can_next it × IsFinite (I.IntoIter.remaining it) }
         ensures items { IfOk result (λ c. (it : I.IntoIter) × (xs : List (K × V)) × I.into_iter_gives items it
             × Drains I.IntoIter.next_gives it xs × IsCollected K.eq (hash_in ⟦<H as Hashes<K>>⟧.hash_of) xs c) }
+        ensures hasher { IfOk result (λ c. H.is_default (settings_of c.contents).hasher) }
         ensures state { IfOk result (λ c. IsCacheState K.eq (hash_in ⟦<H as Hashes<K>>⟧.hash_of c.contents) c) }
     {
         let Ok(pairs) = Vec::from_iter(alloc, items) else {

@@ -1,9 +1,9 @@
 //! What a put would have to make first, made before it, and what the put would evict.
 ghost use Rattle.scc_cache.specs.CacheSteps.{DrivesNoneOut, DrivesOut, IsAbsent, IsFound, MakesRoomForPut};
 ghost use Rattle.scc_cache.specs.Caches.{IsCacheState};
-ghost use Rattle.scc_common.specs.Contents.{bucket_count, hash_in, list_of, lists_of, notes_of, settings_of, waiting_of, note_of};
+ghost use Rattle.scc_common.specs.Contents.{bucket_count, hash_in, list_of, settings_of, without_mark};
 ghost use Rattle.scc_common.specs.Routing.{bucket_number};
-ghost use Rattle.std.specs.Prelude.{◌≡◌, ◌<◌, ◌≤◌, false, length, Some, IfOk, IfSome, IfNone, MatchOption, slice_get};
+ghost use Rattle.std.specs.Prelude.{◌≡◌, ◌<◌, ◌≤◌, length, Some, IfOk, IfSome, IfNone, MatchOption, slice_get};
 
 use crate::Owned;
 use scc_buckets::Place;
@@ -49,11 +49,7 @@ impl<K: Eq + Hash, V, H: BuildHasher> Owned<K, V, H> {
     /// Takes the mark of a refused doubling away, and changes nothing else. A put then tries a doubling that is due,
     /// even if `make_room` was refused memory for it.
     pub fn drop_room(&mut self)
-        ensures lists { lists_of self.new.contents ≡ lists_of self.old.contents }
-        ensures settings { settings_of self.new.contents ≡ settings_of self.old.contents }
-        ensures noted { notes_of self.new.contents ≡ (note_of self.old.contents, false) }
-        ensures waiting { waiting_of self.new.contents ≡ waiting_of self.old.contents }
-        ensures maximum { self.new.maximum ≡ self.old.maximum }
+        ensures cleared { self.new ≡ record self.old { contents = without_mark self.old.contents } }
         ensures state { IsCacheState K.eq (hash_in ⟦<H as Hashes<K>>⟧.hash_of self.new.contents) self.new }
     {
         self.table.drop_mark();

@@ -61,6 +61,10 @@ module _ {E S : Type 0} where
   abbrev pub mark_of : Contents E S → Bool
   mark_of c = (notes_of c).1
 
+  -- c without its mark
+  unfoldable pub without_mark : Contents E S → Contents E S
+  without_mark c = record c { refused = (note_of c, false) }
+
   -- the note is up
   abbrev pub IsNoteUp : Contents E S → Type 0
   IsNoteUp c = (notes_of c).0 ≡ true

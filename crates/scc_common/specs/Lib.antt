@@ -3,6 +3,7 @@ pub mod Closures
 pub mod Contents
 pub mod Copies
 pub mod Equality
+pub mod ErrorKinds
 pub mod Hashing
 pub mod Mapped
 pub mod PairSteps

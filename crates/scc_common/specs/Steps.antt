@@ -1,7 +1,7 @@
 -- What a call may leave: the same contents, other entries, other buckets.
-use Rattle.std.specs.Prelude.{◌≡◌, ◌≢◌, ℕ, ◌+◌, ◌-◌, ◌*◌, ◌^◌, ◌<◌, ◌≤◌, ◌⊎◌, List, length, max}
+use Rattle.std.specs.Prelude.{◌≡◌, ◌≢◌, ℕ, ◌+◌, ◌-◌, ◌*◌, ◌^◌, ◌<◌, ◌≤◌, ◌⊎◌, List, false, true, length, max}
 use Rattle.std.specs.List.Sorted.{IsPermutation}
-use Rattle.scc_common.specs.Contents.{Contents, Settings, entries, bucket_count, settings_of, lists_of, minimum_of, pending_of, waiting_of, HasRoomAt, HasRoomBy, IsMarked, IsNoteDown, IsNoteUp, IsUnmarked}
+use Rattle.scc_common.specs.Contents.{Contents, Settings, entries, bucket_count, settings_of, lists_of, minimum_of, pending_of, notes_of, waiting_of, HasRoomAt, HasRoomBy, IsMarked}
 use Rattle.scc_common.specs.Sizes.{IsBucketCount, IsArraySize, IsSmaller}
 
 module _ {E S : Type 0} where
@@ -85,38 +85,43 @@ module _ {E S : Type 0} where
     pub half : 32 * bucket_count c ≤ 2 * length (entries c)
     pub below : 32 * bucket_count c < 2 ^ 63
 
-  -- for a new key k, the array doubles if a growth is due, unless memory is refused. The note rises only if a growth is
-  -- due, is down after it, and falls only by it; if it was due, no growth is marked afterwards. The mark doesn't rise
+  -- for a new key k, the array doubles if a growth is due, unless memory is refused. If none is due, note and mark stay;
+  -- after a doubling both are down; if one is due and isn't made, the note is up and no growth is marked
   pub record GrowsWhenDue {K : Type 0} (hash : K → ℕ) (key : E → K) (c : Contents E S) (k : K) (d : Contents E S) : Type 0 where
-    pub doubled : IsGrowthDue hash key c (hash k) → IsNoteDown d → bucket_count d ≡ 2 * bucket_count c
-    pub raised : IsNoteDown c → IsNoteUp d → IsGrowthDue hash key c (hash k)
-    pub lowered : IsNoteUp c → IsNoteDown d → (0 < bucket_count c) × (bucket_count d ≢ bucket_count c)
-    pub down : 0 < bucket_count c → bucket_count d ≢ bucket_count c → IsNoteDown d
-    pub unmarked : IsGrowthDue hash key c (hash k) → IsUnmarked d
-    pub marked : IsMarked d → IsMarked c
+    pub still : (IsGrowthDue hash key c (hash k) → ⊥) → notes_of d ≡ notes_of c
+    pub grown : 0 < bucket_count c → bucket_count d ≢ bucket_count c → notes_of d ≡ (false, false)
+    pub denied : IsGrowthDue hash key c (hash k) → bucket_count d ≡ bucket_count c → notes_of d ≡ (true, false)
 
-  -- the note rises only if a growth for the new key k was due
-  pub record RaisesWhenDue {K : Type 0} (hash : K → ℕ) (key : E → K) (c : Contents E S) (k : K) (d : Contents E S) : Type 0 where
-    pub raised : IsNoteDown c → IsNoteUp d → IsGrowthDue hash key c (hash k)
+  -- a shrink of the array of c is due for the minimum and the entries of d: the entries are at most an eighth of the
+  -- slots, and m and n, the sizes for the minimum and for twice these entries, are both smaller than the array
+  pub record IsShrinkDueFor (c d : Contents E S) (m n : ℕ) : Type 0 where
+    pub least : IsArraySize (minimum_of d) m
+    pub fitting : IsArraySize (2 * length (entries d)) n
+    pub few : 8 * length (entries d) ≤ 32 * bucket_count c
+    pub smaller : max m n < 32 * bucket_count c
 
-  -- if the entries that are left are at most an eighth of the slots, and the greater of the sizes for the minimum and
-  -- for twice these entries is smaller than the array, the array shrinks to this size, unless memory is refused; the
-  -- note rises only in this case, is down after a resize, and falls only by one. The mark doesn't rise
+  -- the array shrinks if a shrink is due, unless memory is refused. If none is due, note and mark stay; after a shrink
+  -- both are down; if one is due and isn't made, the note is up and no growth is marked
   pub record ShrinksWhenDue (c d : Contents E S) : Type 0 where
-    pub shrunk : (m n : ℕ) → IsArraySize (minimum_of d) m → IsArraySize (2 * length (entries d)) n → 8 * length (entries d) ≤ 32 * bucket_count c → max m n < 32 * bucket_count c → IsNoteDown d → 32 * bucket_count d ≡ max m n
-    pub raised : IsNoteDown c → IsNoteUp d → (m n : ℕ) → IsArraySize (minimum_of d) m → IsArraySize (2 * length (entries d)) n → (8 * length (entries d) ≤ 32 * bucket_count c) × (max m n < 32 * bucket_count c)
-    pub lowered : IsNoteUp c → IsNoteDown d → bucket_count d ≢ bucket_count c
-    pub down : bucket_count d ≢ bucket_count c → IsNoteDown d
-    pub marked : IsMarked d → IsMarked c
+    pub still : ((m n : ℕ) → IsShrinkDueFor c d m n → ⊥) → notes_of d ≡ notes_of c
+    pub shrunk : bucket_count d ≢ bucket_count c → notes_of d ≡ (false, false)
+    pub size : bucket_count d ≢ bucket_count c → (m n : ℕ) → IsArraySize (minimum_of d) m → IsArraySize (2 * length (entries d)) n → 32 * bucket_count d ≡ max m n
+    pub denied : (m n : ℕ) → IsShrinkDueFor c d m n → bucket_count d ≡ bucket_count c → notes_of d ≡ (true, false)
 
-  -- an array with fewer slots than the minimum of d grows to its size, unless memory is refused; the note rises only in
-  -- this case, is down after a resize, and falls only by one. The mark doesn't rise
+  -- the array of c has fewer slots than m, the size for the minimum of d
+  pub record IsBelowMinimumOf (c d : Contents E S) (m : ℕ) : Type 0 where
+    pub least : IsArraySize (minimum_of d) m
+    pub array : 0 < bucket_count c
+    pub fewer : 32 * bucket_count c < m
+
+  -- an array with fewer slots than the minimum of d grows to its size, unless memory is refused. If it has as many,
+  -- note and mark stay; after a growth both are down; if it has fewer and doesn't grow, the note is up and no growth is
+  -- marked
   pub record ReachesMinimumWhenDue (c d : Contents E S) : Type 0 where
-    pub reached : (m : ℕ) → IsArraySize (minimum_of d) m → 0 < bucket_count c → 32 * bucket_count c < m → IsNoteDown d → 32 * bucket_count d ≡ m
-    pub raised : IsNoteDown c → IsNoteUp d → (m : ℕ) → IsArraySize (minimum_of d) m → (0 < bucket_count c) × (32 * bucket_count c < m)
-    pub lowered : IsNoteUp c → IsNoteDown d → bucket_count d ≢ bucket_count c
-    pub down : bucket_count d ≢ bucket_count c → IsNoteDown d
-    pub marked : IsMarked d → IsMarked c
+    pub still : ((m : ℕ) → IsBelowMinimumOf c d m → ⊥) → notes_of d ≡ notes_of c
+    pub grown : bucket_count d ≢ bucket_count c → notes_of d ≡ (false, false)
+    pub size : bucket_count d ≢ bucket_count c → (m : ℕ) → IsArraySize (minimum_of d) m → 32 * bucket_count d ≡ m
+    pub denied : (m : ℕ) → IsBelowMinimumOf c d m → bucket_count d ≡ bucket_count c → notes_of d ≡ (true, false)
 
   -- an insertion of a new key with the hash h is prepared: there is an array, and the bucket of h has room, some bucket
   -- waits, the table has fewer than half as many entries as slots, the array is the greatest, or the growth is marked

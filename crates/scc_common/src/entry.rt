@@ -46,6 +46,8 @@ pub trait Valued: Keyed {
         ensures old { result ≡ Self.key_of self.old }
         ensures new { self.new ≡ with_key self.old key };
 
+    ghost value_is: { (e : Self) (v : Self.Value) → value_of (with_value e v) ≡ v };
+
     ghost value_keeps_key: { (e : Self) (v : Self.Value) → Self.key_of (with_value e v) ≡ Self.key_of e };
 
     ghost key_is: { (e : Self) (k : Self.Key) → Self.key_of (with_key e k) ≡ k };
@@ -71,6 +73,8 @@ impl<K, V> Valued for (K, V) {
     fn replace_key(&mut self, key: K) -> K {
         std::mem::replace(&mut self.0, key)
     }
+
+    ghost value_is = { λ e v. refl };
 
     ghost value_keeps_key = { λ e v. refl };
 

@@ -35,7 +35,7 @@ module _ {K V S : Type 0} {eq : K → K → Bool} (laws : IsEquivalence eq) (k :
         smaller = out.smaller;
         due = λ _. out.due;
         noted = (search rules);
-        relocates = λ _. record { all = out.all; less = out.less; waiting = out.waiting };
+        relocates = λ _. record { all = out.all; fewer = out.fewer; less = out.less; waiting = out.waiting };
         waiting = (search rules);
       }
 

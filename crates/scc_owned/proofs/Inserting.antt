@@ -35,13 +35,13 @@ pub map-err : {A B : Type 0} (P Q : B → Type 0) (r : Result A B) → ((e : B) 
 map-err P Q (Ok a) f p = tt
 map-err P Q (Err e) f p = f e p
 
-pub on-err3 : {A B P Q R T : Type 0} (r : Result A B) → (P → Q → R → T) → OnErr r P → OnErr r Q → OnErr r R → OnErr r T
-on-err3 (Ok a) f p q t = tt
-on-err3 (Err b) f p q t = f p q t
+pub on-ok4 : {A B P Q R T U : Type 0} (r : Result A B) → (P → Q → R → T → U) → OnOk r P → OnOk r Q → OnOk r R → OnOk r T → OnOk r U
+on-ok4 (Ok a) f p q s t = f p q s t
+on-ok4 (Err b) f p q s t = tt
 
-pub on-ok2 : {A B P Q R : Type 0} (r : Result A B) → (P → Q → R) → OnOk r P → OnOk r Q → OnOk r R
-on-ok2 (Ok a) f p q = f p q
-on-ok2 (Err b) f p q = tt
+pub both-err : {A B : Type 0} (P : B → Type 0) (Q : Type 0) (r : Result A B) → IfErr r (λ b. P b × Q) → IfErr r P × OnErr r Q
+both-err P Q (Ok a) h = (tt, tt)
+both-err P Q (Err b) h = h
 
 pub any-err : {A B : Type 0} (r : Result A B) → OnErr r ⊤
 any-err (Ok a) = tt

@@ -11,7 +11,7 @@ use Rattle.std.specs.declared.hash.Hasher as hasher
 use Rattle.std.specs.declared.hash.BuildHasher as builder
 use Rattle.scc_buckets.specs.declared.place.Place.{Place}
 use Rattle.scc_common.specs.Contents.{Contents, bucket_count, hash_in, key_hash, waiting_of, HasRoomBy, IsUniqueBy}
-use Rattle.scc_common.specs.Steps.{FirstArrayWhenDue, GrowsForInsertion, GrowsWhenDue, IsPreparedFor, IsUnchanged, RaisesWhenDue, Rests}
+use Rattle.scc_common.specs.Steps.{FirstArrayWhenDue, GrowsForInsertion, GrowsWhenDue, IsPreparedFor, IsUnchanged, Rests}
 use Rattle.scc_common.specs.declared.errors.InsertError.{InsertError}
 use Rattle.scc_common.specs.declared.entry.Keyed as keyed
 use Rattle.scc_common.specs.declared.guard.Guard as guard
@@ -44,13 +44,12 @@ module _ {E K S : Type 0} (key : E → K) where
     pub relocates : Relocates c d
     pub unique : IsUniqueBy same key d
 
-  -- d is c after an insertion of the new key k into an index was refused memory: no entry, bucket or setting changed, the
-  -- note of refused memory rose only if a growth was due, and is up if one was due; only buckets wait that an insertion
-  -- leaves waiting
+  -- d is c after an insertion of the new key k into an index was refused memory: no entry, bucket or setting changed; if a
+  -- growth was due, the note of refused memory is up, and else it stayed; only buckets wait that an insertion leaves
+  -- waiting
   pub record RestsOfIndex (hash : K → ℕ) (c : Contents E S) (k : K) (d : Contents E S) : Type 0 where
     pub unchanged : IsUnchanged c d
-    pub raised : RaisesWhenDue hash key c k d
-    pub undone : GrowsWhenDue hash key c k d
+    pub due : GrowsWhenDue hash key c k d
     pub relocates : Relocates c d
 
   -- d is c after an insertion of the new key k was refused memory

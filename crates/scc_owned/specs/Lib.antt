@@ -4,7 +4,6 @@ pub mod EntrySteps
 pub mod Held
 pub mod IndexCollections
 pub mod IndexEntries
-pub mod IndexInsertions
 pub mod IndexSteps
 pub mod IndexWalks
 pub mod Insertions
@@ -12,7 +11,6 @@ pub mod Lends
 pub mod Lookups
 pub mod MapCollections
 pub mod MapEntries
-pub mod MapInsertions
 pub mod MapSteps
 pub mod Rooms
 pub mod Seats

@@ -8,7 +8,7 @@ use Rattle.std.specs.declared.cmp.PartialEq as eq
 use Rattle.std.specs.declared.hash.Hash as hash
 use Rattle.std.specs.declared.hash.Hasher as hasher
 use Rattle.std.specs.declared.hash.BuildHasher as builder
-use Rattle.std.proofs.Common.{ap, sym, ◌∙◌}
+use Rattle.std.proofs.Common.{ap, refl, sym, ◌∙◌}
 use Rattle.scc_buckets.proofs.Finds.{lookup-find}
 use Rattle.scc_buckets.proofs.Lookups.{find-position, find-position_none}
 use Rattle.scc_buckets.proofs.PairWrites.{IsPlaceOf}
@@ -50,8 +50,9 @@ module _ {E K V : Type 0} (l : Lookups E K V) (key : E → K) where
     pub updates : (q : K) (v : V) → take i es ++ l.made q v ∷ drop (suc i) es ≡ l.with_key (same k) (l.with_value (same k) es v) q
     pub removes : take i es ++ drop (suc i) es ≡ l.without (same k) es
 
-  -- the look-ups agree with the positions of the entries
+  -- an entry is made with its key, and the look-ups agree with the positions of the entries
   pub record AreLawful : Type 0 where
+    pub keyed : (k : K) (v : V) → key (l.made k v) ≡ k
     pub finds : (passes : K → Bool) (es : List E) → l.find passes es ≡ lists.find (λ e. passes (key e)) es
     pub missing : (passes : K → Bool) (es : List E) → position (λ e. passes (key e)) es ≡ None → l.find passes es ≡ None
     pub first : (passes : K → Bool) (es : List E) (i : ℕ) → position (λ e. passes (key e)) es ≡ Some i → (e : E) × IsFirst passes es i e
@@ -60,6 +61,7 @@ module _ {E K V : Type 0} (l : Lookups E K V) (key : E → K) where
 -- the look-ups of pairs are lawful
 pub pair_lookups-lawful : {K V : Type 0} → AreLawful (pair_lookups {K = K} {V = V}) (λ e. e.0)
 pair_lookups-lawful = record {
+  keyed = λ k v. refl;
   finds = lookup-find;
   missing = find-position_none;
   first = λ passes es i at. let f = find-position passes es i at in (f.0, record { here = f.1; found = f.2; equal = f.3 });

@@ -1,7 +1,7 @@
 -- What a call does that makes room for an insertion.
-use Rattle.std.specs.Prelude.{◌≡◌, ◌⊎◌, ℕ, Option, None, Result, IsOk, IsSome}
+use Rattle.std.specs.Prelude.{◌≡◌, ℕ, Option, None, Result, IsOk, IsSome}
 use Rattle.std.specs.Result.{OnErr, OnOk}
-use Rattle.scc_common.specs.Contents.{Contents, bucket_count, settings_of, IsMarked, IsNoteUp}
+use Rattle.scc_common.specs.Contents.{Contents, bucket_count, settings_of}
 use Rattle.scc_common.specs.Steps.{Prepares}
 use Rattle.scc_table.specs.Marks.{MarksPreparation}
 
@@ -14,8 +14,6 @@ pub record MakesRoom {E K H X R : Type 0} (hash : K → ℕ) (key : E → K) (fo
   pub ok : found ≡ None → OnOk result (Prepares hash key c (hash k) d)
   -- if k is missing, note and mark are those of a preparation
   pub marks : found ≡ None → MarksPreparation hash key c (hash k) d
-  -- a growth is marked only if it was, or if refused memory is noted
-  pub marked : IsMarked d → IsMarked c ⊎ IsNoteUp d
   -- it fails only if k is missing and there is no array, and then nothing changes
   pub err : OnErr result ((found ≡ None) × (bucket_count c ≡ 0))
   pub same : OnErr result (d ≡ c)

@@ -2,8 +2,7 @@
 //! containers. What both have is generic in the entry of the table: a pair in a map, a version in an index.
 #![tactic(auto)]
 
-ghost use Rattle.scc_common.specs.Contents.{entries, bucket_count, lists_of, notes_of, waiting_of, hash_in, note_of, HasRoomBy, IsUniqueBy};
-ghost use Rattle.scc_common.specs.Steps.{IsUnchanged};
+ghost use Rattle.scc_common.specs.Contents.{entries, bucket_count, hash_in, note_of, HasRoomBy, IsUniqueBy, without_mark};
 ghost use Rattle.std.specs.Prelude.{◌≡◌, ◌*◌, ◌↔◌, [], length, IsTrue, ◌==◌, false};
 
 pub mod borrowed;
@@ -113,10 +112,7 @@ where
     /// Takes the mark of a refused growth away, and changes nothing else. An insertion then tries a growth that is
     /// due, even if `make_room` was refused memory for it.
     pub fn drop_room(&mut self)
-        ensures same { IsUnchanged self.old self.new }
-        ensures lists { lists_of self.new ≡ lists_of self.old }
-        ensures waiting { waiting_of self.new ≡ waiting_of self.old }
-        ensures noted { notes_of self.new ≡ (note_of self.old, false) }
+        ensures cleared { self.new ≡ without_mark self.old }
         ensures unique { IsUniqueBy E.Key.eq E.key_of self.new }
     {
         self.table.drop_mark();

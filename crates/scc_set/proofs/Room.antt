@@ -1,11 +1,11 @@
 -- The map's words about room say of pairs what the set's words say of keys.
-use Rattle.std.proofs.Common.{◌≡◌, ◌⊎◌, ℕ, Bool, inl, inr, map, sym, ap, subst, ◌∙◌}
+use Rattle.std.proofs.Common.{◌≡◌, ℕ, Bool, inl, inr, map, sym, ap, subst, ◌∙◌}
 use Rattle.std.proofs.lemmas.Result.{on_err_weaker, on_ok_weaker}
 use Rattle.std.specs.Prelude.{Result}
 use Rattle.std.specs.Hash.{HashWrites}
 use Rattle.std.specs.declared.hash.Hasher as hasher
 use Rattle.std.specs.declared.hash.BuildHasher as builder
-use Rattle.scc_common.specs.Contents.{Contents, entries, lists_of, key_hash, IsMarked, IsNoteUp}
+use Rattle.scc_common.specs.Contents.{Contents, entries, lists_of, key_hash}
 use Rattle.scc_common.specs.Mapped.{mapped}
 use Rattle.scc_common.specs.Pairs.{find as find_pair}
 use Rattle.scc_common.specs.Steps.{IsPreparedFor, Prepares, IsGrowthDue}
@@ -18,10 +18,6 @@ use Rattle.scc_set.proofs.Sets.{found-is, found-none, hash-same, none-found, sho
 pub lists-keys : {K S : Type 0} (c d : Contents (K × Unit {0}) S) → lists_of d ≡ lists_of c → lists_of (of_map d) ≡ lists_of (of_map c)
 unfolding mapped lists_of
 lists-keys c d e = ap (λ ls. map (λ l. map (λ p. p.0) l) ls) e
-
--- the set's mark is up only if it was up before or the note is up, because this holds of the map's mark
-pub marked-keys : {K S : Type 0} (c d : Contents (K × Unit {0}) S) → (IsMarked d → IsMarked c ⊎ IsNoteUp d) → IsMarked (of_map d) → IsMarked (of_map c) ⊎ IsNoteUp (of_map d)
-marked-keys c d h = rw ((shows c).refused, (shows d).refused) h
 
 module _ {K S : Type 0} (hash : K → ℕ) (k : K) where
   -- if an insertion is prepared in the map, it is prepared in the set
@@ -118,7 +114,6 @@ module _ {K S T : Type 0} (build : builder.Ghosts S T) (feed : hasher.Ghosts T) 
     present = λ there. let p = h.present (found-is eq c k there) in (p.0, ap of_map p.1);
     ok = λ none. on_ok_weaker result (room-hashed d) (h.ok (none-found eq c k none));
     marks = λ none. marks-hashed d (h.marks (none-found eq c k none));
-    marked = marked-keys c d h.marked;
     err = on_err_weaker result (λ e. (found-none eq c k e.0, (shows c).buckets ∙ e.1)) h.err;
     same = on_err_weaker result (ap of_map) h.same;
     settings = (shows d).settings ∙ h.settings ∙ sym (shows c).settings;

@@ -12,7 +12,7 @@ use Rattle.std.specs.Option.{option_map}
 use Rattle.std.specs.Set.{remove_key, swap_key}
 use Rattle.std.specs.declared.hash.Hasher as hasher
 use Rattle.std.specs.declared.hash.BuildHasher as builder
-use Rattle.scc_common.specs.Contents.{Contents, entries, bucket_count, settings_of, minimum_of, notes_of, pending_of, waiting_of, key_hash, bucket_of}
+use Rattle.scc_common.specs.Contents.{Contents, entries, bucket_count, settings_of, minimum_of, notes_of, pending_of, waiting_of, without_mark, key_hash, bucket_of}
 use Rattle.scc_common.specs.Mapped.{mapped}
 use Rattle.scc_common.specs.Sizes.{IsSmaller}
 use Rattle.scc_common.specs.Steps.{Holds, HoldsExactly, IsUnchanged, GrowsWhenDue}
@@ -177,6 +177,11 @@ shows {K} c = let f : K × Unit {0} → K = λ p. p.0 in record { keys = entries
 -- if the note of refused memory stays in the map, it stays in the set
 pub noted-keys : {K S : Type 0} (c d : Contents (K × Unit {0}) S) → notes_of d ≡ notes_of c → notes_of (of_map d) ≡ notes_of (of_map c)
 noted-keys c d h = (shows d).refused ∙ h ∙ sym (shows c).refused
+
+-- the set without its mark is that of the map without its mark
+pub unmarked-keys : {K S : Type 0} (c : Contents (K × Unit {0}) S) → of_map (without_mark c) ≡ without_mark (of_map c)
+unfolding mapped notes_of without_mark
+unmarked-keys c = refl
 
 -- if the waiting buckets stay in the map, they stay in the set
 pub waiting-keys : {K S : Type 0} (c d : Contents (K × Unit {0}) S) → waiting_of d ≡ waiting_of c → waiting_of (of_map d) ≡ waiting_of (of_map c)

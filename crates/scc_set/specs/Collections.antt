@@ -1,12 +1,12 @@
 -- A set that is made from items, or from another set's keys.
-use Rattle.std.specs.Prelude.{◌≡◌, ℕ, ◌*◌, ◌<◌, Bool, false, List, [], ◌∷◌, ◌++◌, length, None, Result, Ok, Err, MatchOption}
+use Rattle.std.specs.Prelude.{◌≡◌, ℕ, Bool, List, ◌∷◌, ◌++◌, length, None, Result, Ok, Err, MatchOption}
 use Rattle.std.specs.List.{FoldsTo}
 use Rattle.std.specs.Option.{IsSomeAnd}
-use Rattle.scc_common.specs.Contents.{Contents, entries, bucket_count, settings_of, notes_of, waiting_of}
-use Rattle.scc_common.specs.Sizes.{IsArraySize}
+use Rattle.scc_common.specs.Contents.{Contents, entries}
 use Rattle.scc_common.specs.declared.errors.KeyError.{KeyError}
 use Rattle.scc_common.specs.declared.errors.KeyError.TheVariants.{Exists, Memory}
 use Rattle.scc_table.specs.Arrays.{GrowsByRule}
+use Rattle.scc_owned.specs.Collections.{IsCollectedBy}
 use Rattle.scc_set.specs.Keys.{find}
 use Rattle.scc_set.specs.SetSteps.{Inserts}
 
@@ -38,18 +38,8 @@ module _ {K S : Type 0} (eq : K → K → Bool) (hash : Contents K S → K → �
 
   -- d is made from an empty set, with an array for `length ks` keys, where nothing is noted and nothing waits, by
   -- insertions of the keys in their order
-  pub record IsCollected (ks : List K) (d : Contents K S) : Type 0 where
-    pub made : Contents K S
-    pub empty : entries made ≡ []
-    pub none : length ks ≡ 0 → bucket_count made ≡ 0
-    pub size : 0 < length ks → IsArraySize (length ks) (32 * bucket_count made)
-    pub asked : (settings_of made).asked ≡ 32 * bucket_count made
-    pub reserved : (settings_of made).reserved ≡ 0
-    pub skipped : (settings_of made).skipped ≡ 0
-    pub noted : notes_of made ≡ (false, false)
-    pub waiting : waiting_of made ≡ []
-    pub settings : settings_of d ≡ settings_of made
-    pub run : InsertsAll made ks d
+  abbrev pub IsCollected : List K → Contents K S → Type 0
+  IsCollected ks d = IsCollectedBy InsertsAll ks d
 
 module _ {K : Type 0} where
   -- a look-up of k in the keys finds the first item that equals k, or nothing if there is no such item

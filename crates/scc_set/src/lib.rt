@@ -1,10 +1,10 @@
 //! A hash set for one owner, over the map of `scc_owned`.
 #![tactic(auto)]
 
-ghost use Rattle.scc_common.specs.Contents.{entries, bucket_count, lists_of, settings_of, notes_of, waiting_of, hash_in, note_of};
+ghost use Rattle.scc_common.specs.Contents.{entries, bucket_count, settings_of, notes_of, waiting_of, hash_in, note_of, without_mark};
 ghost use Rattle.scc_common.specs.Pairs.{IsUnique as IsUniqueMap};
 ghost use Rattle.scc_common.specs.Pairs.{find as find_pair};
-ghost use Rattle.scc_common.specs.Steps.{HoldsExactly, IsUnchanged};
+ghost use Rattle.scc_common.specs.Steps.{HoldsExactly};
 ghost use Rattle.scc_owned.specs.Rooms.{MakesRoom};
 ghost use Rattle.scc_set.specs.Keys.{find, with_key, FindsInstead, HasRoom, IsUnique};
 ghost use Rattle.scc_set.specs.SetSteps.{Inserts, Reads, Removes, RemovesIf, Replaces};
@@ -161,10 +161,7 @@ impl<K: Eq + Hash, H: BuildHasher> Owned<K, H> {
     /// Takes the mark of a refused growth away, and changes nothing else. An insertion then tries a growth that is
     /// due, even if `make_room` was refused memory for it.
     pub fn drop_room(&mut self)
-        ensures same { IsUnchanged self.old self.new }
-        ensures lists { lists_of self.new ≡ lists_of self.old }
-        ensures waiting { waiting_of self.new ≡ waiting_of self.old }
-        ensures noted { notes_of self.new ≡ (note_of self.old, false) }
+        ensures cleared { self.new ≡ without_mark self.old }
         ensures unique { IsUnique K.eq self.new }
     {
         self.map.drop_room();

@@ -110,6 +110,7 @@ impl<K: Eq + Hash, H: BuildHasher> Owned<K, H> {
         ensures items { IfOk result (λ s. (it : I.IntoIter) × (xs : List K) × I.into_iter_gives items it
             × Drains I.IntoIter.next_gives it xs × IsCollected K.eq (hash_in ⟦<H as Hashes<K>>⟧.hash_of) xs s
             × FindsItems K.eq xs (entries s)) }
+        ensures hasher { IfOk result (λ s. H.is_default (settings_of s).hasher) }
         ensures unique { IfOk result (λ s. IsUnique K.eq s) }
     {
         let Ok(keys) = Vec::from_iter(alloc, items) else {

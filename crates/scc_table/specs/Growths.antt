@@ -2,7 +2,7 @@
 use Rattle.std.specs.Prelude.{◌≡◌, ◌≢◌, ◌≤◌, ◌<◌, ◌+◌, ◌*◌, ◌⊎◌, ℕ, [], Bool, false, true, length, replicate, slice_get, Result, IfOk}
 use Rattle.std.specs.List.{range_with_len}
 use Rattle.std.specs.Result.{OnOk, OnErr}
-use Rattle.scc_common.specs.Contents.{Contents, entries, bucket_count, list_of, lists_of, pending_of, notes_of, settings_of, waiting_of, HasRoomAt, IsUniqueBy, IsMarked, IsNoteDown, IsNoteUp, IsUnmarked}
+use Rattle.scc_common.specs.Contents.{Contents, entries, bucket_count, list_of, lists_of, pending_of, notes_of, settings_of, waiting_of, HasRoomAt, IsUniqueBy, IsMarked}
 use Rattle.scc_common.specs.Routing.{bucket_number}
 use Rattle.scc_common.specs.Steps.{FirstArrayWhenDue, Grows, IsUnchanged, Rests, IsGrowthDue}
 use Rattle.scc_buckets.specs.Pour.{IsRegrouped}
@@ -20,14 +20,10 @@ module _ {E K S : Type 0} (eq : K → K → Bool) (key : E → K) where
       pub rests : Rests c d
       -- the number of buckets changes only by a doubling
       pub growth : Grows c d
-      -- if a doubling is due and the note is down afterwards, the array has doubled
-      pub due : 32 * bucket_count c ≤ 2 * length (entries c) → 32 * bucket_count c < most → IsNoteDown d → bucket_count d ≡ 2 * bucket_count c
-      -- the note rises only if a doubling is due
-      pub raised : IsNoteDown c → IsNoteUp d → (32 * bucket_count c ≤ 2 * length (entries c)) × (32 * bucket_count c < most)
-      -- the note falls only by a doubling
-      pub lowered : IsNoteUp c → IsNoteDown d → bucket_count d ≢ bucket_count c
-      -- after a doubling, the note is down
-      pub down : bucket_count d ≢ bucket_count c → IsNoteDown d
+      -- after a doubling, the note and the mark are down
+      pub lowered : bucket_count d ≢ bucket_count c → notes_of d ≡ (false, false)
+      -- if a doubling is due and isn't made, the note is up and no growth is marked
+      pub denied : 32 * bucket_count c ≤ 2 * length (entries c) → 32 * bucket_count c < most → bucket_count d ≡ bucket_count c → notes_of d ≡ (true, false)
       -- without a doubling, each list stays
       pub stays : bucket_count d ≡ bucket_count c → lists_of d ≡ lists_of c
       -- without a doubling, the waiting buckets stay
@@ -40,8 +36,6 @@ module _ {E K S : Type 0} (eq : K → K → Bool) (key : E → K) where
       pub array : 0 < bucket_count d
       -- a growth that is marked isn't tried
       pub once : IsMarked c → bucket_count d ≡ bucket_count c
-      -- if a doubling is due, no growth is marked afterwards
-      pub unmarked : 32 * bucket_count c ≤ 2 * length (entries c) → 32 * bucket_count c < most → IsUnmarked d
       -- if no doubling is due, the note and the mark stay
       pub noted : ((32 * bucket_count c ≤ 2 * length (entries c)) × (32 * bucket_count c < most) → ⊥) → notes_of d ≡ notes_of c
       -- a growth is marked only if it was, and the note stays then
@@ -62,14 +56,10 @@ module _ {E K S : Type 0} (eq : K → K → Bool) (key : E → K) where
       pub routed : IfOk result (λ i. i ≡ bucket_number (settings_of d).skipped (bucket_count d) hash)
       -- if the bucket of `hash` has room, nothing changes
       pub still : HasRoomAt hash_of key c hash → d ≡ c
-      -- if a doubling is due and the note is down afterwards, the array has doubled
-      pub due : IsGrowthDue hash_of key c hash → 32 * bucket_count c < most → IsNoteDown d → bucket_count d ≡ 2 * bucket_count c
-      -- the note rises only if a doubling is due
-      pub raised : IsNoteDown c → IsNoteUp d → IsGrowthDue hash_of key c hash × (32 * bucket_count c < most)
-      -- the note falls only by a doubling
-      pub lowered : IsNoteUp c → IsNoteDown d → (0 < bucket_count c) × (bucket_count d ≢ bucket_count c)
-      -- after a doubling, the note is down
-      pub down : 0 < bucket_count c → bucket_count d ≢ bucket_count c → IsNoteDown d
+      -- after a doubling, the note and the mark are down
+      pub lowered : 0 < bucket_count c → bucket_count d ≢ bucket_count c → notes_of d ≡ (false, false)
+      -- if a doubling is due and isn't made, the note is up and no growth is marked
+      pub denied : IsGrowthDue hash_of key c hash → 32 * bucket_count c < most → bucket_count d ≡ bucket_count c → notes_of d ≡ (true, false)
       -- on success, the first array has the size of the minimum
       pub first : OnOk result (FirstArrayWhenDue c d)
       -- if there was no array, there is no entry
@@ -86,8 +76,6 @@ module _ {E K S : Type 0} (eq : K → K → Bool) (key : E → K) where
       pub lists : 0 < bucket_count c → bucket_count d ≢ bucket_count c → IsRegrouped (λ e. hash_of (key e)) (bucket_count d) c d
       -- if a bucket waits or a growth is marked, the array doesn't double
       pub once : 0 < bucket_count c → (0 < pending_of c) ⊎ IsMarked c → bucket_count d ≡ bucket_count c
-      -- if a doubling is due, no growth is marked afterwards
-      pub unmarked : IsGrowthDue hash_of key c hash → 32 * bucket_count c < most → IsUnmarked d
       -- the call fails only if there is no array
       pub none : OnErr result (bucket_count c ≡ 0)
       -- on failure, entries, buckets and settings stay
@@ -108,12 +96,10 @@ module _ {E K S : Type 0} (eq : K → K → Bool) (key : E → K) where
       pub rests : Rests c d
       -- the number of buckets changes only by a doubling
       pub doubled : bucket_count d ≢ bucket_count c → bucket_count d ≡ 2 * bucket_count c
-      -- if the note is down afterwards, the array has doubled
-      pub due : IsNoteDown d → bucket_count d ≢ bucket_count c
-      -- after a doubling, the note is down
-      pub down : bucket_count d ≢ bucket_count c → IsNoteDown d
-      -- no growth is marked
-      pub unmarked : IsUnmarked d
+      -- after a doubling, the note and the mark are down
+      pub lowered : bucket_count d ≢ bucket_count c → notes_of d ≡ (false, false)
+      -- without a doubling, the note is up and no growth is marked
+      pub denied : bucket_count d ≡ bucket_count c → notes_of d ≡ (true, false)
       -- the bucket of the result is below the number of buckets
       pub within : result.bucket < bucket_count d
       -- the entry of `place` stands at the result
@@ -140,10 +126,8 @@ module _ {E K S : Type 0} (eq : K → K → Bool) (key : E → K) where
       pub ok : IsInsertedAt c e d result
       -- there are `count` buckets
       pub buckets : bucket_count d ≡ count
-      -- no refused memory is noted
-      pub down : IsNoteDown d
-      -- no growth is marked
-      pub unmarked : IsUnmarked d
+      -- the note and the mark are down
+      pub lowered : notes_of d ≡ (false, false)
       -- all buckets but at most two wait
       pub most : count ≤ pending_of d + 2
       -- if no bucket would hold more than 32 entries, exactly the bucket of the key and the first other bucket don't

@@ -1,11 +1,11 @@
 -- What an insertion of an entry that is made of its parts does to a table of two arrays, one word a call. A failure
 -- hands the parts x back.
-use Rattle.std.specs.Prelude.{◌≡◌, ◌≢◌, ◌≤◌, ◌<◌, ◌+◌, ◌-◌, ◌*◌, ◌^◌, ℕ, [], Bool, false, length, Result, IfOk, IfErr}
+use Rattle.std.specs.Prelude.{◌≡◌, ◌≢◌, ◌≤◌, ◌<◌, ◌+◌, ◌-◌, ◌*◌, ◌^◌, ℕ, [], Bool, false, true, length, Result, IfOk, IfErr}
 use Rattle.std.specs.List.{range_with_len}
-use Rattle.std.specs.Result.{OnOk, OnErr}
-use Rattle.scc_common.specs.Contents.{Contents, entries, bucket_count, pending_of, notes_of, settings_of, waiting_of, HasRoomBy, IsUniqueBy, IsMarked, IsNoteDown, IsNoteUp, IsUnmarked}
+use Rattle.std.specs.Result.{OnOk}
+use Rattle.scc_common.specs.Contents.{Contents, entries, bucket_count, pending_of, notes_of, settings_of, waiting_of, HasRoomBy, IsUniqueBy, IsMarked}
 use Rattle.scc_common.specs.Routing.{bucket_number}
-use Rattle.scc_common.specs.Steps.{FirstArrayWhenDue, Grows, GrowsWhenDue, IsPreparedFor, IsUnchanged, RaisesWhenDue}
+use Rattle.scc_common.specs.Steps.{FirstArrayWhenDue, Grows, GrowsWhenDue, IsPreparedFor, IsUnchanged}
 use Rattle.scc_buckets.specs.declared.place.Place.{Place}
 use Rattle.scc_table.specs.Places.{IsInsertedAt}
 use Rattle.scc_table.specs.Relocates.{left_after, AreMovedBeside, AreShort, AreShortAmong}
@@ -37,10 +37,8 @@ module _ {E K S X : Type 0} (eq : K → K → Bool) (key : E → K) where
     pub err : IfErr result (λ y. (y ≡ x) × IsUnchanged c d)
     -- the number of buckets stays
     pub buckets : bucket_count d ≡ bucket_count c
-    -- the refused memory is noted
-    pub up : IsNoteUp d
-    -- no growth is marked
-    pub unmarked : IsUnmarked d
+    -- the refused memory is noted, and no growth is marked
+    pub denied : notes_of d ≡ (true, false)
     -- no bucket starts to wait
     pub fewer : (j : ℕ) → IsWaiting d j → IsWaiting c j
     -- the number of waiting buckets doesn't rise
@@ -59,12 +57,8 @@ module _ {E K S X : Type 0} (eq : K → K → Bool) (key : E → K) where
       pub err : IfErr result (λ y. (y ≡ x) × IsUnchanged c d)
       -- the number of buckets changes only by the first array or a doubling
       pub growth : Grows c d
-      -- on success, the array doubles if a growth is due, unless memory is refused
-      pub due : OnOk result (GrowsWhenDue hash_of key c (key e) d)
-      -- on failure, the note rises only if a growth is due
-      pub raised : OnErr result (RaisesWhenDue hash_of key c (key e) d)
-      -- on failure, the rules of a growth hold as on success
-      pub undone : OnErr result (GrowsWhenDue hash_of key c (key e) d)
+      -- the array doubles if a growth is due, unless memory is refused; on failure, a due growth is noted
+      pub due : GrowsWhenDue hash_of key c (key e) d
       -- on success, the first array has the size of the minimum
       pub first : OnOk result (FirstArrayWhenDue c d)
       -- if the bucket of the key has room, the number of buckets stays
@@ -111,20 +105,14 @@ module _ {E K S X : Type 0} (eq : K → K → Bool) (key : E → K) where
       pub err : IfErr result (λ y. (y ≡ x) × IsUnchanged c d)
       -- the number of buckets changes only by a doubling
       pub growth : Grows c d
-      -- if a doubling is due and the note is down afterwards, the array has doubled
-      pub due : 32 * bucket_count c ≤ 2 * length (entries c) → 32 * bucket_count c < 2 ^ 63 → IsNoteDown d → bucket_count d ≡ 2 * bucket_count c
-      -- the note rises only if a doubling is due
-      pub raised : IsNoteDown c → IsNoteUp d → (32 * bucket_count c ≤ 2 * length (entries c)) × (32 * bucket_count c < 2 ^ 63)
-      -- the note falls only by a doubling
-      pub lowered : IsNoteUp c → IsNoteDown d → bucket_count d ≢ bucket_count c
-      -- after a doubling, the note is down
-      pub down : bucket_count d ≢ bucket_count c → IsNoteDown d
+      -- if no doubling is due, the note and the mark stay
+      pub noted : ((32 * bucket_count c ≤ 2 * length (entries c)) × (32 * bucket_count c < 2 ^ 63) → ⊥) → notes_of d ≡ notes_of c
+      -- after a doubling, the note and the mark are down
+      pub lowered : bucket_count d ≢ bucket_count c → notes_of d ≡ (false, false)
+      -- if a doubling is due and isn't made, the note is up and no growth is marked
+      pub denied : 32 * bucket_count c ≤ 2 * length (entries c) → 32 * bucket_count c < 2 ^ 63 → bucket_count d ≡ bucket_count c → notes_of d ≡ (true, false)
       -- a growth that is marked isn't tried
       pub once : IsMarked c → bucket_count d ≡ bucket_count c
-      -- if a doubling is due, no growth is marked afterwards
-      pub unmarked : 32 * bucket_count c ≤ 2 * length (entries c) → 32 * bucket_count c < 2 ^ 63 → IsUnmarked d
-      -- a growth is marked only if it was
-      pub marked : IsMarked d → IsMarked c
       -- without a doubling, no bucket starts to wait
       pub fewer : bucket_count d ≡ bucket_count c → (i : ℕ) → IsWaiting d i → IsWaiting c i
       -- without a doubling, the number of waiting buckets doesn't rise
@@ -148,22 +136,16 @@ module _ {E K S X : Type 0} (eq : K → K → Bool) (key : E → K) where
       pub ok : IfOk result (IsInsertedAt c e d)
       -- on success, there are `count` buckets
       pub buckets : OnOk result (bucket_count d ≡ count)
-      -- on success, no refused memory is noted
-      pub down : OnOk result (IsNoteDown d)
       -- the number of buckets changes only to `count`
       pub doubled : bucket_count d ≢ bucket_count c → bucket_count d ≡ count
-      -- if the note is down afterwards, there are `count` buckets
-      pub due : IsNoteDown d → bucket_count d ≡ count
       -- without a resize, the waiting buckets stay
       pub same : bucket_count d ≡ bucket_count c → waiting_of d ≡ waiting_of c
       -- after a resize, all buckets but at most two wait
       pub grown : bucket_count d ≢ bucket_count c → count ≤ pending_of d + 2
-      -- the note falls only by a resize
-      pub lowered : IsNoteUp c → IsNoteDown d → bucket_count d ≢ bucket_count c
-      -- after a resize, the note is down
-      pub fallen : bucket_count d ≢ bucket_count c → IsNoteDown d
-      -- no growth is marked
-      pub unmarked : IsUnmarked d
+      -- after a resize, the note and the mark are down
+      pub lowered : bucket_count d ≢ bucket_count c → notes_of d ≡ (false, false)
+      -- without a resize, the note is up and no growth is marked
+      pub denied : bucket_count d ≡ bucket_count c → notes_of d ≡ (true, false)
       -- on success, all buckets but at most two wait
       pub most : OnOk result (count ≤ pending_of d + 2)
       -- on success, if no bucket would hold more than 32 entries, exactly the bucket of the key and the first other
@@ -175,8 +157,6 @@ module _ {E K S X : Type 0} (eq : K → K → Bool) (key : E → K) where
       pub not_waiting : OnOk result (waits_at (waiting_of d) (bucket_number (settings_of c).skipped count hash) ≡ false)
       -- on failure, x is handed back and nothing changes
       pub err : IfErr result (λ y. (y ≡ x) × IsUnchanged c d)
-      -- on failure, refused memory is noted
-      pub up : OnErr result (IsNoteUp d)
       -- no two keys are equal
       pub unique : IsUniqueBy eq key d
 
@@ -186,18 +166,12 @@ module _ {E K S X : Type 0} (eq : K → K → Bool) (key : E → K) where
       pub ok : IfOk result (IsInsertedAt c e d)
       -- on failure, x is handed back and nothing changes
       pub err : IfErr result (λ y. (y ≡ x) × IsUnchanged c d)
-      -- on failure, refused memory is noted
-      pub up : OnErr result (IsNoteUp d)
       -- the number of buckets changes only by a doubling
       pub doubled : bucket_count d ≢ bucket_count c → bucket_count d ≡ 2 * bucket_count c
-      -- if the note is down afterwards, the array has doubled
-      pub due : IsNoteDown d → bucket_count d ≡ 2 * bucket_count c
-      -- the note falls only by a doubling
-      pub lowered : IsNoteUp c → IsNoteDown d → bucket_count d ≢ bucket_count c
-      -- after a doubling, the note is down
-      pub fallen : bucket_count d ≢ bucket_count c → IsNoteDown d
-      -- no growth is marked
-      pub unmarked : IsUnmarked d
+      -- after a doubling, the note and the mark are down
+      pub lowered : bucket_count d ≢ bucket_count c → notes_of d ≡ (false, false)
+      -- without a doubling, the note is up and no growth is marked
+      pub denied : bucket_count d ≡ bucket_count c → notes_of d ≡ (true, false)
       -- without a doubling, no bucket waits
       pub none : bucket_count d ≡ bucket_count c → pending_of d ≡ 0
       -- after a doubling, all buckets but at most two wait

@@ -34,10 +34,11 @@ module _ {E S : Type 0} where
     -- after a doubling, the bucket of the key and the first other bucket are relocated, unless memory is refused
     pub drained : 0 < bucket_count c → bucket_count d ≢ bucket_count c → AreMovedBeside (bucket_number (settings_of c).skipped (bucket_count d) hash) (range_with_len 0 (bucket_count d)) d
 
-  -- what a removal does, which relocates nothing: after a shrink, every bucket waits; if no shrink is due, the waiting
-  -- buckets stay
+  -- what a removal does, which relocates nothing: after a shrink, every bucket waits; without one, no bucket starts to
+  -- wait; if no shrink is due, the waiting buckets stay
   pub record RelocatesNone (c d : Contents E S) : Type 0 where
     pub all : bucket_count d ≢ bucket_count c → pending_of d ≡ bucket_count d
+    pub fewer : bucket_count d ≡ bucket_count c → (i : ℕ) → IsWaiting d i → IsWaiting c i
     pub less : bucket_count d ≡ bucket_count c → pending_of d ≤ pending_of c
     pub waiting : ((n : ℕ) → IsSmaller (minimum_of c) (length (entries d)) (bucket_count c) n → ⊥) → waiting_of d ≡ waiting_of c
 

@@ -1,5 +1,5 @@
 //! How an index is made from items.
-ghost use Rattle.scc_common.specs.Contents.{entries, hash_in};
+ghost use Rattle.scc_common.specs.Contents.{entries, hash_in, settings_of};
 ghost use Rattle.scc_common.specs.Pairs.{IsUnique};
 ghost use Rattle.scc_owned.specs.IndexCollections.{FindsFirst, InsertsAll, IsCollected, StopsAt};
 ghost use Rattle.std.specs.Iterator.{Drains, IsFinite};
@@ -27,6 +27,7 @@ impl<K: Eq + Hash, V, H: BuildHasher> Index<K, V, H> {
         ensures items { IfOk result (λ m. (it : I.IntoIter) × (xs : List (K × V)) × I.into_iter_gives items it
             × Drains I.IntoIter.next_gives it xs × IsCollected K.eq (hash_in ⟦<H as Hashes<K>>⟧.hash_of) xs m
             × FindsFirst K.eq xs (entries m)) }
+        ensures hasher { IfOk result (λ m. H.is_default (settings_of m).hasher) }
         ensures unique { IfOk result (λ m. IsUnique K.eq m) }
     {
         let Ok(pairs) = Vec::from_iter(alloc, items) else {

@@ -3,7 +3,7 @@ ghost use Rattle.scc_array.specs.ShelfWrites.{put_whole};
 ghost use Rattle.scc_common.specs.Contents.{entries, hash_in, notes_of, waiting_of};
 ghost use Rattle.scc_common.specs.Pairs.{find, IsUnique};
 ghost use Rattle.scc_common.specs.Steps.{Holds, HoldsExactly};
-ghost use Rattle.scc_owned.specs.IndexInsertions.{InsertsNewByRule};
+ghost use Rattle.scc_owned.specs.Insertions.{InsertsInto};
 ghost use Rattle.scc_table.specs.Arrays.{ShrinksByRule};
 ghost use Rattle.scc_table.specs.Places.{IsPlace, IsFoundAt, index_of, with_write_at, StandsAt};
 ghost use Rattle.std.specs.Prelude.{◌≡◌, suc, length, ◌<◌, ◌*◌, Some, None, IfOk, true, IfErr, MatchOption, slice_get, remove, ⊤};
@@ -42,7 +42,7 @@ impl<K: Eq + Hash, V, H: BuildHasher> Index<K, V, H> {
     pub fn insert_new(&mut self, hash: u64, k: K, v: V) -> Result<Place, (K, V)>
         requires hashed { hash ≡ hash_in ⟦<H as Hashes<K>>⟧.hash_of self.old k }
         requires absent { find K.eq (entries self.old) k ≡ None }
-        ensures { InsertsNewByRule K.eq ⟦<H as Hashes<K>>⟧.hash_of self.old (k, v) result self.new }
+        ensures { InsertsInto (λ p. p.0) K.eq ⟦<H as Hashes<K>>⟧.hash_of true self.old k v (k, v) result self.new }
     {
         self.table.insert_made(hash, (k, v))
     }

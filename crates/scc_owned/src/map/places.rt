@@ -1,12 +1,12 @@
 //! The calls at a place of a map.
 ghost use Rattle.scc_common.specs.Contents.{entries, hash_in};
 ghost use Rattle.scc_common.specs.Pairs.{find, IsUnique, with_pair_key, with_pair_value};
-ghost use Rattle.scc_owned.specs.MapInsertions.{InsertsNewByRule};
+ghost use Rattle.scc_owned.specs.Insertions.{InsertsInto};
 ghost use Rattle.scc_owned.specs.Lends.{lends_value};
 ghost use Rattle.scc_owned.specs.Shrinking.{RemovesAtByRule, TakesWithNextByRule};
 ghost use Rattle.scc_table.specs.Places.{IsPlace, IsFoundAt, index_of, with_write_at};
 ghost use Rattle.std.specs.Borrow.{sem};
-ghost use Rattle.std.specs.Prelude.{◌≡◌, ◌<◌, ◌*◌, Some, None, true, MatchOption, slice_get};
+ghost use Rattle.std.specs.Prelude.{◌≡◌, ◌<◌, ◌*◌, Some, None, false, true, MatchOption, slice_get};
 
 use crate::Map;
 use scc_buckets::Place;
@@ -78,7 +78,7 @@ impl<K: Eq + Hash, V, H: BuildHasher> Map<K, V, H> {
     pub fn insert_new(&mut self, hash: u64, k: K, v: V) -> Result<Place, (K, V)>
         requires hashed { hash ≡ hash_in ⟦<H as Hashes<K>>⟧.hash_of self.old k }
         requires absent { find K.eq (entries self.old) k ≡ None }
-        ensures { InsertsNewByRule K.eq ⟦<H as Hashes<K>>⟧.hash_of self.old (k, v) result self.new }
+        ensures { InsertsInto (λ p. p.0) K.eq ⟦<H as Hashes<K>>⟧.hash_of false self.old k v (k, v) result self.new }
     {
         self.table.insert_new(hash, (k, v))
     }

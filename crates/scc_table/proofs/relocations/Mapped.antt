@@ -66,6 +66,7 @@ module _ {E F S : Type 0} (f : E → F) where
   pub RelocatesNone-mapped : (c d : Contents E S) → RelocatesNone c d → RelocatesNone (mapped f c) (mapped f d)
   RelocatesNone-mapped c d h = record {
     all = rw (bucket_count-mapped f c, bucket_count-mapped f d, pending_of-mapped f d) h.all;
+    fewer = λ e i w. rw (waiting_of-mapped c) (h.fewer (rw (bucket_count-mapped f c, bucket_count-mapped f d) at e) i (rw (waiting_of-mapped d) at w));
     less = rw (bucket_count-mapped f c, bucket_count-mapped f d, pending_of-mapped f c, pending_of-mapped f d) h.less;
     waiting = λ none. rw (waiting_of-mapped c, waiting_of-mapped d) (h.waiting (λ n s. none n (rw (settings_of-mapped f c, length-mapped f d, bucket_count-mapped f c) s)));
   }

@@ -1,5 +1,5 @@
 -- The note and the mark after room is made for a new key.
-use Rattle.std.proofs.Common.{◌≡◌, ◌≢◌, ◌∙◌, ◌*◌, ◌^◌, ◌<◌, ◌≤◌, ℕ, Bool, true, false, inl, inr, Result, length, sym, ap, arith}
+use Rattle.std.proofs.Common.{◌≡◌, ◌≢◌, ◌∙◌, ◌*◌, ◌^◌, ◌<◌, ◌≤◌, ℕ, Bool, true, inl, inr, Result, length, sym, ap, arith}
 use Rattle.std.specs.List.{count_by}
 use Rattle.std.proofs.lemmas.Bool.{cases_order}
 use Rattle.scc_common.specs.Contents.{Contents, HasRoomAt, bucket_count, entries, lists_of, pending_of, notes_of, settings_of}
@@ -10,18 +10,16 @@ use Rattle.scc_table.proofs.resizes.Installation.{count-up}
 use Rattle.scc_common.specs.Steps.{IsGrowthDue}
 use Rattle.scc_table.proofs.arrays.SameParts.{count-same, entries-same, pending-same}
 
-both-are : (x : Bool × Bool) (p q : Bool) → x.0 ≡ p → x.1 ≡ q → x ≡ (p, q)
+-- a note and a mark that are known one by one
+pub both-are : (x : Bool × Bool) (p q : Bool) → x.0 ≡ p → x.1 ≡ q → x ≡ (p, q)
 both-are x p q l r = ap (λ (y : Bool). (y, x.1)) l ∙ ap (λ (y : Bool). (p, y)) r
 
 module _ {E K S X : Type 0} (eq : K → K → Bool) (key : E → K) (hash : K → ℕ) (most : ℕ) (great : most ≡ 2 ^ 63) (a b : Contents E S) (h : ℕ) (result : Result ℕ X) (m : FindsBucketForNew eq key hash most a h result b) where
-  down-grown : 0 < bucket_count a → bucket_count b ≢ bucket_count a → notes_of b ≡ (false, false)
-  down-grown some ne = both-are (notes_of b) false false (m.down some ne) (m.unmarked record { array = some; not_waiting = m.growth.not_waiting some ne; full = λ room. ne (ap bucket_count (m.still room)); half = m.growth.half some ne; below = m.growth.below some ne } (let l = m.growth.below some ne in omega (arith, great)))
-
   -- if no growth is due that wasn't made, the note and the mark are as `MarksPreparation` says
   pub marks-left : (IsGrowthDue hash key a h → bucket_count b ≡ bucket_count a → ⊥) → MarksPreparation hash key a h b
   marks-left none = record {
     stays = λ none_due. m.noted (λ due _. none_due due);
-    grown = down-grown;
+    grown = m.lowered;
     denied = λ due same. absurd (none due same);
     once = λ some marked. m.once some (inr marked);
     marked = λ up. inl (sym (ap (λ (x : Bool × Bool). x.1) (m.marked up)) ∙ up);

@@ -1,8 +1,8 @@
 //! The preparation of an insertion.
 ghost use Rattle.scc_buckets.specs.Bounded.{IsListed};
-ghost use Rattle.scc_common.specs.Contents.{bucket_count, hash_in, lists_of, notes_of, settings_of, waiting_of, IsMarked, IsNoteUp, IsUniqueBy, note_of};
+ghost use Rattle.scc_common.specs.Contents.{bucket_count, hash_in, lists_of, notes_of, settings_of, waiting_of, IsMarked, IsNoteUp, IsUniqueBy, note_of, without_mark};
 ghost use Rattle.scc_common.specs.Routing.{bucket_number};
-ghost use Rattle.scc_common.specs.Steps.{IsUnchanged, Prepares};
+ghost use Rattle.scc_common.specs.Steps.{Prepares};
 ghost use Rattle.scc_table.specs.Bounded.{GrowsBelow, IsPreparedBelow};
 ghost use Rattle.scc_table.specs.Marks.{MarksPreparation};
 ghost use Rattle.std.specs.Prelude.{◌≡◌, ◌≢◌, ◌<◌, ◌≤◌, ◌^◌, ◌⊎◌, [], false, true, replicate, OnOk, OnErr};
@@ -65,7 +65,7 @@ where
     /// Takes the mark away, so that the next insertion tries a growth that is due.
     #[inline(always)]
     pub fn drop_mark(&mut self)
-        ensures same { IsUnchanged self.old self.new }
+        ensures cleared { self.new ≡ without_mark self.old }
         ensures lists { lists_of self.new ≡ lists_of self.old }
         ensures settings { settings_of self.new ≡ settings_of self.old }
         ensures waiting { waiting_of self.new ≡ waiting_of self.old }

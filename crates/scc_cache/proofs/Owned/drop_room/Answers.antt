@@ -1,4 +1,4 @@
-use Rattle.std.proofs.Common.{◌≤◌, ◌*◌, sym, refl, subst}
+use Rattle.std.proofs.Common.{◌≤◌, ◌*◌, ap, sym, subst}
 use Rattle.scc_table.proofs.arrays.SameParts.{count-same}
 use Rattle.scc_cache.proofs.Caching.{state-after}
 use Rattle.scc_cache.proofs.Owned.drop_room.Goals as goal
@@ -11,20 +11,8 @@ invariant_of-self g c =
     let same = count-same c.self.inside.table u r.lists in
     state-after g.K.PartialEq.eq _ _ c.self.inside.table u c.self.inside.maximum h (r.listed h.lists) r.unique r.settings (subst (λ n. 32 * n ≤ c.self.inside.maximum) (sym same) h.within)
 
-pub returns-clause-lists : goal.returns-clause-lists
-returns-clause-lists g c = rw (← c.self.view_is) c.drop_mark.ensures.lists
-
-pub returns-clause-settings : goal.returns-clause-settings
-returns-clause-settings g c = rw (← c.self.view_is) c.drop_mark.ensures.settings
-
-pub returns-clause-noted : goal.returns-clause-noted
-returns-clause-noted g c = rw (← c.self.view_is) c.drop_mark.ensures.noted
-
-pub returns-clause-waiting : goal.returns-clause-waiting
-returns-clause-waiting g c = rw (← c.self.view_is) c.drop_mark.ensures.waiting
-
-pub returns-clause-maximum : goal.returns-clause-maximum
-returns-clause-maximum g c = rw (← c.self.view_is) refl
+pub returns-clause-cleared : goal.returns-clause-cleared
+returns-clause-cleared g c = rw (← c.self.view_is) (ap (λ t. record { contents = t; maximum = c.self.inside.maximum }) c.drop_mark.ensures.cleared)
 
 pub returns-clause-state : goal.returns-clause-state
 returns-clause-state g c =

@@ -1,4 +1,4 @@
-use Rattle.std.proofs.Common.{◌≡◌, length, ap, ◌∙◌}
+use Rattle.std.proofs.Common.{◌≡◌, length, ap, subst, sym, ◌∙◌}
 use Rattle.scc_common.specs.Contents.{key_hash}
 use Rattle.scc_cache.proofs.Collecting.{collected-maximum, collected-settings}
 use Rattle.scc_cache.proofs.Owned.try_from_iter.Goals as goal
@@ -30,3 +30,9 @@ returns-clause-items g c =
         run = rw (← ran.4.0) c.in_ok-put_all.ensures.puts;
       },
     )
+
+pub returns-clause-hasher : goal.returns-clause-hasher
+returns-clause-hasher g c =
+    let hash = key_hash g.H.BuildHasher g.H.Hasher.Hasher g.K.Hash.hash_input in
+    let kept = collected-settings g.K.PartialEq.eq hash c.in_ok-made.made _ _ c.in_ok-put_all.ensures.puts in
+    subst g.H.Default.is_default (sym (ap (λ s. s.hasher) (kept ∙ c.in_ok-made.ensures.made.settings))) c.default.ensures

@@ -19,7 +19,6 @@ returns-in-Some-clause-room g c =
       present = (search rules);
       ok = (λ none. let here = rw (← c.self.view_is, f.1.found) at none in cc);
       marks = (λ none. let here = rw (← c.self.view_is, f.1.found) at none in cc);
-      marked = (search rules);
       err = (search rules);
       same = (search rules);
       settings = (search rules);
@@ -38,7 +37,6 @@ returns-after-prepare-clause-room g c =
         | in-Err w ↦ λ _. rw w.result-is tt
       ];
       marks = λ _. rw (← c.self.view_is) (marks_for c.hash-hash.ensures (c.prepare.ensures.marks refl));
-      marked = rw (← c.self.view_is) c.prepare.ensures.marked;
       err = elim c.match-prepare.branch [
         | in-Ok w ↦ rw w.result-is tt
         | in-Err w ↦ rw (w.result-is, ← c.self.view_is) (none, w.in-Err.ensures.err)

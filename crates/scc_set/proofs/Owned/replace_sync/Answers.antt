@@ -77,7 +77,7 @@ returns-in-Err-insert_sync-clause-array g c =
       kept = (λ n r. c.insert_sync.ensures.array.kept (rw (missing.2, missing.0) n) (rw (missing.2, missing.0) r) ∙ ap bucket_count missing.2);
       once = (λ r. c.insert_sync.ensures.array.once (rw (missing.2, missing.0) r) ∙ ap bucket_count missing.2);
       growth = (search rules);
-      due = (search rules);
+      due = (λ n. let due = c.insert_sync.ensures.array.due (rw (missing.2, missing.0) n) in rw (missing.2, missing.0) at due);
       first = (search rules);
       noted = (search rules);
       relocates = (search rules);

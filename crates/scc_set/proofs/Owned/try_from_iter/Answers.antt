@@ -1,4 +1,4 @@
-use Rattle.std.proofs.Common.{ap, ◌∙◌}
+use Rattle.std.proofs.Common.{ap, subst, sym, ◌∙◌}
 use Rattle.std.specs.List.{IsDistinct}
 use Rattle.scc_set.proofs.Owned.try_from_iter.Goals as goal
 
@@ -33,3 +33,6 @@ returns-clause-items g c =
       },
       record { finds = λ k. rw (← ran.4.0) (rw none at finds k) },
     )
+
+pub returns-clause-hasher : goal.returns-clause-hasher
+returns-clause-hasher g c = subst g.H.Default.is_default (sym (ap (λ s. s.hasher) (c.in-Ok-insert_all.ensures.settings ∙ c.in_ok-made.ensures.settings))) c.default.ensures

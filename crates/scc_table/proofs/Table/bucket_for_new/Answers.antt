@@ -17,10 +17,8 @@ returns-then-list_len-lt32-clause-finds g c =
       within = (search rules);
       routed = (search rules);
       still = (search rules);
-      due = (λ due _. absurd (due.full (due.array, omega arith)));
-      raised = (search rules);
       lowered = (search rules);
-      down = (search rules);
+      denied = (λ due _. absurd (due.full (due.array, omega arith)));
       first = (search rules);
       bare = (search rules);
       not_waiting = (search rules);
@@ -29,7 +27,6 @@ returns-then-list_len-lt32-clause-finds g c =
       all = (search rules);
       lists = (search rules);
       once = (search rules);
-      unmarked = (λ due _. absurd (due.full (due.array, omega arith)));
       none = (search rules);
       refused = (search rules);
       same = (search rules);
@@ -50,16 +47,8 @@ returns-clause-finds g c =
       within = c.bucket_at-2.ensures.within c.grow.ensures.grows.array;
       routed = (search rules);
       still = (λ room. absurd (let r = room.1 in omega arith));
-      due = (λ due below. c.grow.ensures.grows.due due.half below);
-      raised = (
-          let full : HasRoomAt hk g.E.Keyed.key_of a c.args.hash → ⊥ = λ room. absurd (let r = room.1 in omega arith) in
-          let some : 0 < bucket_count a = let z = c.if-bucket_count-eq0.false in let m = c.bucket_count.ensures.count in omega arith in
-          let none : pending_of a ≡ 0 = let z = c.if-pending-gt0.false in omega arith in
-          λ low up. let r = c.grow.ensures.grows.raised low up in (record { array = some; not_waiting = none; full = full; half = r.0; below = omega (arith, r.1, c.requires.most) }, r.1));
-      lowered = (
-          let some : 0 < bucket_count c.args.self.now = let z = c.if-bucket_count-eq0.false in let m = c.bucket_count.ensures.count in omega arith in
-          λ up low. (some, c.grow.ensures.grows.lowered up low));
-      down = (search rules);
+      lowered = (search rules);
+      denied = (λ due below. c.grow.ensures.grows.denied due.half below);
       first = (search rules);
       bare = (search rules);
       not_waiting = (search rules);
@@ -68,7 +57,6 @@ returns-clause-finds g c =
       all = (search rules);
       lists = (search rules);
       once = (search rules);
-      unmarked = (λ due below. c.grow.ensures.grows.unmarked due.half below);
       none = (search rules);
       refused = (search rules);
       same = (search rules);

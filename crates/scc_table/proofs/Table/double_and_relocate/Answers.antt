@@ -1,4 +1,4 @@
-use Rattle.std.proofs.Common.{◌≡◌, ◌∙◌, ℕ, ◌*◌, ◌<◌, inl, inr, true, false, length, take, sym, ap, subst, arith, Bool, rules}
+use Rattle.std.proofs.Common.{◌≡◌, ◌∙◌, ℕ, ◌*◌, ◌<◌, inl, inr, true, false, length, take, sym, ap, subst, arith, rules}
 use Rattle.std.specs.List.{range_with_len, slice_get}
 use Rattle.std.specs.List.Sorted.{IsPermutation}
 use Rattle.scc_array.proofs.Gets.{get-some}
@@ -71,9 +71,8 @@ returns-in-Ok g c =
           let perm = subst (λ es. IsPermutation (entries a) es) (sym (entries-same b d lists)) done.same in
           inr (λ z. let e = reg.count in absurd (omega (arith, array.least)), regrouped-resizes hash (2 * n) a d reg perm array (λ less. absurd (omega arith))));
       doubled = (λ ne. let e = reg.count in omega arith);
-      due = (λ down z. let e = reg.count in absurd (omega (arith, array.least)));
-      down = (λ _. ap (λ (x : Bool × Bool). x.0) (c.relocate_some.ensures.noted ∙ c.note.ensures.noted));
-      unmarked = (search rules);
+      lowered = (λ _. c.relocate_some.ensures.noted ∙ c.note.ensures.noted);
+      denied = (λ z. let e = reg.count in absurd (omega (arith, array.least)));
       within = (let e = reg.count in omega arith);
       here = (
           let es = list_of a c.args.place.bucket in
@@ -129,16 +128,10 @@ returns-in-Err g c =
           let settings = c.note-in-Err.ensures.settings ∙ ap settings_of same in
           let count = count-same a d lists in
           λ ne. absurd (ne count));
-      due = (
-          let same : b ≡ a = c.in-Err.ensures.err in
-          let lists = c.note-in-Err.ensures.lists ∙ ap lists_of same in
-          let settings = c.note-in-Err.ensures.settings ∙ ap settings_of same in
-          let count = count-same a d lists in
-          λ down. absurd (let z : true ≡ false = sym (ap (λ (x : Bool × Bool). x.0) c.note-in-Err.ensures.noted) ∙ down in cc));
-      down = (
+      lowered = (
           let same : c.install_relocating.new.self ≡ c.args.self.now = c.in-Err.ensures.err in
           λ ne. absurd (ne (count-same c.args.self.now c.note-in-Err.new.self (c.note-in-Err.ensures.lists ∙ ap lists_of same))));
-      unmarked = (search rules);
+      denied = (λ _. c.note-in-Err.ensures.noted);
       within = (
           let same : b ≡ a = c.in-Err.ensures.err in
           let lists = c.note-in-Err.ensures.lists ∙ ap lists_of same in

@@ -1,10 +1,12 @@
-use Rattle.std.proofs.Common.{◌∙◌}
-use Rattle.scc_table.proofs.arrays.SameParts.{unchanged-same}
+use Rattle.std.proofs.Common.{◌∙◌, ap, false}
+use Rattle.scc_buckets.proofs.Unmarked.{is-without_mark}
 use Rattle.scc_table.proofs.relocations.ShortLists.{listed-later}
 use Rattle.scc_table.proofs.Table.drop_mark.Goals as goal
 
-pub returns-clause-same : goal.returns-clause-same
-returns-clause-same g c = unchanged-same c.args.self.now c.mark.new.self c.mark.ensures.lists c.mark.ensures.settings
+pub returns-clause-cleared : goal.returns-clause-cleared
+returns-clause-cleared g c =
+    let m = c.mark.ensures in
+    is-without_mark c.args.self.now c.mark.new.self m.lists m.settings (m.noted ∙ ap (λ r. (r, false)) c.is_resize_refused-refused.ensures) m.spilled m.waiting m.owed
 
 pub returns-clause-listed : goal.returns-clause-listed
 returns-clause-listed g c = λ h.

@@ -1,5 +1,5 @@
-use Rattle.std.proofs.Common.{◌≡◌, ◌∙◌, ◌*◌, ◌≤◌, inl, inr, replicate, length, true, sym, ap, subst, arith, rules}
-use Rattle.scc_common.specs.Contents.{bucket_count, entries, hash_in, settings_of}
+use Rattle.std.proofs.Common.{◌≡◌, ◌∙◌, ◌*◌, ◌≤◌, inl, inr, replicate, length, true, false, sym, ap, subst, arith, rules}
+use Rattle.scc_common.specs.Contents.{bucket_count, entries, hash_in, notes_of, settings_of}
 use Rattle.scc_common.specs.Sizes.{IsBucketCount}
 use Rattle.scc_buckets.specs.Bounded.{IsResized}
 use Rattle.scc_buckets.specs.Pour.{IsRegrouped, destined_for}
@@ -8,6 +8,7 @@ use Rattle.scc_buckets.proofs.Resizes.{regrouped-resizes}
 use Rattle.scc_table.specs.Bounded.{IsDoublingDue, doubles}
 use Rattle.scc_table.proofs.arrays.SameParts.{count-same, unchanged-same}
 use Rattle.scc_table.proofs.relocations.ShortLists.{listed-anew, listed-later, listed-resized, short-doubled}
+use Rattle.scc_table.proofs.resizes.Marks.{both-are}
 use Rattle.scc_table.proofs.Table.grow.Goals as goal
 
 pub install_fresh-requires-clause-array : goal.install_fresh-requires-clause-array
@@ -26,10 +27,8 @@ returns-in-Ok-clause-grows g c =
             regrouped-resizes _ (2 * c.bucket_count-count.result) c.args.self.now c.install_fresh.new.self c.in-Ok.ensures.lists c.in-Ok.ensures.same array (λ less. absurd (omega (arith, c.bucket_count-count.ensures.count))),
           ));
       growth = (search rules);
-      due = (search rules);
-      raised = (search rules);
-      lowered = (let n = c.in-Ok.ensures.lists.count in λ _ _ z. absurd (omega (arith, c.requires.some, c.bucket_count-count.ensures.count)));
-      down = (search rules);
+      lowered = (λ _. both-are (notes_of c.install_fresh.new.self) false false c.in-Ok.ensures.down c.install_fresh.ensures.unmarked);
+      denied = (let n = c.in-Ok.ensures.lists.count in λ _ _ z. absurd (omega (arith, c.requires.some, c.bucket_count-count.ensures.count)));
       stays = (let n = c.in-Ok.ensures.lists.count in λ z. absurd (omega (arith, c.requires.some, c.bucket_count-count.ensures.count)));
       waiting = (let n = c.in-Ok.ensures.lists.count in λ z. absurd (omega (arith, c.requires.some, c.bucket_count-count.ensures.count)));
       all = (λ ne. c.in-Ok.ensures.waiting ∙ ap (λ n. replicate n true) (sym c.in-Ok.ensures.lists.count));
@@ -38,7 +37,6 @@ returns-in-Ok-clause-grows g c =
           λ ne. subst (λ n. IsRegrouped hash n c.args.self.now c.install_fresh.new.self) (sym c.in-Ok.ensures.lists.count) c.in-Ok.ensures.lists);
       array = (search rules);
       once = (search rules);
-      unmarked = (search rules);
       noted = (search rules);
       marked = (search rules);
       unique = (search rules);
@@ -51,17 +49,14 @@ returns-in-Err-clause-grows g c =
       growth = (
           let same = count-same c.args.self.now c.install_fresh.new.self c.in-Err.ensures.err in
           record { first = λ z ne. absurd (ne same); half = λ z ne. absurd (ne same); below = λ z ne. absurd (ne same); doubled = λ z ne. absurd (ne same); not_waiting = λ z ne. c.requires.not_waiting });
-      due = (search rules);
-      raised = (search rules);
-      lowered = (search rules);
-      down = (λ ne. absurd (ne (count-same c.args.self.now c.install_fresh.new.self c.in-Err.ensures.err)));
+      lowered = (λ ne. absurd (ne (count-same c.args.self.now c.install_fresh.new.self c.in-Err.ensures.err)));
+      denied = (λ _ _ _. both-are (notes_of c.install_fresh.new.self) true false c.in-Err.ensures.up c.install_fresh.ensures.unmarked);
       stays = (search rules);
       waiting = (search rules);
       all = (λ ne. absurd (ne (count-same c.args.self.now c.install_fresh.new.self c.in-Err.ensures.err)));
       lists = (λ ne. absurd (ne (count-same c.args.self.now c.install_fresh.new.self c.in-Err.ensures.err)));
       array = (let same = count-same c.args.self.now c.install_fresh.new.self c.in-Err.ensures.err in omega (arith, c.requires.some));
       once = (search rules);
-      unmarked = (search rules);
       noted = (search rules);
       marked = (search rules);
       unique = (search rules);
@@ -74,17 +69,14 @@ returns-then-is_marked-clause-grows g c =
       growth = (
           let same = count-same c.args.self.now c.note.new.self c.note.ensures.lists in
           record { first = λ z ne. absurd (ne same); half = λ z ne. absurd (ne same); below = λ z ne. absurd (ne same); doubled = λ z ne. absurd (ne same); not_waiting = λ z ne. c.requires.not_waiting });
-      due = (search rules);
-      raised = (search rules);
-      lowered = (search rules);
-      down = (λ ne. absurd (ne (count-same c.args.self.now c.note.new.self c.note.ensures.lists)));
+      lowered = (λ ne. absurd (ne (count-same c.args.self.now c.note.new.self c.note.ensures.lists)));
+      denied = (λ _ _ _. c.note.ensures.noted);
       stays = (search rules);
       waiting = (search rules);
       all = (λ ne. absurd (ne (count-same c.args.self.now c.note.new.self c.note.ensures.lists)));
       lists = (λ ne. absurd (ne (count-same c.args.self.now c.note.new.self c.note.ensures.lists)));
       array = (let same = count-same c.args.self.now c.note.new.self c.note.ensures.lists in omega (arith, c.requires.some));
       once = (λ marked. count-same c.args.self.now c.note.new.self c.note.ensures.lists);
-      unmarked = (search rules);
       noted = (search rules);
       marked = (search rules);
       unique = (search rules);

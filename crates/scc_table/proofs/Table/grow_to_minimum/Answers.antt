@@ -1,8 +1,8 @@
-use Rattle.std.proofs.Common.{◌∙◌, ◌<◌, refl, sym, arith, rules}
-use Rattle.std.proofs.lemmas.Bool.{true≢false}
-use Rattle.scc_common.specs.Contents.{bucket_count}
+use Rattle.std.proofs.Common.{◌<◌, true, false, refl, arith, rules}
+use Rattle.scc_common.specs.Contents.{bucket_count, notes_of}
 use Rattle.scc_buckets.proofs.Resizes.{reaches-due}
 use Rattle.scc_table.proofs.resizes.Attempts.{growth-due, spreads-all, spreads-less}
+use Rattle.scc_table.proofs.resizes.Marks.{both-are}
 use Rattle.scc_table.proofs.Table.grow_to_minimum.Goals as goal
 use Rattle.scc_table.proofs.Table.grow_to_minimum.Goals.{then-count-eq0-via-then-count-eq0, then-count-eq0-via-else-count-eq0+then-count-wanted}
 
@@ -14,12 +14,11 @@ returns-then-count-eq0 g c =
       size = (search rules);
       due = (
           let size = rw c.minimum.ensures.value at c.buckets_for-wanted.ensures.size in
-          reaches-due c.buckets_for-wanted.result c.args.self.now c.args.self.now size
-          (λ some less down. elim c.then-count-eq0.branch [
+          reaches-due c.buckets_for-wanted.result c.args.self.now c.args.self.now size (λ _. refl) (λ ne. absurd (ne refl))
+          (λ some less. elim c.then-count-eq0.branch [
             | then-count-eq0-via-then-count-eq0 w ↦ absurd (omega (arith, c.bucket_count-count.ensures.count))
             | then-count-eq0-via-else-count-eq0+then-count-wanted w ↦ absurd (omega (arith, c.bucket_count-count.ensures.count))
-          ])
-          (λ low up. absurd (true≢false (sym up ∙ low))) (λ up low. absurd (true≢false (sym up ∙ low))) (λ ne. absurd (ne refl)) (λ up. up));
+          ]));
       spreads = (search rules);
       unique = (search rules);
     }
@@ -32,8 +31,11 @@ returns-in-Ok g c =
       size = (search rules);
       due = (
           let size = rw (c.minimum.ensures.value, ← c.in-Ok.ensures.lists.settings) at c.buckets_for-wanted.ensures.size in
-          reaches-due c.buckets_for-wanted.result c.args.self.now c.resize_to.new.self size (λ _ _ _. c.in-Ok.ensures.lists.count) (λ low up. absurd (true≢false (sym up ∙ c.in-Ok.ensures.down)))
-          (λ _ _ e. let n = c.in-Ok.ensures.lists.count in let p = c.bucket_count-count.ensures.count in absurd (omega arith)) (λ _. c.in-Ok.ensures.down) (λ up. absurd (true≢false (sym up ∙ c.resize_to.ensures.unmarked))));
+          let n = c.in-Ok.ensures.lists.count in
+          let p = c.bucket_count-count.ensures.count in
+          let z = c.if-count-eq0.false in
+          reaches-due c.buckets_for-wanted.result c.args.self.now c.resize_to.new.self size (λ none. absurd (none (omega arith) (omega arith)))
+          (λ _. (n, both-are (notes_of c.resize_to.new.self) false false c.in-Ok.ensures.down c.resize_to.ensures.unmarked)) (λ _ _ e. absurd (omega arith)));
       spreads = (
           let size = rw c.minimum.ensures.value at c.buckets_for-wanted.ensures.size in
           let z = c.if-count-eq0.false in
@@ -53,8 +55,8 @@ returns-in-Err g c =
       size = (search rules);
       due = (
           let size = rw (c.minimum.ensures.value, ← c.in-Err.ensures.err.settings) at c.buckets_for-wanted.ensures.size in
-          reaches-due c.buckets_for-wanted.result c.args.self.now c.resize_to.new.self size (λ _ _ down. absurd (true≢false (sym c.in-Err.ensures.up ∙ down)))
-          (λ low up. (omega arith, omega arith)) (λ _ down. absurd (true≢false (sym c.in-Err.ensures.up ∙ down))) (λ ne. absurd (ne c.in-Err.ensures.err.buckets)) (λ up. absurd (true≢false (sym up ∙ c.resize_to.ensures.unmarked))));
+          reaches-due c.buckets_for-wanted.result c.args.self.now c.resize_to.new.self size (λ none. absurd (none (omega arith) (omega arith)))
+          (λ ne. absurd (ne c.in-Err.ensures.err.buckets)) (λ _ _ _. both-are (notes_of c.resize_to.new.self) true false c.in-Err.ensures.up c.resize_to.ensures.unmarked));
       spreads = (
           let size = rw c.minimum.ensures.value at c.buckets_for-wanted.ensures.size in
           let less : bucket_count c.args.self.now < c.buckets_for-wanted.result = omega arith in

@@ -1,4 +1,4 @@
-use Rattle.std.proofs.Common.{◌≡◌, ◌∙◌, ◌-◌, ◌≤◌, ◌≢◌, ◌*◌, ℕ, length, replicate, true, false, sym, ap, subst, arith, Bool, rules}
+use Rattle.std.proofs.Common.{◌≡◌, ◌∙◌, ◌-◌, ◌≤◌, ◌≢◌, ◌*◌, ℕ, length, replicate, true, false, sym, ap, subst, arith, rules}
 use Rattle.std.proofs.lemmas.Result.{IfErr-weaker, IfOk-weaker, on_err_weaker, on_ok_weaker}
 use Rattle.std.specs.List.{count_by, range_with_len}
 use Rattle.scc_common.specs.Contents.{HasRoomAt, bucket_count, entries, hash_in, minimum_of, settings_of, waiting_of}
@@ -58,17 +58,9 @@ returns-in-Ok g c =
       due = (
           let hk = hash_in g.H.Hashes.hash_of a in
           record {
-            doubled = λ due down. c.insert_and_relocate.ensures.buckets ∙ c.bucket_for_new.ensures.finds.due (subst (IsGrowthDue hk g.E.Keyed.key_of a) (sym c.requires.hashed) due) due.below (sym (ap (λ (x : Bool × Bool). x.0) c.insert_and_relocate.ensures.refused) ∙ down);
-            raised = λ low up. subst (IsGrowthDue hk g.E.Keyed.key_of a) c.requires.hashed (c.bucket_for_new.ensures.finds.raised low (sym (ap (λ (x : Bool × Bool). x.0) c.insert_and_relocate.ensures.refused) ∙ up)).0;
-            unmarked = λ due. ap (λ (x : Bool × Bool). x.1) c.insert_and_relocate.ensures.refused ∙ c.bucket_for_new.ensures.finds.unmarked (subst (IsGrowthDue hk g.E.Keyed.key_of a) (sym c.requires.hashed) due) due.below;
-            marked = λ up.
-                let still = sym (ap (λ (x : Bool × Bool). x.1) c.insert_and_relocate.ensures.refused) ∙ up in
-                sym (ap (λ (x : Bool × Bool). x.1) (c.bucket_for_new.ensures.finds.marked still)) ∙ still;
-            lowered = λ up low.
-                let f = sym (ap (λ (x : Bool × Bool). x.0) c.insert_and_relocate.ensures.refused) in
-                let r = c.bucket_for_new.ensures.finds.lowered up (f ∙ low) in
-                (r.0, λ e. r.1 (sym c.insert_and_relocate.ensures.buckets ∙ e));
-            down = λ some ne. ap (λ (x : Bool × Bool). x.0) c.insert_and_relocate.ensures.refused ∙ c.bucket_for_new.ensures.finds.down some (λ e. ne (c.insert_and_relocate.ensures.buckets ∙ e));
+            still = λ none. c.insert_and_relocate.ensures.refused ∙ made.noted (λ due _. none (subst (IsGrowthDue hk g.E.Keyed.key_of a) c.requires.hashed due));
+            grown = λ some ne. c.insert_and_relocate.ensures.refused ∙ made.lowered some (λ e. ne (same ∙ e));
+            denied = λ due e. c.insert_and_relocate.ensures.refused ∙ made.denied (subst (IsGrowthDue hk g.E.Keyed.key_of a) (sym c.requires.hashed) due) due.below (sym same ∙ e);
           });
       first = (on_ok_weaker c.insert_and_relocate.result (λ h. record { made = λ z. rw c.insert_and_relocate.ensures.buckets (c.in-Ok.ensures.finds.first.made z) }) c.insert_and_relocate.ensures.exact);
       none = (

@@ -64,8 +64,7 @@ returns g c =
           let rests = inr (λ z. absurd (omega (arith, c.requires.more, reg.count)), regrouped-resizes hash c.args.count a d reg perm c.requires.array (λ less. absurd (omega (arith, c.requires.more)))) in
           rests-inserted a d c.insert_and_relocate.new.self c.args.entry (spot_of c.insert_and_relocate.new.self c.in-Ok.place) rests c.in-Ok.ensures.ok);
       buckets = (c.insert_and_relocate.ensures.buckets ∙ reg.count);
-      down = (search rules);
-      unmarked = (search rules);
+      lowered = (c.insert_and_relocate.ensures.refused ∙ c.note.ensures.noted);
       most = (
           let n = pending-same c.install.new.self c.note.new.self c.note.ensures.waiting ∙ c.install.ensures.pending in
           omega (arith, c.insert_and_relocate.ensures.most));

@@ -1,4 +1,4 @@
-use Rattle.std.proofs.Common.{◌≡◌, ◌∙◌, ◌<◌, inl, inr, true, false, sym, ap, subst, arith, Bool, rules}
+use Rattle.std.proofs.Common.{◌≡◌, ◌∙◌, ◌<◌, inl, inr, true, false, sym, ap, subst, arith, rules}
 use Rattle.std.proofs.lemmas.Result.{on_ok_weaker}
 use Rattle.std.specs.List.{count_by}
 use Rattle.std.proofs.lemmas.List.{nil_from_length}
@@ -12,7 +12,6 @@ use Rattle.scc_table.proofs.relocations.OneByOne.{pending-is}
 use Rattle.scc_table.proofs.places.OneList.{room-listed}
 use Rattle.scc_table.proofs.insertions.Room.{once-made}
 use Rattle.scc_table.proofs.insertions.Places.{moved-nothing, none-left}
-use Rattle.scc_table.proofs.arrays.SameParts.{any-err}
 use Rattle.scc_table.proofs.relocations.Targets.{all-but-two, by-two, targets-length}
 use Rattle.scc_table.proofs.Table.insert_made.Goals as goal
 
@@ -22,9 +21,12 @@ returns-then-bucket_count-eq0 g c =
       ok = (search rules);
       err = (search rules);
       growth = (search rules);
-      due = (search rules);
-      raised = (search rules);
-      undone = (search rules);
+      due = (
+          record {
+            still = λ _. c.insert_made_first.ensures.noted;
+            grown = λ some. absurd (let z = c.requires in let m = c.bucket_count.ensures.count in let e = c.if-bucket_count-eq0.true in omega arith);
+            denied = λ due. absurd (let r = due.array in let m = c.bucket_count.ensures.count in let e = c.if-bucket_count-eq0.true in omega arith);
+          });
       first = (search rules);
       kept = (search rules);
       once = (λ ready. absurd (let r = ready.0 in let z = c.requires in let m = c.bucket_count.ensures.count in let e = c.if-bucket_count-eq0.true in omega arith));
@@ -50,9 +52,12 @@ returns-then-pending-gt0 g c =
       ok = (search rules);
       err = (search rules);
       growth = (search rules);
-      due = (any-ok c.insert_made_and_relocate.result (record { doubled = λ due. absurd (let q = c.if-pending-gt0.true in omega (arith, due.not_waiting)); raised = λ low up. absurd (let z : true ≡ false = sym up ∙ ap (λ (x : Bool × Bool). x.0) c.insert_made_and_relocate.ensures.refused ∙ low in cc); unmarked = λ due. absurd (let q = c.if-pending-gt0.true in omega (arith, due.not_waiting)); marked = λ up. sym (ap (λ (x : Bool × Bool). x.1) c.insert_made_and_relocate.ensures.refused) ∙ up; lowered = λ up low. absurd (let z : true ≡ false = sym up ∙ sym (ap (λ (x : Bool × Bool). x.0) c.insert_made_and_relocate.ensures.refused) ∙ low in cc); down = λ some ne. absurd (ne c.insert_made_and_relocate.ensures.buckets) }));
-      raised = (search rules);
-      undone = (any-err c.insert_made_and_relocate.result (record { doubled = λ due. absurd (let q = c.if-pending-gt0.true in omega (arith, due.not_waiting)); raised = λ low up. absurd (let z : true ≡ false = sym up ∙ ap (λ (x : Bool × Bool). x.0) c.insert_made_and_relocate.ensures.refused ∙ low in cc); unmarked = λ due. absurd (let q = c.if-pending-gt0.true in omega (arith, due.not_waiting)); marked = λ up. sym (ap (λ (x : Bool × Bool). x.1) c.insert_made_and_relocate.ensures.refused) ∙ up; lowered = λ up low. absurd (let z : true ≡ false = sym up ∙ sym (ap (λ (x : Bool × Bool). x.0) c.insert_made_and_relocate.ensures.refused) ∙ low in cc); down = λ some ne. absurd (ne c.insert_made_and_relocate.ensures.buckets) }));
+      due = (
+          record {
+            still = λ _. c.insert_made_and_relocate.ensures.refused;
+            grown = λ some ne. absurd (ne c.insert_made_and_relocate.ensures.buckets);
+            denied = λ due _. absurd (let q = c.if-pending-gt0.true in omega (arith, due.not_waiting));
+          });
       first = (search rules);
       kept = (search rules);
       once = (search rules);
@@ -83,9 +88,12 @@ returns-then-list_len-lt32 g c =
       ok = (search rules);
       err = (search rules);
       growth = (search rules);
-      due = (any-ok c.insert_made_and_relocate-then-list_len-lt32.result (record { doubled = λ due. absurd (let room : HasRoomAt hk g.E.Keyed.key_of a c.args.hash = (due.array, omega arith) in due.full (rw c.requires.hashed at room)); raised = λ low up. absurd (let z : true ≡ false = sym up ∙ ap (λ (x : Bool × Bool). x.0) c.insert_made_and_relocate-then-list_len-lt32.ensures.refused ∙ low in cc); unmarked = λ due. absurd (let room : HasRoomAt hk g.E.Keyed.key_of a c.args.hash = (due.array, omega arith) in due.full (rw c.requires.hashed at room)); marked = λ up. sym (ap (λ (x : Bool × Bool). x.1) c.insert_made_and_relocate-then-list_len-lt32.ensures.refused) ∙ up; lowered = λ up low. absurd (let z : true ≡ false = sym up ∙ sym (ap (λ (x : Bool × Bool). x.0) c.insert_made_and_relocate-then-list_len-lt32.ensures.refused) ∙ low in cc); down = λ some ne. absurd (ne c.insert_made_and_relocate-then-list_len-lt32.ensures.buckets) }));
-      raised = (search rules);
-      undone = (any-err c.insert_made_and_relocate-then-list_len-lt32.result (record { doubled = λ due. absurd (let room : HasRoomAt hk g.E.Keyed.key_of a c.args.hash = (due.array, omega arith) in due.full (rw c.requires.hashed at room)); raised = λ low up. absurd (let z : true ≡ false = sym up ∙ ap (λ (x : Bool × Bool). x.0) c.insert_made_and_relocate-then-list_len-lt32.ensures.refused ∙ low in cc); unmarked = λ due. absurd (let room : HasRoomAt hk g.E.Keyed.key_of a c.args.hash = (due.array, omega arith) in due.full (rw c.requires.hashed at room)); marked = λ up. sym (ap (λ (x : Bool × Bool). x.1) c.insert_made_and_relocate-then-list_len-lt32.ensures.refused) ∙ up; lowered = λ up low. absurd (let z : true ≡ false = sym up ∙ sym (ap (λ (x : Bool × Bool). x.0) c.insert_made_and_relocate-then-list_len-lt32.ensures.refused) ∙ low in cc); down = λ some ne. absurd (ne c.insert_made_and_relocate-then-list_len-lt32.ensures.buckets) }));
+      due = (
+          record {
+            still = λ _. c.insert_made_and_relocate-then-list_len-lt32.ensures.refused;
+            grown = λ some ne. absurd (ne c.insert_made_and_relocate-then-list_len-lt32.ensures.buckets);
+            denied = λ due _. absurd (let room : HasRoomAt hk g.E.Keyed.key_of a c.args.hash = (due.array, omega arith) in due.full (rw c.requires.hashed at room));
+          });
       first = (search rules);
       kept = (search rules);
       once = (search rules);
@@ -116,24 +124,17 @@ returns g c =
     let full : HasRoomAt hk g.E.Keyed.key_of a c.args.hash → ⊥ = λ room. absurd (let r = room.1 in omega arith) in
     let some : 0 < bucket_count a = let z = c.if-bucket_count-eq0.false in let m = c.bucket_count.ensures.count in omega arith in
     let f = c.insert_made_full.new.self in
-    let none : pending_of a ≡ 0 = let p = c.pending.ensures in let q = c.if-pending-gt0.false in omega arith in
+    let none-waits : pending_of a ≡ 0 = let p = c.pending.ensures in let q = c.if-pending-gt0.false in omega arith in
     let grows : GrowsWhenDue hk g.E.Keyed.key_of a (g.E.Keyed.key_of (g.E.Made.made_of c.args.parts)) f = record {
-      doubled = λ due down. c.insert_made_full.ensures.due due.half due.below down;
-      raised = λ low up.
-          let r = c.insert_made_full.ensures.raised low up in
-          record { array = some; not_waiting = none; full = λ room. full (rw c.requires.hashed room); half = r.0; below = r.1 };
-      lowered = λ up low. (some, c.insert_made_full.ensures.lowered up low);
-      down = λ _ ne. c.insert_made_full.ensures.down ne;
-      unmarked = λ due. c.insert_made_full.ensures.unmarked due.half due.below;
-      marked = c.insert_made_full.ensures.marked;
+      still = λ none. c.insert_made_full.ensures.noted (λ r. none record { array = some; not_waiting = none-waits; full = λ room. full (rw c.requires.hashed room); half = r.0; below = r.1 });
+      grown = λ _ ne. c.insert_made_full.ensures.lowered ne;
+      denied = λ due same. c.insert_made_full.ensures.denied due.half due.below same;
     } in
     record {
       ok = (search rules);
       err = (search rules);
       growth = (search rules);
-      due = (any-ok c.insert_made_full.result grows);
-      raised = (any-err c.insert_made_full.result (record { raised = grows.raised }));
-      undone = (any-err c.insert_made_full.result grows);
+      due = grows;
       first = (search rules);
       kept = (λ room. absurd (full (rw c.requires.hashed room)));
       once = (
@@ -149,7 +150,7 @@ returns g c =
           any-ok c.insert_made_full.result
           (λ some same short.
           let left : pending_of f ≡ 0 = let l = c.insert_made_full.ensures.less same in omega arith in
-          none-left (bucket_number (settings_of a).skipped (bucket_count a) c.args.hash) a (pending_targets f) none (nil_from_length (pending_targets f) (targets-length f ∙ left) ∙ sym (nil_from_length (pending_targets a) (targets-length a ∙ none)))));
+          none-left (bucket_number (settings_of a).skipped (bucket_count a) c.args.hash) a (pending_targets f) none-waits (nil_from_length (pending_targets f) (targets-length f ∙ left) ∙ sym (nil_from_length (pending_targets a) (targets-length a ∙ none-waits)))));
       spread = (on_ok_weaker c.insert_made_full.result (λ h some ne. h ne) c.insert_made_full.ensures.spread);
       all_but_two = (
           on_ok_weaker c.insert_made_full.result
@@ -165,7 +166,7 @@ returns g c =
           any-ok c.insert_made_full.result
           (λ some same.
           let left : pending_of f ≡ 0 = let l = c.insert_made_full.ensures.less same in omega arith in
-          moved-nothing (bucket_number (settings_of a).skipped (bucket_count a) c.args.hash) a f none left));
+          moved-nothing (bucket_number (settings_of a).skipped (bucket_count a) c.args.hash) a f none-waits left));
       drained = (on_ok_weaker c.insert_made_full.result (λ h some ne. h ne) c.insert_made_full.ensures.drained);
       unique = (search rules);
     }

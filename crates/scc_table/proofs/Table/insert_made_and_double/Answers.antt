@@ -1,4 +1,4 @@
-use Rattle.std.proofs.Common.{◌≡◌, ◌∙◌, ◌*◌, ℕ, Bool, true, false, Some, sym, ap, subst, arith, rules}
+use Rattle.std.proofs.Common.{◌≡◌, ◌∙◌, ◌*◌, ℕ, Some, sym, ap, subst, arith, rules}
 use Rattle.std.specs.List.{range_with_len}
 use Rattle.scc_common.specs.Contents.{bucket_count, hash_in, settings_of, waiting_of}
 use Rattle.scc_common.specs.Routing.{bucket_number}
@@ -50,12 +50,9 @@ returns-in-Ok g c =
     record {
       ok = around-inserted _ _ _ _ _ put c.requires.new.within d q r.rests r.within r.here r.not_waiting;
       err = (search rules);
-      up = (search rules);
       doubled = (λ ne. r.doubled (λ z. ne (z ∙ counted)) ∙ ap (λ n. 2 * n) counted);
-      due = (λ down. r.doubled (r.due down) ∙ ap (λ n. 2 * n) counted);
-      lowered = (λ up low z. r.due low (z ∙ sym counted));
-      fallen = (λ ne. r.down (λ z. ne (z ∙ counted)));
-      unmarked = (search rules);
+      lowered = (λ ne. r.lowered (λ z. ne (z ∙ counted)));
+      denied = (λ z. r.denied (z ∙ sym counted));
       none = (λ z. r.none (z ∙ sym counted));
       most = (λ ne. r.most (λ z. ne (z ∙ counted)));
       spread = (
@@ -77,12 +74,9 @@ returns-in-Err g c =
           let z = c.in-Err.ensures.stays in
           let lists = c.note.ensures.lists ∙ z.lists in
           (c.in-Err.ensures.err, unchanged-same c.args.self.now c.note.new.self lists (c.note.ensures.settings ∙ z.settings)));
-      up = (search rules);
       doubled = (λ ne. absurd (ne (count-same c.args.self.now c.note.new.self (c.note.ensures.lists ∙ c.in-Err.ensures.stays.lists))));
-      due = (λ down. absurd (let z : true ≡ false = sym (ap (λ (x : Bool × Bool). x.0) c.note.ensures.noted) ∙ down in cc));
-      lowered = (λ up low. absurd (let z : true ≡ false = sym (ap (λ (x : Bool × Bool). x.0) c.note.ensures.noted) ∙ low in cc));
-      fallen = (λ ne. absurd (ne (count-same c.args.self.now c.note.new.self (c.note.ensures.lists ∙ c.in-Err.ensures.stays.lists))));
-      unmarked = (search rules);
+      lowered = (λ ne. absurd (ne (count-same c.args.self.now c.note.new.self (c.note.ensures.lists ∙ c.in-Err.ensures.stays.lists))));
+      denied = (λ _. c.note.ensures.noted);
       none = (λ same. pending-same c.args.self.now c.note.new.self (c.note.ensures.waiting ∙ c.insert_made_in.ensures.waiting) ∙ c.requires.pending);
       most = (λ ne. absurd (ne (count-same c.args.self.now c.note.new.self (c.note.ensures.lists ∙ c.in-Err.ensures.stays.lists))));
       spread = (search rules);

@@ -1,6 +1,5 @@
-use Rattle.std.proofs.Common.{◌≡◌, ◌∙◌, ◌*◌, Bool, true, false, ap, sym, subst, arith, rules}
+use Rattle.std.proofs.Common.{◌≡◌, ◌∙◌, ◌*◌, true, false, ap, sym, subst, arith, rules}
 use Rattle.std.specs.List.{range_with_len}
-use Rattle.std.proofs.lemmas.Bool.{true≢false}
 use Rattle.scc_common.specs.Contents.{bucket_count, hash_in, settings_of}
 use Rattle.scc_common.specs.Routing.{bucket_number}
 use Rattle.scc_buckets.proofs.Powers.{double-array}
@@ -33,13 +32,10 @@ returns-then-is_full_once_doubled g c =
             doubled = λ some ne. c.insert_made_and_double.ensures.doubled ne;
             not_waiting = λ some ne. c.requires.pending;
           });
-      due = (λ half below down. c.insert_made_and_double.ensures.due down);
-      raised = (search rules);
+      noted = (λ none. absurd (none (omega (arith, c.len-length.ensures.len, c.bucket_count-count.ensures.count), omega (arith, c.bucket_count-count.ensures.count))));
       lowered = (search rules);
-      down = (search rules);
+      denied = (λ _ _ same. c.insert_made_and_double.ensures.denied same);
       once = (search rules);
-      unmarked = (search rules);
-      marked = (λ up. absurd (true≢false (sym up ∙ c.insert_made_and_double.ensures.unmarked)));
       fewer = (λ same i up. absurd (let z : true ≡ false = sym up ∙ not_waiting-all c.insert_made_and_double.new.self (c.insert_made_and_double.ensures.none same) i in cc));
       less = (λ same. let none = c.insert_made_and_double.ensures.none same in omega arith);
       grown = (search rules);
@@ -66,13 +62,10 @@ returns-else-is_full_once_doubled g c =
             doubled = λ some ne. c.insert_made_grown.ensures.doubled ne ∙ ap (λ n. 2 * n) c.bucket_count-count.ensures.count;
             not_waiting = λ some ne. c.requires.pending;
           });
-      due = (λ _ _ down. c.insert_made_grown.ensures.due down ∙ ap (λ n. 2 * n) c.bucket_count-count.ensures.count);
-      raised = (search rules);
+      noted = (λ none. absurd (none (omega (arith, c.len-length.ensures.len, c.bucket_count-count.ensures.count), omega (arith, c.bucket_count-count.ensures.count))));
       lowered = (search rules);
-      down = (search rules);
+      denied = (λ _ _ same. c.insert_made_grown.ensures.denied same);
       once = (search rules);
-      unmarked = (search rules);
-      marked = (λ up. absurd (true≢false (sym up ∙ c.insert_made_grown.ensures.unmarked)));
       fewer = (λ same i up. ap (λ ws. waits_at ws i) (sym (c.insert_made_grown.ensures.same same)) ∙ up);
       less = (λ same. let p = pending-same c.args.self.now c.insert_made_grown.new.self (c.insert_made_grown.ensures.same same) in omega arith);
       grown = (λ ne. let n = c.insert_made_grown.ensures.doubled ne in let p = c.insert_made_grown.ensures.grown ne in omega arith);
@@ -105,13 +98,10 @@ returns-then-length-count g c =
       ok = (search rules);
       err = (search rules);
       growth = (search rules);
-      due = (search rules);
-      raised = (search rules);
-      lowered = (search rules);
-      down = (search rules);
+      noted = (λ _. c.insert_made_and_relocate.ensures.refused);
+      lowered = (λ ne. absurd (ne c.insert_made_and_relocate.ensures.buckets));
+      denied = (search rules);
       once = (search rules);
-      unmarked = (search rules);
-      marked = (λ up. sym (ap (λ (x : Bool × Bool). x.1) c.insert_made_and_relocate.ensures.refused) ∙ up);
       fewer = (search rules);
       less = (search rules);
       grown = (search rules);

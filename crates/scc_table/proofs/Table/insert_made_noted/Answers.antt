@@ -20,8 +20,7 @@ returns g c =
           IfOk-weaker c.insert_made_and_relocate.result _ _ (λ p h. rests-inserted a d f (g.E.Made.made_of c.args.parts) (spot_of f p) (inl (unchanged-same a d c.note.ensures.lists c.note.ensures.settings)) h) c.insert_made_and_relocate.ensures.ok);
       err = (IfErr-weaker c.insert_made_and_relocate.result _ _ (λ e h. (h.0, record { exact = h.1.exact ∙ entries-same a d c.note.ensures.lists; buckets = h.1.buckets ∙ count-same a d c.note.ensures.lists; settings = h.1.settings ∙ c.note.ensures.settings })) c.insert_made_and_relocate.ensures.err);
       buckets = (c.insert_made_and_relocate.ensures.buckets ∙ count-same c.args.self.now c.note.new.self c.note.ensures.lists);
-      up = (search rules);
-      unmarked = (search rules);
+      denied = (c.insert_made_and_relocate.ensures.refused ∙ c.note.ensures.noted);
       fewer = (λ k up. ap (λ w. waits_at w k) (sym c.note.ensures.waiting) ∙ c.insert_made_and_relocate.ensures.fewer k up);
       less = (let n = pending-same c.args.self.now c.note.new.self c.note.ensures.waiting in omega (arith, c.insert_made_and_relocate.ensures.less));
       not_waiting = (search rules);

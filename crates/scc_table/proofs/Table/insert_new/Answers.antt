@@ -1,4 +1,4 @@
-use Rattle.std.proofs.Common.{◌≡◌, ◌∙◌, true, false, sym, ap, subst, arith, Bool, rules}
+use Rattle.std.proofs.Common.{◌∙◌, true, sym, subst, arith, rules}
 use Rattle.scc_common.specs.Contents.{HasRoomAt, hash_in}
 use Rattle.scc_table.specs.Relocates.{AreMovedBeside}
 use Rattle.scc_table.specs.TwoArrays.{pending_targets}
@@ -25,12 +25,9 @@ returns-then-list_len-lt32 g c =
           let hk = hash_in g.H.Hashes.hash_of a in
           let held = room-listed hk g.E.Keyed.key_of a c.args.hash c.bucket_at-bucket.ensures.value c.bucket_at-bucket.ensures.routed c.list_len.ensures.len in
           record {
-            doubled = λ due down. absurd (due.full (rw c.requires.hashed at (let had : HasRoomAt hk g.E.Keyed.key_of a c.args.hash = (due.array, omega arith) in had)));
-            raised = λ low up. absurd (let z : false ≡ true = sym low ∙ sym (ap (λ (x : Bool × Bool). x.0) c.insert_with_room.ensures.refused) ∙ up in cc);
-            unmarked = λ due. absurd (due.full (rw c.requires.hashed at (let had : HasRoomAt hk g.E.Keyed.key_of a c.args.hash = (due.array, omega arith) in had)));
-            marked = λ up. sym (ap (λ (x : Bool × Bool). x.1) c.insert_with_room.ensures.refused) ∙ up;
-            lowered = λ up low. absurd (let z : true ≡ false = sym up ∙ sym (ap (λ (x : Bool × Bool). x.0) c.insert_with_room.ensures.refused) ∙ low in cc);
-            down = λ some ne. absurd (ne c.insert_with_room.ensures.buckets);
+            still = λ _. c.insert_with_room.ensures.refused;
+            grown = λ some ne. absurd (ne c.insert_with_room.ensures.buckets);
+            denied = λ due _. absurd (due.full (rw c.requires.hashed at (let had : HasRoomAt hk g.E.Keyed.key_of a c.args.hash = (due.array, omega arith) in had)));
           });
       first = (search rules);
       none = (search rules);

@@ -1,5 +1,8 @@
-use Rattle.std.proofs.Common.{◌≡◌, ◌∙◌, ◌+◌, Bool, rules, sym, ap, arith}
-use Rattle.scc_common.specs.Contents.{hash_in, minimum_of, settings_of}
+use Rattle.std.proofs.Common.{◌≡◌, ◌∙◌, ◌+◌, ◌*◌, ◌≤◌, ◌⊎◌, rules, sym, ap, subst, arith}
+use Rattle.std.specs.List.Sorted.{IsPermutation}
+use Rattle.scc_common.specs.Contents.{bucket_count, entries, hash_in, minimum_of, settings_of}
+use Rattle.scc_common.specs.Sizes.{IsArraySize, IsBucketCount}
+use Rattle.scc_buckets.proofs.Resizes.{reaches-after}
 use Rattle.scc_table.proofs.arrays.CurrentParts.{settings-seen}
 use Rattle.scc_table.proofs.resizes.Attempts.{growth-due_after, spreads-after}
 use Rattle.scc_table.proofs.Table.raise_minimum.Goals as goal
@@ -10,14 +13,28 @@ returns g c =
       answer = (search rules);
       yes = (
           let t = c.self.inside in
+          let a = c.args.self.now in
+          let d = c.grow_to_minimum.new.self in
           let hk = hash_in g.H.Hashes.hash_of t.current in
           let hash = λ (e : g.row.E.Denot). hk (g.E.Keyed.key_of e) in
-          let set = settings-seen hash t.current t.draining.waiting.items t.draining.array c.args.self.now c.self.view_is in
-          let left : c.reserved.result ≡ (settings_of c.args.self.now).reserved = c.reserved.ensures.value ∙ ap (λ s. s.reserved) set in
-          search rules);
-      due = (
-          let r = c.grow_to_minimum.ensures.due in
-          λ _. record { reached = λ m am some less down. r.reached m am (omega (arith, c.set_reserved.ensures.buckets)) (omega (arith, c.set_reserved.ensures.buckets)) down; raised = λ low up m am. let z = r.raised (ap (λ (x : Bool × Bool). x.0) c.set_reserved.ensures.noted ∙ low) up m am in (omega (arith, z.0, c.set_reserved.ensures.buckets), omega (arith, z.1, c.set_reserved.ensures.buckets)); lowered = λ up low e. r.lowered (ap (λ (x : Bool × Bool). x.0) c.set_reserved.ensures.noted ∙ up) low (e ∙ sym c.set_reserved.ensures.buckets); down = λ ne. r.down (λ e. ne (e ∙ c.set_reserved.ensures.buckets)); marked = λ up. sym (ap (λ (x : Bool × Bool). x.1) c.set_reserved.ensures.noted) ∙ r.marked up });
+          let set = settings-seen hash t.current t.draining.waiting.items t.draining.array a c.self.view_is in
+          let left : c.reserved.result ≡ (settings_of a).reserved = c.reserved.ensures.value ∙ ap (λ s. s.reserved) set in
+          let e = c.set_reserved.ensures in
+          let r = c.grow_to_minimum.ensures in
+          let raised = e.settings ∙ ap (λ n. record (settings_of a) { reserved = n + c.args.additional }) left in
+          λ _. record {
+            holds = record {
+              same = subst (λ es. IsPermutation es (entries d)) e.entries r.resizes.same;
+              lawful = subst (λ n. (bucket_count d ≡ n) ⊎ IsBucketCount (bucket_count d)) e.buckets r.resizes.size.lawful;
+              minimum = λ less. subst (λ s. s.asked + s.reserved ≤ 32 * bucket_count d) raised (r.resizes.size.minimum (omega (arith, less, e.buckets)));
+              settings = r.resizes.settings ∙ raised;
+            };
+            more = omega (arith, r.more, e.buckets);
+            size = λ ne.
+                let z = r.size (λ same. ne (same ∙ e.buckets)) in
+                (omega (arith, z.0, e.buckets), subst (λ s. IsArraySize (s.asked + s.reserved) (32 * bucket_count d)) (sym r.resizes.settings) z.1);
+          });
+      due = (λ _. reaches-after c.args.self.now c.set_reserved.new.self c.grow_to_minimum.new.self c.set_reserved.ensures.buckets c.set_reserved.ensures.noted c.grow_to_minimum.ensures.due);
       spreads = (
           let a = c.args.self.now in
           let b = c.set_reserved.new.self in

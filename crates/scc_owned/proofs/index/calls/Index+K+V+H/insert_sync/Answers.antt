@@ -63,10 +63,7 @@ returns-after-insert_made-clause-array g c =
       growth = (rw (← c.self.view_is) c.insert_made.ensures.growth);
       kept = (λ _. rw (← c.self.view_is) c.insert_made.ensures.kept);
       once = (rw (← c.self.view_is) c.insert_made.ensures.once);
-      due = (λ _. elim c.match-insert_made.branch [
-        | in-Ok w ↦ rw (← c.self.view_is) w.in-Ok.ensures.due
-        | in-Err w ↦ rw (← c.self.view_is) w.in-Err.ensures.undone
-      ]);
+      due = (λ _. rw (← c.self.view_is) c.insert_made.ensures.due);
       first = (λ _.
           elim c.match-insert_made.branch [
             | in-Ok w ↦ rw (w.result-is, ← c.self.view_is) w.in-Ok.ensures.first

@@ -28,7 +28,7 @@ returns-then-f-clause-array g c =
       smaller = (rw (← c.self.view_is) c.remove_at-version.ensures.smaller);
       due = (rw (← c.self.view_is) (λ _. c.remove_at-version.ensures.due));
       noted = (search rules);
-      relocates = (rw (← c.self.view_is) (λ _. record { all = c.remove_at-version.ensures.all; less = c.remove_at-version.ensures.less; waiting = c.remove_at-version.ensures.waiting }));
+      relocates = (rw (← c.self.view_is) (λ _. record { all = c.remove_at-version.ensures.all; fewer = c.remove_at-version.ensures.fewer; less = c.remove_at-version.ensures.less; waiting = c.remove_at-version.ensures.waiting }));
       waiting = (search rules);
     }
 

@@ -11,6 +11,6 @@ returns-clause-array g c =
       smaller = rw (← c.self.view_is) out.smaller;
       due = rw (← c.self.view_is) (λ _. out.due);
       noted = (search rules);
-      relocates = rw (← c.self.view_is) (λ _. record { all = out.all; less = out.less; waiting = out.waiting });
+      relocates = rw (← c.self.view_is) (λ _. record { all = out.all; fewer = out.fewer; less = out.less; waiting = out.waiting });
       waiting = (search rules);
     }

@@ -1,4 +1,4 @@
-use Rattle.std.proofs.Common.{◌≡◌, length, ap, ◌∙◌}
+use Rattle.std.proofs.Common.{◌≡◌, length, ap, subst, sym, ◌∙◌}
 use Rattle.scc_common.specs.Contents.{key_hash}
 use Rattle.scc_owned.proofs.MapCollecting.{collected-settings, collected-distinct, collected-finds, none-unique}
 use Rattle.scc_owned.proofs.map.make.Map+K+V+H.try_from_iter.Goals as goal
@@ -31,6 +31,12 @@ returns-clause-items g c =
       },
       rw (← ran.4.0) finds,
     )
+
+pub returns-clause-hasher : goal.returns-clause-hasher
+returns-clause-hasher g c =
+    let hash = key_hash g.H.BuildHasher g.H.Hasher.Hasher g.K.Hash.hash_input in
+    let kept = collected-settings g.met.K.Eq.laws hash c.in_ok-made.made _ _ c.in_ok-upsert_all.ensures in
+    subst g.H.Default.is_default (sym (ap (λ s. s.hasher) (kept ∙ c.in_ok-made.ensures.settings))) c.default.ensures
 
 pub returns-clause-unique : goal.returns-clause-unique
 returns-clause-unique g c =

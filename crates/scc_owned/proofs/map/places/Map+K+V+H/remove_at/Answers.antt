@@ -5,12 +5,12 @@ pub returns : goal.returns
 returns g c =
     record {
       pair = (search rules);
-      others = (search rules);
+      others = rw (← c.self.view_is) c.remove_at.ensures.others;
       array = rw (← c.self.view_is) record {
         smaller = c.remove_at.ensures.smaller;
         due = λ _. c.remove_at.ensures.due;
         noted = (search rules);
-        relocates = λ _. record { all = c.remove_at.ensures.all; less = c.remove_at.ensures.less; waiting = c.remove_at.ensures.waiting };
+        relocates = λ _. record { all = c.remove_at.ensures.all; fewer = c.remove_at.ensures.fewer; less = c.remove_at.ensures.less; waiting = c.remove_at.ensures.waiting };
         waiting = (search rules);
       };
       unique = (search rules);
