@@ -2,8 +2,7 @@
 
 pub mod ruled;
 
-pub use scc_common::Version;
-pub use scc_owned::index::locked::{Entry, OccupiedEntry, VacantEntry};
-pub use scc_owned::index::{Iter, Owned, borrowed as owned};
+pub use scc_index::{
+    Entry, HashIndex, Iter, OccupiedEntry, Owned, Reserve, VacantEntry, Version, owned,
+};
 pub use scc_ruled_index::RuledIndex;
-pub use scc_shared::index::{HashIndex, Reserve};

@@ -2,7 +2,7 @@
 
 pub mod ruled;
 
-pub use scc_owned::map::locked::{Entry, OccupiedEntry, ReplaceResult, VacantEntry};
-pub use scc_owned::map::{Owned, Sink, borrowed as owned};
+pub use scc_map::{
+    Entry, HashMap, OccupiedEntry, Owned, ReplaceResult, Reserve, Sink, VacantEntry, owned,
+};
 pub use scc_ruled_map::RuledMap;
-pub use scc_shared::map::{HashMap, Reserve};

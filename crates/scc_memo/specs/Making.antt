@@ -1,6 +1,6 @@
 -- What a new memo holds.
-use Rattle.std.specs.Prelude.{◌≡◌, ℕ, ◌*◌, ◌<◌, [], max, Result, IsOk, IfOk}
-use Rattle.scc_common.specs.Contents.{entries, bucket_count, settings_of, waiting_of}
+use Rattle.std.specs.Prelude.{◌≡◌, ℕ, ◌*◌, ◌<◌, [], false, max, Result, IsOk, IfOk}
+use Rattle.scc_common.specs.Contents.{entries, bucket_count, notes_of, settings_of, waiting_of}
 use Rattle.scc_common.specs.Sizes.{IsArraySize}
 use Rattle.scc_memo.specs.Memos.{Memoized}
 
@@ -22,5 +22,7 @@ module _ {P E S X : Type 0} where
     pub maximum : IfOk result (λ m. IsArraySize (max most (32 * bucket_count m.cache.contents)) m.cache.maximum)
     -- it succeeds if no slots were asked for
     pub succeeds : capacity ≡ 0 → IsOk result
+    -- no refused memory is noted, and no growth is marked
+    pub noted : IfOk result (λ m. notes_of m.cache.contents ≡ (false, false))
     -- no bucket waits
     pub waiting : IfOk result (λ m. waiting_of m.cache.contents ≡ [])

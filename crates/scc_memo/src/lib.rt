@@ -26,8 +26,14 @@ pub trait Pure {
     // The value of a key.
     ghost value: { Self → Self.Key → Self.Value };
 
+    // Whether the value of a key is wanted: the function may be called on it. A memo calls the function only on a key
+    // that it lacks, so who calls `get` says that the value is wanted, if the memo lacks it. If nothing is said here,
+    // every value is.
+    ghost wanted: { Self → Self.Key → Type 0 } = { λ _ _. Unit {0} };
+
     /// Returns the value of `k`.
     fn of(&self, k: &Self::Key) -> Self::Value
+        requires { wanted self.now k.now }
         ensures { result ≡ value self.now k.now };
 
     // Equal keys have the same value.
@@ -113,10 +119,12 @@ impl<P: Pure, H: BuildHasher> Memo<P, H> {
 
     /// Returns the value of `k`, from the cache if it has one, else from the function. The pair of `k` becomes the
     /// most recent of its bucket. A missing pair is inserted as by the cache's `put_sync`. Only if there is no array
-    /// and memory for one is refused, nothing is stored.
+    /// and memory for one is refused, nothing is stored. The function is called only if the pair is missing.
     pub fn get(&mut self, k: P::Key) -> P::Value
     where
         P::Key: Drop,
+        requires wanted { IsAbsent (hash_in ⟦<H as Hashes<P::Key>>⟧.hash_of self.old.cache.contents) P.Key.eq
+            self.old.cache.contents k → P.wanted self.old.function k }
         ensures value { result ≡ P.value self.old.function k }
         ensures function { self.new.function ≡ self.old.function }
         ensures step { Remembers (hash_in ⟦<H as Hashes<P::Key>>⟧.hash_of self.old.cache.contents) P.Key.eq
@@ -178,7 +186,9 @@ fn recall<P: Pure, H: BuildHasher>(
 ) -> P::Value
 where
     P::Key: Drop,
-    requires { HasValues (P.value function.now) cache.old.contents }
+    requires values { HasValues (P.value function.now) cache.old.contents }
+    requires wanted { IsAbsent (hash_in ⟦<H as Hashes<P::Key>>⟧.hash_of cache.old.contents) P.Key.eq cache.old.contents k
+        → P.wanted function.now k }
     ensures value { result ≡ P.value function.now k }
     ensures values { HasValues (P.value function.now) cache.new.contents }
     ensures step { Remembers (hash_in ⟦<H as Hashes<P::Key>>⟧.hash_of cache.old.contents) P.Key.eq cache.old k

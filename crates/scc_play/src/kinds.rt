@@ -2,7 +2,7 @@
 //! the threads of each kind are started here.
 ghost use Rattle.std.specs.Prelude.{◌≡◌, IfOk, Some};
 ghost use Rattle.scc_recorded.specs.Setups.{request_of};
-ghost use Rattle.scc_script.specs.Grammar.{IsWorkerCount, IsStripeCount};
+ghost use Rattle.scc_script.specs.Grammar.{IsWorkerCount, IsStripeCount, IsCacheStripeCount};
 ghost use Rattle.scc_play.specs.Ended.{IfPlayed};
 ghost use Rattle.scc_play.specs.Kinds.{MapPlayed, SetPlayed, IndexPlayed, CachePlayed, MapPlayedFor, SetPlayedFor, IndexPlayedFor, CachePlayedFor};
 
@@ -248,7 +248,7 @@ where
     requires receipts { (receipts.name ≡ L.name) × (receipts.parts ≡ L.parts) × (receipts.parts ≡ workers) }
     requires records { (records.name ≡ M.name) × (records.parts ≡ M.parts) × (records.parts ≡ stripes) }
     requires site { (M.chosen ≡ Some (request_of 0 256 hasher stripes)) × (M.all ≡ stripes) }
-    requires counts { IsWorkerCount workers × IsStripeCount stripes }
+    requires counts { IsWorkerCount workers × IsCacheStripeCount stripes }
     ensures { IfOk result (λ e. IfPlayed e (CachePlayedFor M.chosen workers stripes calls.now)) }
 {
     let lists = calls_of_workers::<OwnedCache<u64, u64, Shared<Same>>>(alloc, workers, calls)?;
@@ -278,7 +278,7 @@ pub(crate) fn play_cache<R: Threads + Wait + Sync>(
     stripes: usize,
     calls: &[WorkerCall<CacheCall<u64, u64>>],
 ) -> Result<End, AllocError>
-    requires { IsWorkerCount workers × IsStripeCount stripes }
+    requires { IsWorkerCount workers × IsCacheStripeCount stripes }
     ensures { IfOk result (λ e. IfPlayed e (CachePlayed workers stripes calls.now)) }
 {
     play_cache_in::<Brand, Brand, R>(

@@ -4,7 +4,7 @@ ghost use Rattle.std.specs.List.{AllByRecursion};
 ghost use Rattle.std.specs.String.{string_bytes};
 ghost use Rattle.std.specs.Io.KnownBytes.{Appends};
 ghost use Rattle.scc_print.specs.Finished.{MapOutput, SetOutput, IndexOutput, CacheOutput};
-ghost use Rattle.scc_script.specs.Grammar.{script_of, IsWorkerCount, IsStripeCount};
+ghost use Rattle.scc_script.specs.Grammar.{script_of, IsWorkerCount, IsStripeCount, IsCacheStripeCount};
 ghost use Rattle.scc_script.specs.Scripts.{HasCounts, meaning_of};
 ghost use Rattle.scc_play.specs.Endings.{WritesAnswer, AnswersBy, Ends, HasOwners, all_calls, bad_line_text, finish_text};
 ghost use Rattle.scc_play.specs.Ended.{IfPlayed, MatchEnd};
@@ -187,7 +187,7 @@ fn answer_cache<R: Threads + Wait + Sync>(
     stripes: usize,
     calls: &[WorkerCall<CacheCall<u64, u64>>],
 ) -> Result<Answer, AllocError>
-    requires counts { IsWorkerCount workers × IsStripeCount stripes }
+    requires counts { IsWorkerCount workers × IsCacheStripeCount stripes }
     requires owners { AllByRecursion (λ c. c.worker < workers) calls.now }
     ensures { IfOk result (λ a. AnswersBy (CacheOutput (all_calls calls.now)) (CachePlayed workers stripes calls.now)
         workers stripes a.status (string_bytes a.text)) }

@@ -1,10 +1,17 @@
 -- What a recorded container is made with, divided among its stripes.
-use Rattle.std.specs.Prelude.{◌≡◌, ℕ, ◌+◌, ◌/◌, ◌%◌, ◌==◌, ◌⊎◌, if◌then◌else◌}
+use Rattle.std.specs.Prelude.{◌≡◌, ℕ, ◌+◌, ◌*◌, ◌/◌, ◌%◌, ◌<◌, ◌≤◌, ◌==◌, ◌⊎◌, if◌then◌else◌}
+use Rattle.scc_common.specs.Sizes.{IsArraySize}
 use Rattle.scc_calls.specs.declared.fixed.Request.{Request}
 
 -- the number of stripes that may be asked for
 abbrev pub IsStripes : ℕ → Type 0
 IsStripes stripes = (stripes ≡ 1) ⊎ (stripes ≡ 2) ⊎ (stripes ≡ 4) ⊎ (stripes ≡ 8) ⊎ (stripes ≡ 16)
+
+-- an array for `capacity` would have 64 slots or more for each of `stripes` stripes, and a cache that is made with
+-- `maximum` might grow to as many. Of one stripe nothing is asked, nor of a capacity of 0. `limits` gives the greatest
+-- number of slots by the maximum that is asked for and the slots of the array
+abbrev pub AreWide : (ℕ → ℕ → ℕ → Type 0) → ℕ → ℕ → ℕ → Type 0
+AreWide limits capacity maximum stripes = (stripes ≡ 1) ⊎ ((slots most : ℕ) → (capacity ≡ 0 → slots ≡ 0) → (0 < capacity → IsArraySize capacity slots) → limits maximum slots most → (0 < slots → 64 * stripes ≤ slots) × (0 < most → 64 * stripes ≤ most))
 
 -- how many first bits of a hash name one of `stripes` stripes
 abbrev pub skipped_for : ℕ → ℕ

@@ -1,5 +1,5 @@
 //! How a recorded container is opened.
-ghost use Rattle.scc_recorded.specs.Setups.{IsStripes, request_of};
+ghost use Rattle.scc_recorded.specs.Setups.{AreWide, IsStripes, request_of};
 ghost use Rattle.std.specs.List.{AllByRecursion, range_with_len};
 ghost use Rattle.std.specs.Prelude.{◌≡◌, ◌+◌, ◌<◌, ◌≤◌, [], IfOk, Some, map, vec_len};
 
@@ -20,8 +20,8 @@ where
 {
     /// Returns an empty container in `stripes` stripes, and `passes` passes, numbered from 0.
     ///
-    /// The slots and the maximum are divided evenly among the stripes. Fails if memory is refused, or if the hasher
-    /// can't be shared with one more owner.
+    /// The slots and the maximum are divided evenly among the stripes; there mustn't be more stripes than get 64 slots
+    /// each. Fails if memory is refused, or if the hasher can't be shared with one more owner.
     pub fn open(
         alloc: Global,
         setup: Setup<C::Hasher>,
@@ -35,6 +35,7 @@ where
         requires site { M.chosen ≡ Some (request_of setup.capacity setup.maximum setup.hasher stripes) }
         requires all { M.all ≡ stripes }
         requires stripes { IsStripes stripes }
+        requires wide { AreWide C.limits setup.capacity setup.maximum stripes }
         requires passes { 0 < passes }
         ensures stripes { IfOk result (λ r. (r.0.stripes ≡ stripes) × (r.0.passes ≡ passes)
             × (r.0.hasher ≡ setup.hasher)) }

@@ -10,9 +10,10 @@ use std::sync::ledger::Ledger;
 /// What a recorded container is made with.
 #[derive(Drop)]
 pub struct Setup<H> {
-    /// The least number of slots in all stripes together; 0 for no array.
+    /// The least number of slots in all stripes together; 0 for no arrays.
     pub capacity: usize,
-    /// The number of slots above which a cache shouldn't grow, in all stripes together. The other kinds don't use it.
+    /// The number of slots above which a cache doesn't grow, in all stripes together; raised to 64, to the slots of the
+    /// first arrays and to a power of two. The other kinds don't use it.
     pub maximum: usize,
     pub hasher: H,
 }

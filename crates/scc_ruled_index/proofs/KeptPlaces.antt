@@ -5,7 +5,7 @@ use Rattle.std.specs.Prelude.{IfOk, remove}
 use Rattle.std.specs.Result.{OnErr}
 use Rattle.scc_buckets.specs.declared.place.Place.{Place}
 use Rattle.scc_common.specs.Contents.{Contents, entries}
-use Rattle.scc_common.specs.Steps.{Holds, HoldsExactly, IsUnchanged}
+use Rattle.scc_common.specs.Steps.{Holds, HoldsExactly}
 use Rattle.scc_rules.specs.Rules.{AllKeep, IsKept, KeepsAll}
 use Rattle.scc_rules.proofs.Lists.{all-append, all-got, all-moved, all-parts}
 use Rattle.scc_table.specs.Placed.{entry_of, front_of, back_of, IsPlace-with_write_at}
@@ -13,6 +13,7 @@ use Rattle.scc_table.specs.Places.{IsPlace, IsInsertedAt, index_of, with_write_a
 use Rattle.scc_table.proofs.places.Entries.{entry_of-get, place-found, splits-there, written-there}
 use Rattle.scc_table.specs.Places.{IsFoundAt}
 use Rattle.scc_rules.specs.Rules.{IsKeptAt}
+use Rattle.scc_owned.specs.Insertions.{RestsOfIndex}
 use Rattle.scc_ruled_index.proofs.KeptPairs.{kept-found}
 
 all-remove : {X : Type 0} (P : X → Type 0) (xs : List X) (i : ℕ) → AllByRecursion P xs → AllByRecursion P (remove xs i)
@@ -52,9 +53,9 @@ module _ {K V S : Type 0} (holds : K → V → Type 0) (c : Contents (K × V) S)
 
 module _ {K V S : Type 0} (holds : K → V → Type 0) (c d : Contents (K × V) S) where
   -- a new pair that keeps the rule is inserted, or memory is refused
-  pub kept-new : (p : K × V) (r : Result Place (K × V)) → IfOk r (IsInsertedAt c p d) → OnErr r (IsUnchanged c d) → IsKept holds p → KeepsAll holds c → KeepsAll holds d
-  kept-new p (Ok q) i e new h = all-moved (λ (p : K × V). holds p.0 p.1) (p ∷ entries c) (entries d) i.holds.same (new, h)
-  kept-new p (Err q) i e new h = subst (AllByRecursion (λ (p : K × V). holds p.0 p.1)) (sym e.exact) h
+  pub kept-new : (hash : K → ℕ) (k : K) (p : K × V) (r : Result Place (K × V)) → IfOk r (IsInsertedAt c p d) → OnErr r (RestsOfIndex (λ (q : K × V). q.0) hash c k d) → IsKept holds p → KeepsAll holds c → KeepsAll holds d
+  kept-new hash k p (Ok q) i e new h = all-moved (λ (p : K × V). holds p.0 p.1) (p ∷ entries c) (entries d) i.holds.same (new, h)
+  kept-new hash k p (Err q) i e new h = subst (AllByRecursion (λ (p : K × V). holds p.0 p.1)) (sym e.unchanged.exact) h
 
 module _ {K V S : Type 0} (eq : K → K → Bool) (holds : K → V → Type 0) (alike : (j k : K) (v : V) → eq j k ≡ true → holds j v → holds k v) (symm : (j k : K) → eq j k ≡ eq k j) (c : Contents (K × V) S) (k : K) (place : Place) (found : IsFoundAt (λ e. eq k e.0) c place) where
   -- the pair at the place of k has a key that equals k and keeps the rule, and its value may stand under k

@@ -177,9 +177,18 @@ is_stripe_count kind stripes = (stripes == 1) || ((stripes == 2) || ((stripes ==
 abbrev pub IsWorkerCount : ℕ → Type 0
 IsWorkerCount workers = (0 < workers) × (workers ≤ 16)
 
--- a number of stripes that is allowed for some kind, as a fact
+-- a number of stripes that is allowed for a kind other than the cache, as a fact
 abbrev pub IsStripeCount : ℕ → Type 0
 IsStripeCount stripes = (stripes ≡ 1) ⊎ (stripes ≡ 2) ⊎ (stripes ≡ 4) ⊎ (stripes ≡ 8) ⊎ (stripes ≡ 16)
+
+-- a number of stripes that is allowed for a cache, as a fact
+abbrev pub IsCacheStripeCount : ℕ → Type 0
+IsCacheStripeCount stripes = (stripes ≡ 1) ⊎ (stripes ≡ 2) ⊎ (stripes ≡ 4)
+
+-- a number of stripes that is allowed for this kind, as a fact
+abbrev pub IsStripeCountOf : Kind → ℕ → Type 0
+IsStripeCountOf Cache stripes = IsCacheStripeCount stripes
+IsStripeCountOf kind stripes = IsStripeCount stripes
 
 -- the header of this kind and these numbers, if the numbers are allowed
 abbrev pub header_of_numbers : Kind → ℕ → ℕ → Option Header

@@ -1,6 +1,6 @@
 -- What the parser's result says of a script.
 use Rattle.std.specs.Prelude.{ℕ, List, Result, Ok, Err}
-use Rattle.scc_script.specs.Grammar.{IsWorkerCount, IsStripeCount, Meaning, map_calls, set_calls, index_calls, cache_calls, bad_line}
+use Rattle.scc_script.specs.Grammar.{IsWorkerCount, IsStripeCount, IsCacheStripeCount, Meaning, map_calls, set_calls, index_calls, cache_calls, bad_line}
 use Rattle.scc_script.specs.declared.line.WorkerCall.{WorkerCall}
 use Rattle.scc_script.specs.declared.script.Lines.{Lines}
 use Rattle.scc_script.specs.declared.script.Lines.TheVariants as lines
@@ -25,5 +25,5 @@ abbrev pub HasCounts : Script → Type 0
 HasCounts (Map workers stripes calls) = IsWorkerCount workers × IsStripeCount stripes
 HasCounts (Set workers stripes calls) = IsWorkerCount workers × IsStripeCount stripes
 HasCounts (Index workers stripes calls) = IsWorkerCount workers × IsStripeCount stripes
-HasCounts (Cache workers stripes calls) = IsWorkerCount workers × IsStripeCount stripes
+HasCounts (Cache workers stripes calls) = IsWorkerCount workers × IsCacheStripeCount stripes
 HasCounts (BadLine number) = Unit {0}

@@ -1,6 +1,6 @@
 //! Reads one line of a script: its header, or a call.
 ghost use Rattle.std.specs.Prelude.{◌≡◌, ◌≤◌, ◌<◌, IfSome, IsTrue};
-ghost use Rattle.scc_script.specs.Grammar.{parts, call_of_arguments, call_of_name, call_of_line, header_of_line, header_of_numbers, kind_of_name, is_worker_count, is_stripe_count, IsWorkerCount, IsStripeCount};
+ghost use Rattle.scc_script.specs.Grammar.{parts, call_of_arguments, call_of_name, call_of_line, header_of_line, header_of_numbers, kind_of_name, is_worker_count, is_stripe_count, IsWorkerCount, IsStripeCountOf};
 
 use crate::fields::cut_at;
 use crate::names::Named;
@@ -93,7 +93,7 @@ fn kind_named(name: &[u8]) -> Option<Kind>
 /// Returns whether a container of the kind may have `stripes` stripes.
 fn may_divide(kind: Kind, stripes: usize) -> bool
     ensures value { result ≡ is_stripe_count kind stripes }
-    ensures some { IsTrue result → IsStripeCount stripes }
+    ensures some { IsTrue result → IsStripeCountOf kind stripes }
 {
     match kind {
         Kind::Cache => stripes == 1 || stripes == 2 || stripes == 4,
@@ -104,7 +104,7 @@ fn may_divide(kind: Kind, stripes: usize) -> bool
 /// Returns the header of this kind and these numbers, or `None` if the numbers are not allowed.
 fn header_with(kind: Kind, workers: usize, stripes: usize) -> Option<Header>
     ensures value { result ≡ header_of_numbers kind workers stripes }
-    ensures counts { IfSome result (λ h. IsWorkerCount h.workers × IsStripeCount h.stripes) }
+    ensures counts { IfSome result (λ h. IsWorkerCount h.workers × IsStripeCountOf h.kind h.stripes) }
 {
     if workers > 0 && workers < 17 && may_divide(kind, stripes) {
         Some(Header {
@@ -121,7 +121,7 @@ fn header_with(kind: Kind, workers: usize, stripes: usize) -> Option<Header>
 /// `line` is no such line.
 pub fn parse_header(line: &[u8]) -> Option<Header>
     ensures value { result ≡ header_of_line line.now }
-    ensures counts { IfSome result (λ h. IsWorkerCount h.workers × IsStripeCount h.stripes) }
+    ensures counts { IfSome result (λ h. IsWorkerCount h.workers × IsStripeCountOf h.kind h.stripes) }
 {
     let Some((kind, rest)) = cut_at(line, b' ') else {
         return None;

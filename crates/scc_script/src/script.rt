@@ -1,6 +1,6 @@
 //! Reads a whole script.
 ghost use Rattle.std.specs.Prelude.{◌≡◌, IfOk};
-ghost use Rattle.scc_script.specs.Grammar.{script_of, calls_of_lines, lines_of, meaning_of_kind, IsWorkerCount, IsStripeCount};
+ghost use Rattle.scc_script.specs.Grammar.{script_of, calls_of_lines, lines_of, meaning_of_kind, IsWorkerCount, IsStripeCountOf};
 ghost use Rattle.scc_script.specs.Scripts.{meaning_of, calls_or_line, HasCounts};
 
 use crate::line::{Header, Kind, WorkerCall, parse_header, parse_line};
@@ -55,7 +55,7 @@ fn parse_calls<C: Named>(alloc: Global, workers: usize, text: &[u8]) -> Result<L
 
 /// Returns what the lines behind the header are. Fails if memory is refused.
 fn parse_rest(alloc: Global, header: Header, rest: &[u8]) -> Result<Script, AllocError>
-    requires { IsWorkerCount header.workers × IsStripeCount header.stripes }
+    requires { IsWorkerCount header.workers × IsStripeCountOf header.kind header.stripes }
     ensures value { IfOk result (λ script. meaning_of script
         ≡ meaning_of_kind header.kind header.workers header.stripes (lines_of rest.now)) }
     ensures counts { IfOk result HasCounts }

@@ -8,13 +8,13 @@ use Rattle.scc_memo.proofs.recall.Goals as goal
 pub returns-in-Occupied-clause-value : goal.returns-in-Occupied-clause-value
 returns-in-Occupied-clause-value g c =
     let s = c.in-Occupied.ensures.entry.changes.lists in
-    c.get.ensures ∙ value-there (g.P.Pure.value c.args.function.now) (key_hash g.H.BuildHasher g.H.Hasher.Hasher g.P.Key.Hash.hash_input c.args.cache.now.contents) g.P.Key.PartialEq.eq (g.met.P.Pure.equal_alike c.args.function.now) c.args.cache.now.contents c.args.k s.0 (occupied_pair c.in-Occupied.entry) s.1 c.requires
+    c.get.ensures ∙ value-there (g.P.Pure.value c.args.function.now) (key_hash g.H.BuildHasher g.H.Hasher.Hasher g.P.Key.Hash.hash_input c.args.cache.now.contents) g.P.Key.PartialEq.eq (g.met.P.Pure.equal_alike c.args.function.now) c.args.cache.now.contents c.args.k s.0 (occupied_pair c.in-Occupied.entry) s.1 c.requires.values
 
 pub returns-in-Occupied-clause-values : goal.returns-in-Occupied-clause-values
 returns-in-Occupied-clause-values g c =
     let value = g.P.Pure.value c.args.function.now in
     let after : HasValues value c.in-Occupied.entry.guard.now.contents =
-    values-remembered value (key_hash g.H.BuildHasher g.H.Hasher.Hasher g.P.Key.Hash.hash_input c.args.cache.now.contents) g.P.Key.PartialEq.eq c.args.cache.now c.in-Occupied.entry.guard.now c.args.k (value c.args.k) (refreshed (occupied_pair c.in-Occupied.entry) c.in-Occupied.ensures.entry.changes c.in-Occupied.ensures.entry.relocates) refl c.requires in
+    values-remembered value (key_hash g.H.BuildHasher g.H.Hasher.Hasher g.P.Key.Hash.hash_input c.args.cache.now.contents) g.P.Key.PartialEq.eq c.args.cache.now c.in-Occupied.entry.guard.now c.args.k (value c.args.k) (refreshed (occupied_pair c.in-Occupied.entry) c.in-Occupied.ensures.entry.changes c.in-Occupied.ensures.entry.relocates) refl c.requires.values in
     search (rules, after)
 
 pub returns-in-Occupied-clause-step : goal.returns-in-Occupied-clause-step
@@ -32,5 +32,5 @@ pub returns-in-Vacant-clause-values : goal.returns-in-Vacant-clause-values
 returns-in-Vacant-clause-values g c =
     let value = g.P.Pure.value c.args.function.now in
     let vacant = c.in-Vacant.ensures.entry in
-    let after = values-remembered value (key_hash g.H.BuildHasher g.H.Hasher.Hasher g.P.Key.Hash.hash_input c.args.cache.now.contents) g.P.Key.PartialEq.eq c.args.cache.now _ c.args.k (value c.args.k) (remembers-through value (key_hash g.H.BuildHasher g.H.Hasher.Hasher g.P.Key.Hash.hash_input) g.P.Key.PartialEq.eq c.args.cache.now c.in-Vacant.entry.guard.now _ c.args.k c.in-Vacant.entry.key c.of-value.result (value c.args.k) c.put.result vacant.contents vacant.key (c.of-value.ensures ∙ ap value (c.key.ensures ∙ vacant.key)) vacant.absent c.put.ensures.step c.put.ensures.relocates) refl c.requires in
+    let after = values-remembered value (key_hash g.H.BuildHasher g.H.Hasher.Hasher g.P.Key.Hash.hash_input c.args.cache.now.contents) g.P.Key.PartialEq.eq c.args.cache.now _ c.args.k (value c.args.k) (remembers-through value (key_hash g.H.BuildHasher g.H.Hasher.Hasher g.P.Key.Hash.hash_input) g.P.Key.PartialEq.eq c.args.cache.now c.in-Vacant.entry.guard.now _ c.args.k c.in-Vacant.entry.key c.of-value.result (value c.args.k) c.put.result vacant.contents vacant.key (c.of-value.ensures ∙ ap value (c.key.ensures ∙ vacant.key)) vacant.absent c.put.ensures.step c.put.ensures.relocates) refl c.requires.values in
     search (rules, after)

@@ -8,4 +8,4 @@ invariant_of-result g c = values-none (g.P.Pure.value c.args.function) c.in-Ok.c
 pub returns-in-Ok : goal.returns-in-Ok
 returns-in-Ok g c =
     let e = c.in-Ok.ensures in
-    record { function = refl; entries = e.entries; none = e.none; size = e.size; settings = e.settings; maximum = e.maximum; succeeds = (search rules); waiting = e.waiting }
+    record { function = refl; entries = e.entries; none = e.none; size = e.size; settings = e.settings; maximum = e.maximum; succeeds = (search rules); noted = e.noted; waiting = e.waiting }

@@ -1,0 +1,10 @@
+//! What a user of the hash index names, and no more: `HashIndex`, which threads share, and `Owned`, for one owner, with
+//! their versions, snapshots, entries, reservations and errors. The entries of `Owned` are in `owned`.
+#![tactic(auto)]
+
+pub use scc_common::{InsertError, MakeError, Version};
+pub use scc_fallible::TryInsertError;
+pub use scc_owned::index::locked::{Entry, OccupiedEntry, VacantEntry};
+pub use scc_owned::index::{Iter, Owned, borrowed as owned};
+pub use scc_shared::index::{HashIndex, Reserve};
+pub use scc_table::Reservation;
