@@ -16,6 +16,8 @@ mod memo;
 #[cfg(test)]
 mod recorded;
 #[cfg(test)]
+mod refused;
+#[cfg(test)]
 mod reserving;
 #[cfg(test)]
 mod scripts;

@@ -38,8 +38,8 @@ enum Call {
     Clear,
     // Sets each value to 2 by a walk that keeps each pair.
     WriteTwos,
-    // A walk stops at this key.
-    StopsAt(u64),
+    // A walk whose closure returns true on this key alone is stopped.
+    StopsPast(u64),
     // The bucket of the key has room, or has none.
     Room(u64, bool),
     // The key has this value.
@@ -141,7 +141,7 @@ fn holds_of_all(map: &mut Numbers, call: Call) -> bool {
             write_twos(map);
             true
         }
-        Call::StopsAt(last) => !map.iter_sync(|key, _| *key == last),
+        Call::StopsPast(last) => !map.iter_sync(|key, _| *key == last),
         Call::ReadBelow(end) => reads_below(map, end),
         Call::Sizes(len, capacity) => (map.len(), map.capacity()) == (len, capacity),
         Call::Waiting(capacity, pending) => waiting(map) == (capacity, pending),
@@ -251,7 +251,7 @@ fn map_retain_writes_iter_stops(rt: HostRuntime) {
             Call::Read(1, 2),
             Call::Read(2, 2),
             Call::Insert(3, 2),
-            Call::StopsAt(3),
+            Call::StopsPast(3),
         ],
     );
 }

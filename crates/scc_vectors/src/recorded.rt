@@ -6,7 +6,8 @@ ghost use Rattle.scc_recorded.specs.Setups.{request_of};
 use crate::expect::expect_eq;
 use scc::hash_map::Owned;
 use scc::recorded::{
-    Closed, FinishError, Finished, MapCall, Pass, Recorded, Reply, Setup, Shared, Site, Step,
+    Closed, FinishError, Finished, MapCall, Pass, Receipt, Recorded, Reply, Setup, Shared, Site,
+    Step, Stripe, Unfinished,
 };
 use scc_script::same::Same;
 use std::alloc::Global;
@@ -46,9 +47,15 @@ enum Note {
     Told,
     // Memory was refused.
     Refused,
-    // A finish was refused. This many stripes and passes came back.
-    Back(FinishError, usize, usize),
-    // A step in the stripe with this number. Steps stand in the order of the finished run.
+    // A finish was refused, of a recording that handed out this many passes. What came back follows.
+    Back(FinishError, usize),
+    // The stripe with this number came back, with its last stamp, its number of buckets at opening and its length.
+    // Its steps follow.
+    Stripe(usize, u64, usize, usize),
+    // The pass with this number came back, with its clock. Its receipts follow.
+    Pass(usize, u64),
+    Receipt(Receipt<MapCall<u64, u64>, Reply<u64, u64>>),
+    // A step in the stripe with this number. The steps of a finished run stand in its order.
     Step(usize, Step<MapCall<u64, u64>, Reply<u64, u64>>),
     // This many pairs are left in all stripes.
     Left(usize),
@@ -71,6 +78,16 @@ fn call(
             reply,
         },
     )
+}
+
+/// Returns the receipt of a call on `stripe`.
+fn receipt(stripe: usize, stamp: u64, call: MapCall<u64, u64>, reply: Reply<u64, u64>) -> Note {
+    Note::Receipt(Receipt {
+        stripe,
+        stamp,
+        call,
+        reply,
+    })
 }
 
 /// Returns the step of the first insertion's array in a stripe, two buckets, as the history has it.
@@ -159,20 +176,53 @@ fn note_run(finished: &Finished<Map>, notes: &mut Vec<Note>) {
     add(notes, Note::Left(left_in(finished.parts.as_slice())));
 }
 
-/// Finishes the run with `passes`, and notes what is seen. Returns what came back if the finish was refused.
-fn finish<L: Ledger, M: Site<Shared<Same>>>(
-    closed: Closed<Map, L, M>,
-    passes: Vec<Pass<Map, L>>,
+/// Notes a stripe that came back, and its steps.
+fn note_stripe(stripe: &Stripe<Map>, notes: &mut Vec<Note>) {
+    let number = stripe.number;
+    let count = stripe.container.len();
+    add(
+        notes,
+        Note::Stripe(number, stripe.last, stripe.opened, count),
+    );
+    for step in stripe.history.as_slice() {
+        add(notes, Note::Step(number, *step));
+    }
+}
+
+/// Notes a pass that came back, and its receipts.
+fn note_pass<L: Ledger>(pass: &Pass<Map, L>, notes: &mut Vec<Note>) {
+    add(notes, Note::Pass(pass.number(), pass.clock()));
+    for receipt in pass.receipts() {
+        add(notes, Note::Receipt(*receipt));
+    }
+}
+
+/// Notes all that a refused finish handed back.
+fn note_back<L: Ledger, M: Site<Shared<Same>>>(
+    back: &Unfinished<Map, L, M>,
+    notes: &mut Vec<Note>,
+) {
+    add(notes, Note::Back(back.cause, back.recorded.passes));
+    for guarded in back.recorded.stripes.as_slice() {
+        note_stripe(&guarded.stripe, notes);
+    }
+    for pass in back.passes.as_slice() {
+        note_pass(pass, notes);
+    }
+}
+
+/// Notes how a finish ended. Returns what came back if it was refused.
+fn note_end<L: Ledger, M: Site<Shared<Same>>>(
+    ended: Result<Finished<Map>, Unfinished<Map, L, M>>,
     notes: &mut Vec<Note>,
 ) -> Option<(Closed<Map, L, M>, Vec<Pass<Map, L>>)> {
-    match closed.finish(passes) {
+    match ended {
         Ok(finished) => {
             note_run(&finished, notes);
             None
         }
         Err(back) => {
-            let sizes = (back.recorded.stripes.len(), back.passes.len());
-            add(notes, Note::Back(back.cause, sizes.0, sizes.1));
+            note_back(&back, notes);
             Some((back.recorded, back.passes))
         }
     }
@@ -180,7 +230,7 @@ fn finish<L: Ledger, M: Site<Shared<Same>>>(
 
 /// Finishes the run with the first pass alone, and then with both passes.
 fn finish_again<L: Ledger, M: Site<Shared<Same>>>(
-    closed: Closed<Map, L, M>,
+    recorded: Recorded<Map, L, M>,
     passes: Vec<Pass<Map, L>>,
     notes: &mut Vec<Note>,
 ) -> bool {
@@ -188,7 +238,7 @@ fn finish_again<L: Ledger, M: Site<Shared<Same>>>(
     let Some(last) = passes.pop() else {
         return false;
     };
-    match finish(closed, passes, notes) {
+    match note_end(recorded.finish(passes), notes) {
         Some((closed, passes)) => finish_with(closed, passes, last, notes),
         None => false,
     }
@@ -202,7 +252,7 @@ fn finish_with<L: Ledger, M: Site<Shared<Same>>>(
     notes: &mut Vec<Note>,
 ) -> bool {
     let mut passes = passes;
-    passes.push(last).is_ok() && finish(closed, passes, notes).is_none()
+    passes.push(last).is_ok() && note_end(closed.finish(passes), notes).is_none()
 }
 
 // Which passes the run is finished with.
@@ -252,10 +302,9 @@ fn play_on<L: Ledger, M: Site<Shared<Same>>, R: Wait>(
 ) -> bool {
     let mut passes = passes;
     act_by_both(rt, &recorded, passes.as_mut_slice(), acts, notes);
-    let closed = recorded.close();
     match ends {
-        Ends::WithBoth => finish(closed, passes, notes).is_none(),
-        Ends::WithOneThenBoth => finish_again(closed, passes, notes),
+        Ends::WithBoth => note_end(recorded.finish(passes), notes).is_none(),
+        Ends::WithOneThenBoth => finish_again(recorded, passes, notes),
     }
 }
 
@@ -345,8 +394,52 @@ fn recorded_told_raises_clock(rt: HostRuntime) {
 
 #[test]
 fn recorded_finish_wants_every_pass(rt: HostRuntime) {
-    let wanted = [Note::Back(FinishError::Missing, 2, 1), Note::Left(0)];
+    let wanted = [
+        Note::Back(FinishError::Missing, 2),
+        Note::Stripe(0, 0, 0, 0),
+        Note::Stripe(1, 0, 0, 0),
+        Note::Pass(0, 0),
+        Note::Left(0),
+    ];
     expect_notes(&rt, &[], Ends::WithOneThenBoth, &wanted);
+}
+
+/// Calls were made in both stripes before a pass is missing. Everything comes back, and the finish with both passes
+/// tells what the run was.
+#[test]
+fn recorded_finish_hands_back_every_call(rt: HostRuntime) {
+    let acts = [
+        (Who::Second, Act::Insert(HIGH + 1, 20)),
+        (Who::First, Act::Insert(1, 10)),
+        (Who::First, Act::Read(HIGH + 1)),
+    ];
+    let twenty = Reply::Value(Some(20));
+    let second = call(1, 1, 1, MapCall::Insert(HIGH + 1, 20), Reply::Inserted);
+    let first = call(0, 1, 0, MapCall::Insert(1, 10), Reply::Inserted);
+    let read = call(1, 2, 0, MapCall::Read(HIGH + 1), twenty);
+    let wanted = [
+        Note::Answer(Reply::Inserted),
+        Note::Answer(Reply::Inserted),
+        Note::Answer(twenty),
+        Note::Back(FinishError::Missing, 2),
+        Note::Stripe(0, 1, 0, 1),
+        array(0, 1),
+        first,
+        Note::Stripe(1, 2, 0, 1),
+        array(1, 1),
+        second,
+        read,
+        Note::Pass(0, 2),
+        receipt(0, 1, MapCall::Insert(1, 10), Reply::Inserted),
+        receipt(1, 2, MapCall::Read(HIGH + 1), twenty),
+        array(0, 1),
+        first,
+        array(1, 1),
+        second,
+        read,
+        Note::Left(2),
+    ];
+    expect_notes(&rt, &acts, Ends::WithOneThenBoth, &wanted);
 }
 
 #[test]

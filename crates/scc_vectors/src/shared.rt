@@ -213,6 +213,10 @@ trait Reserving: Filling {
 
     /// Returns the sizes with 100 and 200 slots reserved, then with 200 alone, and then with none.
     fn hold_both<R: Wait>(&self, rt: &R) -> Option<[[usize; 3]; 3]>;
+
+    /// Reserves slots, and releases them while the entry of `key`, the only one, is held. Returns what the entry then
+    /// shows: the key, and the value that it is set to, which of a set is the key.
+    fn release_under_entry<R: Wait>(&self, rt: &R, key: u64) -> Option<(u64, u64)>;
 }
 
 /// Adds the keys from `first` up to, but without, `end`. Returns whether each went in, and reservations of the greatest
@@ -267,6 +271,16 @@ impl Reserving for HashMap<u64, u64> {
         drop(second);
         Some([both, one, self.sizes(rt)])
     }
+
+    fn release_under_entry<R: Wait>(&self, rt: &R, key: u64) -> Option<(u64, u64)> {
+        let held = self.reserve(rt, 1000)?;
+        let mut entry = self.get_sync(rt, &key)?;
+        drop(held);
+        if entry.insert(11) != key {
+            return None;
+        }
+        Some((*entry.key(), *entry.get()))
+    }
 }
 
 impl Filling for HashSet<u64> {
@@ -310,6 +324,16 @@ impl Reserving for HashSet<u64> {
         drop(second);
         Some([both, one, self.sizes(rt)])
     }
+
+    fn release_under_entry<R: Wait>(&self, rt: &R, key: u64) -> Option<(u64, u64)> {
+        let held = self.reserve(rt, 1000)?;
+        let entry = self.begin_sync(rt)?;
+        drop(held);
+        if *entry.get() != key {
+            return None;
+        }
+        Some((key, key))
+    }
 }
 
 impl Filling for HashIndex<u64, u64> {
@@ -352,6 +376,16 @@ impl Reserving for HashIndex<u64, u64> {
         let one = self.sizes(rt);
         drop(second);
         Some([both, one, self.sizes(rt)])
+    }
+
+    fn release_under_entry<R: Wait>(&self, rt: &R, key: u64) -> Option<(u64, u64)> {
+        let held = self.reserve(rt, 1000)?;
+        let mut entry = self.get_sync(rt, &key)?;
+        drop(held);
+        if entry.update(11).is_err() {
+            return None;
+        }
+        Some((*entry.key(), *entry.get()))
     }
 }
 
@@ -493,6 +527,42 @@ fn shared_set_reserves_add_up(rt: HostRuntime) {
 fn shared_index_reserves_add_up(rt: HostRuntime) {
     match HashIndex::<u64, u64>::new(rt.alloc()) {
         Ok(index) => expect_sums(&rt, &index),
+        Err(_) => expect(&rt, false),
+    }
+}
+
+/// A thread that holds an entry drops a reservation of the same container, and goes on. Then only the array of the
+/// key's stripe is left.
+fn expect_drop_under_entry<C: Reserving, R: Abort + Wait>(rt: &R, form: &C, value: u64) {
+    let is_in = form.add(rt, 1);
+    let shown = form.release_under_entry(rt, 1);
+    expect_eq(
+        rt,
+        (is_in, shown, form.sizes(rt)),
+        (true, Some((1, value)), [64, 0, GREATEST]),
+    );
+}
+
+#[test]
+fn reserve_drop_under_entry(rt: HostRuntime) {
+    match HashMap::<u64, u64>::new(rt.alloc()) {
+        Ok(map) => expect_drop_under_entry(&rt, &map, 11),
+        Err(_) => expect(&rt, false),
+    }
+}
+
+#[test]
+fn set_reserve_drop_under_entry(rt: HostRuntime) {
+    match HashSet::<u64>::new(rt.alloc()) {
+        Ok(set) => expect_drop_under_entry(&rt, &set, 1),
+        Err(_) => expect(&rt, false),
+    }
+}
+
+#[test]
+fn index_reserve_drop_under_entry(rt: HostRuntime) {
+    match HashIndex::<u64, u64>::new(rt.alloc()) {
+        Ok(index) => expect_drop_under_entry(&rt, &index, 11),
         Err(_) => expect(&rt, false),
     }
 }

@@ -1,6 +1,6 @@
 // What the calls of a cache return, and which of them keep the order of a bucket.
 use crate::expect::{expect, expect_eq};
-use crate::rows::{Call, expect_answers};
+use crate::rows::{Call, expect_answers, expect_sizes};
 use scc::hash_cache::Owned;
 use std::process::Abort;
 use test_forms::answers::{Answer, Rule};
@@ -85,6 +85,19 @@ fn cache_evicts_from_the_keys_own_bucket(rt: HostRuntime) {
             let sizes = cache.sizes();
             expect_eq(&rt, (sizes.len, sizes.capacity), (33, 64));
         }
+        Err(_) => expect(&rt, false),
+    }
+}
+
+/// A cleared cache shrinks at once to the array of its minimum, however much smaller that is.
+#[test]
+fn cache_shrinks_from_its_maximum_to_its_minimum(rt: HostRuntime) {
+    let rows = [
+        (Call::Spread(1024), (1024, 1024, 0)),
+        (Call::Clear, (0, 64, 2)),
+    ];
+    match Owned::with_capacity_and_hasher(rt.alloc(), 0, 1024, SAME) {
+        Ok(mut cache) => expect_sizes(&rt, &mut cache, &rows),
         Err(_) => expect(&rt, false),
     }
 }

@@ -1,7 +1,7 @@
 // When the arrays of a map, a set and an index grow and shrink, at the edges of the rules.
 use crate::expect::{expect, expect_eq};
 use crate::rows::{Call, expect_answers, expect_sizes};
-use scc::{Verdict, hash_index, hash_map, hash_set};
+use scc::{Verdict, hash_cache, hash_index, hash_map, hash_set};
 use std::process::Abort;
 use test_forms::answers::{Answer, Rule};
 use test_forms::form::Form;
@@ -34,11 +34,12 @@ fn expect_of_index<R: AllocGlobal + Abort>(rt: &R, hasher: Masked, rows: &[Sizes
 }
 
 // The 33rd key of a bucket doubles an array that is half full, and relocates the entries of two buckets.
-const IN_ONE_BUCKET: [Sizes; 4] = [
+const IN_ONE_BUCKET: [Sizes; 5] = [
     (Call::Fill(0, 32), (32, 64, 0)),
     (Call::Fill(32, 33), (33, 128, 2)),
     (Call::Fill(33, 34), (34, 128, 0)),
     (Call::Fill(34, 65), (65, 256, 6)),
+    (Call::Fill(65, 1100), (1100, 4096, 0)),
 ];
 
 #[test]
@@ -54,6 +55,29 @@ fn set_grows_with_all_keys_in_one_bucket(rt: HostRuntime) {
 #[test]
 fn index_grows_with_all_keys_in_one_bucket(rt: HostRuntime) {
     expect_of_index(&rt, ZERO, &IN_ONE_BUCKET);
+}
+
+/// Fills one bucket while 50 slots are reserved, which the first array has.
+fn expect_growth_beside_a_token<R: AllocGlobal + Abort, F: Form>(rt: &R, form: &mut F) {
+    let token = form.reserve_slots(50);
+    expect(rt, token.is_some());
+    expect_sizes(rt, form, &IN_ONE_BUCKET);
+    expect(rt, !form.is_resize_refused());
+}
+
+#[test]
+fn map_grows_beside_a_token(rt: HostRuntime) {
+    expect_growth_beside_a_token(&rt, &mut Map::with_hasher(rt.alloc(), ZERO));
+}
+
+#[test]
+fn set_grows_beside_a_token(rt: HostRuntime) {
+    expect_growth_beside_a_token(&rt, &mut Set::with_hasher(rt.alloc(), ZERO));
+}
+
+#[test]
+fn index_grows_beside_a_token(rt: HostRuntime) {
+    expect_growth_beside_a_token(&rt, &mut Index::with_hasher(rt.alloc(), ZERO));
 }
 
 // A bucket with 32 pairs counts as full, although a slot is free while one pair is in its overflow list.
@@ -79,6 +103,31 @@ fn set_grows_at_32_pairs_with_a_slot_free(rt: HostRuntime) {
 #[test]
 fn index_grows_at_32_pairs_with_a_slot_free(rt: HostRuntime) {
     expect_of_index(&rt, SAME, &WITH_A_SLOT_FREE);
+}
+
+// Two buckets with 40 pairs each wait. Insertions into a third bucket relocate them, so that no bucket waits, and the
+// array doubles again when it is half full.
+const BESIDE_LONG_BUCKETS: [Sizes; 5] = [
+    (Call::Fill(0, 40), (40, 128, 0)),
+    (Call::Fill(HALF / 2, HALF / 2 + 40), (80, 256, 0)),
+    (Call::Fill(HALF, HALF + 49), (129, 512, 14)),
+    (Call::Fill(HALF + 49, HALF + 56), (136, 512, 0)),
+    (Call::Fill(HALF + 56, HALF + 177), (257, 1024, 30)),
+];
+
+#[test]
+fn map_insertions_relocate_long_buckets(rt: HostRuntime) {
+    expect_of_map(&rt, SAME, &BESIDE_LONG_BUCKETS);
+}
+
+#[test]
+fn set_insertions_relocate_long_buckets(rt: HostRuntime) {
+    expect_of_set(&rt, SAME, &BESIDE_LONG_BUCKETS);
+}
+
+#[test]
+fn index_insertions_relocate_long_buckets(rt: HostRuntime) {
+    expect_of_index(&rt, SAME, &BESIDE_LONG_BUCKETS);
 }
 
 // An array that is an eighth full shrinks, also if a pair is removed through its entry.
@@ -159,6 +208,24 @@ fn map_past_65536_slots(rt: HostRuntime) {
             expect_eq(&rt, map.capacity(), 131_072);
             expect_sizes(&rt, &mut map, &SPREAD);
         }
+        Err(_) => expect(&rt, false),
+    }
+}
+
+const WIDE: usize = 1 << 21;
+
+#[test]
+fn set_of_two_million_slots(rt: HostRuntime) {
+    match hash_set::Owned::<u64>::with_capacity(rt.alloc(), WIDE) {
+        Ok(set) => expect_eq(&rt, set.capacity(), WIDE),
+        Err(_) => expect(&rt, false),
+    }
+}
+
+#[test]
+fn cache_of_two_million_slots(rt: HostRuntime) {
+    match hash_cache::Owned::<u64, u64>::with_capacity(rt.alloc(), WIDE, WIDE) {
+        Ok(cache) => expect_eq(&rt, cache.capacity(), WIDE),
         Err(_) => expect(&rt, false),
     }
 }

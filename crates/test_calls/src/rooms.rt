@@ -7,63 +7,14 @@ use test_forms::form::{Form, Way};
 use test_forms::token::Token;
 use test_kit::masked::{Masked, ZERO};
 
-// A container that prepares an insertion.
-trait Making: Form {
-    /// Prepares an insertion of `key`. Returns whether the preparation succeeded.
-    fn make(&mut self, key: u64) -> bool;
-
-    /// Removes the mark of a refused growth, if there is one.
-    fn let_go(&mut self);
-}
-
-impl Making for hash_map::Owned<Token, Token, Masked> {
-    fn make(&mut self, key: u64) -> bool {
-        self.make_room(&Token::of(key)).is_ok()
-    }
-
-    fn let_go(&mut self) {
-        self.drop_room();
-    }
-}
-
-impl Making for hash_set::Owned<Token, Masked> {
-    fn make(&mut self, key: u64) -> bool {
-        self.make_room(&Token::of(key)).is_ok()
-    }
-
-    fn let_go(&mut self) {
-        self.drop_room();
-    }
-}
-
-impl Making for hash_index::Owned<Token, Token, Masked> {
-    fn make(&mut self, key: u64) -> bool {
-        self.make_room(&Token::of(key)).is_ok()
-    }
-
-    fn let_go(&mut self) {
-        self.drop_room();
-    }
-}
-
-impl Making for hash_cache::Owned<Token, Token, Masked> {
-    fn make(&mut self, key: u64) -> bool {
-        self.make_room(&Token::of(key)).is_ok()
-    }
-
-    fn let_go(&mut self) {
-        self.drop_room();
-    }
-}
-
 /// Returns the number of pairs, the capacity, and the number of waiting buckets.
-fn sizes<F: Making>(form: &F) -> (usize, usize, usize) {
+fn sizes<F: Form>(form: &F) -> (usize, usize, usize) {
     let sizes = form.sizes();
     (sizes.len, sizes.capacity, form.waiting().unwrap_or(0))
 }
 
 /// Adds the keys from `first` on and before `end`. Returns whether each call returned `answer`.
-fn add<F: Making>(form: &mut F, first: u64, end: u64, answer: Answer) -> bool {
+fn add<F: Form>(form: &mut F, first: u64, end: u64, answer: Answer) -> bool {
     for key in first..end {
         if form.add(Way::Insert, Token::of(key), Token::of(key)) != answer {
             return false;
@@ -72,14 +23,19 @@ fn add<F: Making>(form: &mut F, first: u64, end: u64, answer: Answer) -> bool {
     true
 }
 
+/// Prepares an insertion of `key`. Returns whether the preparation succeeded.
+fn makes_room<F: Form>(form: &mut F, key: u64) -> bool {
+    form.make_room(&Token::of(key)) == Answer::Yes(true)
+}
+
 /// Prepares insertions of keys that share a bucket of 32 slots. The last insertion returns `last` and leaves `pairs`
 /// pairs.
-fn expect_rooms<R: Abort, F: Making>(rt: &R, form: &mut F, last: Answer, pairs: usize) {
-    let first = (form.make(0), sizes(form));
+fn expect_rooms<R: Abort, F: Form>(rt: &R, form: &mut F, last: Answer, pairs: usize) {
+    let first = (makes_room(form, 0), sizes(form));
     let filled = add(form, 0, 32, Answer::Added(None));
-    let there = (form.make(31), sizes(form));
-    let full = (form.make(32) && form.make(33), sizes(form));
-    form.let_go();
+    let there = (makes_room(form, 31), sizes(form));
+    let full = (makes_room(form, 32) && makes_room(form, 33), sizes(form));
+    form.drop_room();
     let added = add(form, 32, 33, last);
     expect_eq(
         rt,

@@ -15,7 +15,7 @@ pub(crate) enum Call {
     Empty(u64, u64),
     // Removes the keys from the first number on and before the second, each through its entry: `Yes`.
     EmptyByEntry(u64, u64),
-    // Adds so many keys that differ in their highest bits, and reads each: `Yes`.
+    // Adds so many keys, which stand in all buckets alike if keys are their own hashes, and reads each: `Yes`.
     Spread(u64),
     // Adds a key with the number, the mark and the value.
     Add(Way, u64, u64, u64),
@@ -71,15 +71,18 @@ fn empty_by_entry<F: Form>(form: &mut F, first: u64, end: u64) -> bool {
     true
 }
 
-/// Adds `keys` keys that differ in their highest bits. Returns whether each was added and is read.
+/// Adds `keys` keys, whose numbers are 0, 1 and so on with their bits reversed. Returns whether each was added and is
+/// read.
 fn spread<F: Form>(form: &mut F, keys: u64) -> bool {
     for i in 0..keys {
-        if form.add(Way::Insert, Token::marked(i << 40, i), Token::of(0)) != Answer::Added(None) {
+        let key = Token::marked(i.reverse_bits(), i);
+        if form.add(Way::Insert, key, Token::of(0)) != Answer::Added(None) {
             return false;
         }
     }
     for i in 0..keys {
-        if form.read(&Token::of(i << 40)) != Answer::Found(Some((i << 40, i, 0))) {
+        let number = i.reverse_bits();
+        if form.read(&Token::of(number)) != Answer::Found(Some((number, i, 0))) {
             return false;
         }
     }

@@ -12,7 +12,14 @@ use test_kit::maybe_equal::MaybeEqual;
 use test_kit::zero::Zero;
 
 // The number of slots that a test asks for, and the capacity that it gets.
-const CAPACITIES: [(usize, usize); 5] = [(0, 0), (1, 64), (64, 64), (65, 128), (800, 1024)];
+const CAPACITIES: [(usize, usize); 6] = [
+    (0, 0),
+    (1, 64),
+    (64, 64),
+    (65, 128),
+    (800, 1024),
+    (1 << 21, 1 << 21),
+];
 
 /// Returns the length and the capacity of a map made for `slots` slots, or `None` if it is refused.
 fn sizes_of_map(alloc: Global, slots: usize) -> Option<(usize, usize)> {
@@ -227,4 +234,21 @@ fn expect_snapshot<R: AllocGlobal + Abort, F: Form>(rt: &R, form: &mut F) {
 #[test]
 fn index_snapshot_has_each_version(rt: HostRuntime) {
     expect_snapshot(&rt, &mut hash_index::Owned::with_hasher(rt.alloc(), ZERO));
+}
+
+/// A snapshot that has come to its end has a clone, which has come to it too.
+#[test]
+fn index_snapshot_is_cloned_at_its_end(rt: HostRuntime) {
+    let mut index: hash_index::Owned<u64, u64> = hash_index::Owned::new(rt.alloc());
+    expect(&rt, index.insert_sync(1, 2).is_ok());
+    match index.iter() {
+        Ok(mut versions) => {
+            expect(&rt, versions.next().is_some());
+            match versions.try_clone() {
+                Ok(mut copy) => expect(&rt, copy.next().is_none()),
+                Err(_) => expect(&rt, false),
+            }
+        }
+        Err(_) => expect(&rt, false),
+    }
 }

@@ -3,7 +3,7 @@
 use crate::form::Way;
 use crate::numbered::{Seen, keeps, raise, seen, seen_key, value_of};
 use crate::token::Token;
-use scc_common::{InsertError, KeyError, Verdict};
+use scc_common::{InsertError, KeyError, MakeError, Verdict};
 use scc_fallible::TryInsertError;
 
 /// A kind of container.
@@ -96,6 +96,14 @@ pub fn refused_key(error: KeyError<Token>) -> Answer {
     match error {
         KeyError::Exists(key) => Answer::Exists(seen_key(&key)),
         KeyError::Memory(key) => Answer::Refused(Some(seen_key(&key))),
+    }
+}
+
+/// Returns the answer for a preparation of an insertion.
+pub fn prepared(made: Result<(), MakeError>) -> Answer {
+    match made {
+        Ok(()) => Answer::Yes(true),
+        Err(_) => Answer::Refused(None),
     }
 }
 

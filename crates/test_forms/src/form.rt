@@ -3,6 +3,7 @@
 use crate::answers::{Answer, Kind, Rule};
 use crate::numbered::Seen;
 use crate::token::Token;
+use scc_table::Reservation;
 use std::alloc::Global;
 
 /// A way to add a pair. If the key is there, each way does what the call it is named after does.
@@ -237,12 +238,38 @@ pub trait Form {
         Answer::Absent
     }
 
+    /// Adds `additional` slots to the minimum. Returns the token that releases them, or `None`. Only an owned container
+    /// has tokens that may be kept over other calls.
+    fn reserve_slots(&mut self, _additional: usize) -> Option<Reservation> {
+        None
+    }
+
+    /// Releases `token`. Returns the token if the container refuses it.
+    fn release_slots(&mut self, token: Reservation) -> Result<(), Reservation> {
+        Err(token)
+    }
+
+    /// Prepares an insertion of `key`. Returns `Yes`, or `Refused` if memory for the first array is refused. An owned
+    /// container has this call.
+    fn make_room(&mut self, _key: &Token) -> Answer {
+        Answer::Absent
+    }
+
+    /// Removes the mark of a growth that was refused in `make_room`, if there is one.
+    fn drop_room(&mut self) {}
+
     /// Returns the sizes.
     fn sizes(&self) -> Sizes;
 
     /// Returns the number of waiting buckets if the container tells it. An owned container does.
     fn waiting(&self) -> Option<usize> {
         None
+    }
+
+    /// Returns whether the container tells that memory was refused for the last resize that was due. An owned container
+    /// tells it; another returns false.
+    fn is_resize_refused(&self) -> bool {
+        false
     }
 
     /// Returns whether the container has one stripe, so that its buckets are those of one table.

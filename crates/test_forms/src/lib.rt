@@ -9,5 +9,4 @@ pub mod form;
 pub mod list;
 pub mod numbered;
 pub mod owned;
-pub mod reserving;
 pub mod token;

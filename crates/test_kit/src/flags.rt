@@ -3,8 +3,8 @@
 use std::sync::atomic::{AtomicU64, Ordering};
 use std::thread::yield_now;
 
-/// How often a thread looks for another thread.
-const LOOKS: u32 = 500_000;
+/// How often a thread looks for another thread. All looks together take two seconds of a processor.
+const LOOKS: u32 = 10_000_000;
 
 /// Three flags, none of them raised.
 #[derive(Drop)]

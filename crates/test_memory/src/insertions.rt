@@ -37,7 +37,7 @@ fn driven_out(kind: Kind, way: Way, key: u64) -> Option<Seen> {
 }
 
 /// Returns the answer of `way` if the key is missing and memory is given.
-fn wanted(kind: Kind, way: Way, key: u64) -> Answer {
+pub(crate) fn wanted(kind: Kind, way: Way, key: u64) -> Answer {
     let evicted = driven_out(kind, way, key);
     if way.lends(kind) {
         return Answer::Entry(evicted, pair_of(kind, key, value_of(way, key)));
@@ -50,7 +50,7 @@ fn wanted(kind: Kind, way: Way, key: u64) -> Answer {
 }
 
 /// Returns the first key that is present once `count` keys were added, from 0 on.
-fn first_kept(kind: Kind, count: u64) -> u64 {
+pub(crate) fn first_kept(kind: Kind, count: u64) -> u64 {
     if kind == Kind::Cache {
         count.saturating_sub(32)
     } else {
@@ -73,6 +73,29 @@ impl Looks {
     }
 }
 
+/// Returns whether the next insertion has to double the array, in which all keys share a bucket.
+fn is_growth_due<F: Form>(form: &F) -> bool {
+    let sizes = form.sizes();
+    sizes.len >= 32 && sizes.len >= sizes.capacity / 2 && form.waiting().unwrap_or(0) == 0
+}
+
+/// Reports that an insertion was refused, and the growth that was due before it, if there was one and the array still
+/// has `before` slots. An insertion without its growth is refused only if its overflow list is refused too, so it had
+/// two requests refused. An index keeps its array if it gets no version, so one refused request may stand for both.
+fn report<F: Form, R: Print>(
+    rt: &R,
+    refusal: &mut Refusal,
+    of: Of,
+    form: &F,
+    was_due: bool,
+    before: usize,
+) {
+    meetings::insertion(rt, refusal, of);
+    if was_due && form.kind() != Kind::Index && form.sizes().capacity == before {
+        meetings::growth(rt, refusal, of);
+    }
+}
+
 /// Adds `key` by `way`, after the keys below it, until the insertion succeeds. A refused insertion must change nothing.
 pub(crate) fn expect_added<F: Form, R: Abort + Print>(
     rt: &R,
@@ -87,12 +110,14 @@ pub(crate) fn expect_added<F: Form, R: Abort + Print>(
     let pair = pair_of(kind, key, value_of(way, key));
     for _ in 0..TRIES {
         looks.before.see(rt, form);
+        let was_due = is_growth_due(form);
+        let before = form.sizes().capacity;
         let answer = form.add(way, Token::of(key), Token::of(!key));
         if !matches!(answer, Answer::Refused(_)) {
             expect_eq(rt, answer, wanted(kind, way, key));
             break;
         }
-        meetings::insertion(rt, refusal, of);
+        report(rt, refusal, of, form, was_due, before);
         expect_eq(rt, answer, Answer::Refused(Some(pair)));
         looks.after.see(rt, form);
         let may_grow = kind != Kind::Index && key >= 32;

@@ -28,6 +28,8 @@ mod removals;
 #[cfg(test)]
 mod reservations;
 #[cfg(test)]
+mod rooms;
+#[cfg(test)]
 mod shared_makers;
 #[cfg(test)]
 mod shared_versions;
@@ -37,5 +39,3 @@ mod versions;
 mod walks;
 #[cfg(test)]
 mod without_arrays;
-#[cfg(test)]
-mod worked;

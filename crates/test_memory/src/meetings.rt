@@ -59,6 +59,17 @@ pub(crate) fn growth<R: Print>(rt: &R, refusal: &mut Refusal, of: Of) {
     }
 }
 
+/// Reports that the growth of a preparation was refused. The insertion that follows doesn't ask for it again.
+pub(crate) fn room<R: Print>(rt: &R, refusal: &mut Refusal, of: Of) {
+    match of {
+        Of::Map => refusal.meet(rt, "a growth in a preparation of a map"),
+        Of::Set => refusal.meet(rt, "a growth in a preparation of a set"),
+        Of::Index => refusal.meet(rt, "a growth in a preparation of an index"),
+        Of::Cache => refusal.meet(rt, "a growth in a preparation of a cache"),
+        _ => {}
+    }
+}
+
 /// Reports that a shrink was refused. The pair is removed all the same.
 pub(crate) fn shrink<R: Print>(rt: &R, refusal: &mut Refusal, of: Of) {
     match of {

@@ -12,14 +12,13 @@ use std::process::Abort;
 use std::sync::Wait;
 use test_forms::answers::Answer;
 use test_forms::form::{Form, WAYS, Way};
-use test_forms::reserving::Reserving;
 use test_forms::token::Token;
 use test_kit::masked::{Masked, ZERO};
 use test_kit::refusals::{Refusal, TRIES};
 use test_kit::zero::Zero;
 
 /// Tries each way on an owned container.
-fn expect_no_array<C: Form + Reserving, R: Abort + Print>(rt: &R, owned: &mut C) {
+fn expect_no_array<F: Form, R: Abort + Print>(rt: &R, owned: &mut F) {
     let token = owned
         .reserve_slots(GREATEST)
         .expect(rt, "so many can be reserved");

@@ -23,14 +23,14 @@ pub(crate) fn expect_clock<C: Tried, L: Ledger, R: Abort>(rt: &R, pass: &Pass<C,
     );
 }
 
-/// Makes the call with this number once, and returns whether its reply is right, or `None` if the call has no key.
-fn make_call<C: Tried, L: Ledger, M: Site<C::Hasher>, R: Wait>(
+/// Makes a call once, and returns whether its reply is the wanted one, or `None` if the call has no key.
+pub(crate) fn make_call<C: Tried, L: Ledger, M: Site<C::Hasher>, R: Wait>(
     rt: &R,
     recorded: &Recorded<C, L, M>,
     pass: &mut Pass<C, L>,
-    number: u64,
+    asked: (C::Call, C::Reply),
 ) -> Option<Result<bool, CallError>> {
-    let (call, wanted) = C::call_of(number);
+    let (call, wanted) = asked;
     if let Some(_key) = C::key(&call) {
         match recorded.call(rt, pass, call) {
             Ok(reply) => Some(Ok(reply == wanted)),
@@ -51,7 +51,7 @@ fn expect_call<C: Tried, L: Ledger, M: Site<C::Hasher>, R: Abort + Print + Wait>
 ) {
     let before = pass.receipts().len();
     for _ in 0..TRIES {
-        match make_call(rt, recorded, pass, number) {
+        match make_call(rt, recorded, pass, C::call_of(number)) {
             Some(Err(cause)) => {
                 C::meet(rt, refusal, What::Call(cause));
                 expect_clock(rt, pass, before);
@@ -184,5 +184,5 @@ fn recorded_index_is_refused_in_turn(rt: HostRuntime) {
 
 #[test]
 fn recorded_cache_is_refused_in_turn(rt: HostRuntime) {
-    outlast::<Cache, EachCall, _>(&rt, "a recorded cache", (0, 64), 2);
+    outlast::<Cache, EachCall, _>(&rt, "a recorded cache", (0, 128), 2);
 }

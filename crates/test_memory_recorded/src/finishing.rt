@@ -1,8 +1,9 @@
 // A refused finish hands everything back as it was, and is made again until it succeeds. The finish that succeeds tells
 // what the run did.
 use crate::expect::{expect, expect_eq};
-use crate::kinds::{Met, Tried, What};
+use crate::kinds::{Tried, What};
 use scc_calls::{Calls, Step};
+use scc_history::Receipt;
 use scc_recorded::{Closed, FinishError, Finished, Pass, Site, Unfinished};
 use std::io::Print;
 use std::process::Abort;
@@ -47,28 +48,67 @@ where
     [stripes, steps, passes, clocks as usize, receipts]
 }
 
-/// Returns what a refused finish handed back, and checks that it is seen as it was `before` the finish.
-fn handed_back<C: Met, L: Ledger, M: Site<C::Hasher>, R: Abort + Print>(
+/// Returns whether the stripe of a receipt has the record of its call, with its stamp and its reply.
+fn is_recorded<C: Calls, L: Ledger, M: Site<C::Hasher>>(
+    closed: &Closed<C, L, M>,
+    receipt: &Receipt<C::Call, C::Reply>,
+) -> bool {
+    let Some(stripe) = closed.stripe(receipt.stripe) else {
+        return false;
+    };
+    for step in stripe.history.as_slice() {
+        if let Step::Call {
+            stamp,
+            call,
+            reply,
+            ..
+        } = step
+        {
+            if *stamp == receipt.stamp {
+                return *call == receipt.call && *reply == receipt.reply;
+            }
+        }
+    }
+    false
+}
+
+/// Returns whether each receipt is recorded.
+fn are_recorded<C: Calls, L: Ledger, M: Site<C::Hasher>>(
+    closed: &Closed<C, L, M>,
+    passes: &[Pass<C, L>],
+) -> bool {
+    for pass in passes {
+        for receipt in pass.receipts() {
+            if !is_recorded(closed, receipt) {
+                return false;
+            }
+        }
+    }
+    true
+}
+
+/// Returns what a refused finish handed back, and checks that it is seen as it was `before` the finish, with each
+/// record and its receipt.
+fn handed_back<C: Tried, L: Ledger, M: Site<C::Hasher>, R: Abort + Print>(
     rt: &R,
     refusal: &mut Refusal,
-    what: What,
     back: Unfinished<C, L, M>,
     before: [usize; 5],
 ) -> (Closed<C, L, M>, Vec<Pass<C, L>>)
 where
     C::Hasher: Drop,
 {
-    C::meet(rt, refusal, what);
+    C::meet(rt, refusal, What::Finish);
     let after = seen_of(&back.recorded, back.passes.as_slice());
     expect_eq(rt, (back.cause, after), (FinishError::Memory, before));
+    expect(rt, are_recorded(&back.recorded, back.passes.as_slice()));
     (back.recorded, back.passes)
 }
 
-/// Finishes the run. A refusal is reported as that of `what`. Returns `None` if the finish is refused each time.
-pub(crate) fn finished<C: Met, L: Ledger, M: Site<C::Hasher>, R: Abort + Print>(
+/// Finishes the run. Returns `None` if the finish is refused each time.
+fn finished<C: Tried, L: Ledger, M: Site<C::Hasher>, R: Abort + Print>(
     rt: &R,
     refusal: &mut Refusal,
-    what: What,
     closed: Closed<C, L, M>,
     passes: Vec<Pass<C, L>>,
 ) -> Option<Finished<C>>
@@ -80,7 +120,7 @@ where
     for _ in 0..TRIES {
         match held.0.finish(held.1) {
             Ok(run) => return Some(run),
-            Err(back) => held = handed_back(rt, refusal, what, back, before),
+            Err(back) => held = handed_back(rt, refusal, back, before),
         }
     }
     None
@@ -116,7 +156,7 @@ where
     let steps = steps_of(&closed).1;
     let (passes_made, clock, _) = clocks_of(passes.as_slice());
     expect_eq(rt, passes_made, 1);
-    match finished(rt, refusal, What::Finish, closed, passes) {
+    match finished(rt, refusal, closed, passes) {
         Some(run) => {
             expect_told(rt, &run, steps, clock);
             expect_eq(rt, count_of(run.parts.as_slice()), Some(count));

@@ -2,7 +2,7 @@
 // inserts meets a missing key and a present one.
 ghost use Rattle.scc_calls.specs.Copies.{ClonesEqual};
 
-use scc_calls::{CacheCall, Calls, IndexCall, MapCall, Reply, SetCall, WholeCalls};
+use scc_calls::{CacheCall, IndexCall, MapCall, Reply, SetCall, WholeCalls};
 use scc_common::Shared;
 use scc_history::CallError;
 use std::alloc::Global;
@@ -25,8 +25,12 @@ pub(crate) enum What {
     Length,
     Clearing,
     Finish,
-    // A finish after a call that was refused room for its record.
-    LateFinish,
+    // A growth that an insertion into a full bucket wants.
+    Growth,
+    // An insertion whose growth was refused too.
+    Overflow,
+    // An insertion whose growth was made.
+    AfterGrowth,
     Run,
     Single,
 }
@@ -43,16 +47,25 @@ pub(crate) fn count_after(made: usize) -> usize {
     }
 }
 
-// A kind that reports what it was refused.
-pub(crate) trait Met: Calls + Drop {
+// A kind with its calls.
+pub(crate) trait Tried: WholeCalls + Drop {
     /// Reports what was refused.
     fn meet<R: Print>(rt: &R, refusal: &mut Refusal, what: What);
-}
 
-// A kind with its calls.
-pub(crate) trait Tried: Met + WholeCalls {
     /// Returns the call with this number, and its reply.
     fn call_of(number: u64) -> (Self::Call, Self::Reply);
+
+    /// Returns the insertion of `key` after the keys below it, in one bucket, and its reply.
+    fn insertion(key: u64) -> (Self::Call, Self::Reply);
+
+    /// Returns whether such an insertion may be refused by the container.
+    fn may_refuse(key: u64) -> bool;
+
+    /// Returns the first key that is present after the insertions of the keys below `end`.
+    fn first_kept(end: u64) -> u64;
+
+    /// Returns whether `key` is present as its insertion left it.
+    fn has(&self, key: u64) -> bool;
 
     /// Returns the number of keys.
     fn count(&self) -> usize;
@@ -70,7 +83,7 @@ pub(crate) trait Tried: Met + WholeCalls {
     ghost equal_replies: { ClonesEqual Self.Reply.is_clone Self.Reply.eq };
 }
 
-impl Met for Map {
+impl Tried for Map {
     fn meet<R: Print>(rt: &R, refusal: &mut Refusal, what: What) {
         match what {
             What::Call(CallError::Room) => refusal.meet(rt, "room for a call of a recorded map"),
@@ -78,14 +91,17 @@ impl Met for Map {
             What::Length => refusal.meet(rt, "a length of a recorded map"),
             What::Clearing => refusal.meet(rt, "a clearing of a recorded map"),
             What::Finish => refusal.meet(rt, "a finish of a recorded map"),
-            What::LateFinish => refusal.meet(rt, "a finish after room for a record"),
+            What::Growth => refusal.meet(rt, "a growth of a recorded map"),
+            What::Overflow => refusal.meet(rt, "an insertion into a recorded map and its growth"),
+            What::AfterGrowth => refusal.meet(
+                rt,
+                "an insertion into a recorded map after its growth",
+            ),
             What::Run => refusal.meet(rt, "a run on a map"),
             What::Single => refusal.meet(rt, "a call as a value of a map"),
         }
     }
-}
 
-impl Tried for Map {
     fn call_of(number: u64) -> (MapCall<u64, u64>, Reply<u64, u64>) {
         match number {
             0 => (MapCall::Insert(1, 10), Reply::Inserted),
@@ -97,6 +113,22 @@ impl Tried for Map {
             6 => (MapCall::Remove(2), Reply::Pair(Some((2, 20)))),
             _ => (MapCall::Contains(2), Reply::Has(false)),
         }
+    }
+
+    fn insertion(key: u64) -> (MapCall<u64, u64>, Reply<u64, u64>) {
+        (MapCall::Insert(key, !key), Reply::Inserted)
+    }
+
+    fn may_refuse(key: u64) -> bool {
+        key == 0 || key >= 32
+    }
+
+    fn first_kept(_end: u64) -> u64 {
+        0
+    }
+
+    fn has(&self, key: u64) -> bool {
+        self.read_sync(&key, |_, value| *value) == Some(!key)
     }
 
     fn count(&self) -> usize {
@@ -118,7 +150,7 @@ impl Tried for Map {
     ghost equal_replies = { λ a b h. Prim.search rules };
 }
 
-impl Met for Set {
+impl Tried for Set {
     fn meet<R: Print>(rt: &R, refusal: &mut Refusal, what: What) {
         match what {
             What::Call(CallError::Room) => refusal.meet(rt, "room for a call of a recorded set"),
@@ -126,14 +158,17 @@ impl Met for Set {
             What::Length => refusal.meet(rt, "a length of a recorded set"),
             What::Clearing => refusal.meet(rt, "a clearing of a recorded set"),
             What::Finish => refusal.meet(rt, "a finish of a recorded set"),
-            What::LateFinish => {}
+            What::Growth => refusal.meet(rt, "a growth of a recorded set"),
+            What::Overflow => refusal.meet(rt, "an insertion into a recorded set and its growth"),
+            What::AfterGrowth => refusal.meet(
+                rt,
+                "an insertion into a recorded set after its growth",
+            ),
             What::Run => refusal.meet(rt, "a run on a set"),
             What::Single => refusal.meet(rt, "a call as a value of a set"),
         }
     }
-}
 
-impl Tried for Set {
     fn call_of(number: u64) -> (SetCall<u64>, Reply<u64, ()>) {
         match number {
             0 => (SetCall::Insert(1), Reply::Inserted),
@@ -145,6 +180,22 @@ impl Tried for Set {
             6 => (SetCall::Remove(2), Reply::Key(Some(2))),
             _ => (SetCall::Contains(2), Reply::Has(false)),
         }
+    }
+
+    fn insertion(key: u64) -> (SetCall<u64>, Reply<u64, ()>) {
+        (SetCall::Insert(key), Reply::Inserted)
+    }
+
+    fn may_refuse(key: u64) -> bool {
+        key == 0 || key >= 32
+    }
+
+    fn first_kept(_end: u64) -> u64 {
+        0
+    }
+
+    fn has(&self, key: u64) -> bool {
+        self.contains_sync(&key)
     }
 
     fn count(&self) -> usize {
@@ -166,7 +217,7 @@ impl Tried for Set {
     ghost equal_replies = { λ a b h. Prim.search rules };
 }
 
-impl Met for Index {
+impl Tried for Index {
     fn meet<R: Print>(rt: &R, refusal: &mut Refusal, what: What) {
         match what {
             What::Call(CallError::Room) => refusal.meet(rt, "room for a call of a recorded index"),
@@ -174,14 +225,17 @@ impl Met for Index {
             What::Length => refusal.meet(rt, "a length of a recorded index"),
             What::Clearing => refusal.meet(rt, "a clearing of a recorded index"),
             What::Finish => refusal.meet(rt, "a finish of a recorded index"),
-            What::LateFinish => {}
+            What::Growth => refusal.meet(rt, "a growth of a recorded index"),
+            What::Overflow => refusal.meet(rt, "an insertion into a recorded index and its growth"),
+            What::AfterGrowth => refusal.meet(
+                rt,
+                "an insertion into a recorded index after its growth",
+            ),
             What::Run => refusal.meet(rt, "a run on an index"),
             What::Single => refusal.meet(rt, "a call as a value of an index"),
         }
     }
-}
 
-impl Tried for Index {
     fn call_of(number: u64) -> (IndexCall<u64, u64>, Reply<u64, u64>) {
         match number {
             0 => (IndexCall::Insert(1, 10), Reply::Inserted),
@@ -193,6 +247,22 @@ impl Tried for Index {
             6 => (IndexCall::Remove(2), Reply::Has(true)),
             _ => (IndexCall::Contains(2), Reply::Has(false)),
         }
+    }
+
+    fn insertion(key: u64) -> (IndexCall<u64, u64>, Reply<u64, u64>) {
+        (IndexCall::Insert(key, !key), Reply::Inserted)
+    }
+
+    fn may_refuse(_key: u64) -> bool {
+        true
+    }
+
+    fn first_kept(_end: u64) -> u64 {
+        0
+    }
+
+    fn has(&self, key: u64) -> bool {
+        self.peek_with(&key, |_, value| *value) == Some(!key)
     }
 
     fn count(&self) -> usize {
@@ -214,7 +284,7 @@ impl Tried for Index {
     ghost equal_replies = { λ a b h. Prim.search rules };
 }
 
-impl Met for Cache {
+impl Tried for Cache {
     fn meet<R: Print>(rt: &R, refusal: &mut Refusal, what: What) {
         match what {
             What::Call(CallError::Room) => refusal.meet(rt, "room for a call of a recorded cache"),
@@ -222,14 +292,14 @@ impl Met for Cache {
             What::Length => refusal.meet(rt, "a length of a recorded cache"),
             What::Clearing => refusal.meet(rt, "a clearing of a recorded cache"),
             What::Finish => refusal.meet(rt, "a finish of a recorded cache"),
-            What::LateFinish => {}
+            What::Growth => refusal.meet(rt, "a growth of a recorded cache"),
+            // A put with an array isn't refused.
+            What::Overflow | What::AfterGrowth => {}
             What::Run => refusal.meet(rt, "a run on a cache"),
             What::Single => refusal.meet(rt, "a call as a value of a cache"),
         }
     }
-}
 
-impl Tried for Cache {
     fn call_of(number: u64) -> (CacheCall<u64, u64>, Reply<u64, u64>) {
         match number {
             0 => (CacheCall::Put(1, 10), Reply::Evicted(None)),
@@ -241,6 +311,28 @@ impl Tried for Cache {
             6 => (CacheCall::Remove(2), Reply::Pair(Some((2, 20)))),
             _ => (CacheCall::Read(2), Reply::Value(None)),
         }
+    }
+
+    fn insertion(key: u64) -> (CacheCall<u64, u64>, Reply<u64, u64>) {
+        let evicted = if key < 32 {
+            None
+        } else {
+            let oldest = key.saturating_sub(32);
+            Some((oldest, !oldest))
+        };
+        (CacheCall::Put(key, !key), Reply::Evicted(evicted))
+    }
+
+    fn may_refuse(key: u64) -> bool {
+        key == 0
+    }
+
+    fn first_kept(end: u64) -> u64 {
+        end.saturating_sub(32)
+    }
+
+    fn has(&self, key: u64) -> bool {
+        self.read_sync(&key, |_, value| *value) == Some(!key)
     }
 
     fn count(&self) -> usize {

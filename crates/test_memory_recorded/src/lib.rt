@@ -3,8 +3,6 @@
 #![tactic(auto)]
 
 #[cfg(test)]
-mod cache_texts;
-#[cfg(test)]
 mod calls;
 #[cfg(test)]
 mod expect;
@@ -20,9 +18,5 @@ mod opened;
 mod runs;
 #[cfg(test)]
 mod scripts;
-#[cfg(test)]
-mod texts;
-#[cfg(test)]
-mod worked;
 #[cfg(test)]
 mod workers;

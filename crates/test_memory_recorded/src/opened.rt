@@ -1,6 +1,6 @@
 // Recorded containers of one pass, which are opened again until memory isn't refused, and what is tried with them.
 ghost use Rattle.std.specs.Prelude.{◌≡◌, Some};
-ghost use Rattle.scc_recorded.specs.Setups.{IsStripes, request_of};
+ghost use Rattle.scc_recorded.specs.Setups.{AreWide, IsStripes, request_of};
 
 use crate::expect::expect;
 use scc_calls::Calls;
@@ -63,6 +63,7 @@ where
     requires records { (records.name ≡ M.name) × (records.parts ≡ M.parts) × (records.parts ≡ stripes) }
     requires site { (M.chosen ≡ Some (request_of setup.capacity setup.maximum setup.hasher stripes)) × (M.all ≡ stripes) }
     requires stripes { IsStripes stripes }
+    requires wide { AreWide C.limits setup.capacity setup.maximum stripes }
 {
     match Recorded::<C, L, M>::open(rt.alloc(), setup, stripes, 1, receipts, records) {
         Ok(opened) => {
@@ -83,7 +84,8 @@ fn attempt<C: Calls + Drop, T: Trial<C>, R: AllocGlobal + Abort + Print + Wait>(
 ) -> bool
 where
     C::Hasher: CloneOwner + Drop,
-    requires { IsStripes stripes }
+    requires stripes { IsStripes stripes }
+    requires wide { AreWide C.limits slots.0 slots.1 stripes }
 {
     let Some(owner) = shared(rt, refusal) else {
         return false;
@@ -118,7 +120,8 @@ pub(crate) fn outlast<C: Calls + Drop, T: Trial<C>, R: AllocGlobal + Abort + Pri
 )
 where
     C::Hasher: CloneOwner + Drop,
-    requires { IsStripes stripes }
+    requires stripes { IsStripes stripes }
+    requires wide { AreWide C.limits slots.0 slots.1 stripes }
 {
     let mut refusal = Refusal::new();
     for _ in 0..TRIES {

@@ -34,7 +34,7 @@ fn expect_script<R: AllocGlobal + Abort + Print + Threads + Wait + Sync>(
     expect(rt, false);
 }
 
-/// One worker on one stripe makes its calls on an owned map.
+/// One worker makes its calls on a recorded map of one stripe.
 #[test]
 fn a_refused_script_says_so_alone(rt: HostRuntime) {
     expect_script(

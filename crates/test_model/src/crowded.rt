@@ -4,13 +4,12 @@ use std::alloc::Global;
 use test_forms::answers::{Answer, Kind};
 use test_forms::form::{Form, Way};
 use test_forms::numbered::Seen;
-use test_forms::reserving::Reserving;
 use test_forms::token::Token;
 use test_kit::lines::say;
 use test_kit::masked::{Masked, ZERO};
 
 // Numbers of pairs that one bucket of 32 slots waits for.
-const CROWDS: [u64; 2] = [40, 600];
+const CROWDS: [u64; 2] = [40, 2000];
 
 /// Returns the pair of `number`, as its kind shows it.
 fn pair_of(kind: Kind, number: u64) -> Seen {
@@ -38,7 +37,7 @@ fn finds<F: Form>(form: &F, kind: Kind, to: u64) -> bool {
 
 /// Returns whether `pairs` pairs of one bucket are found while all buckets of an array of `slots` slots wait, are
 /// relocated by one insertion, and are found again.
-fn relocates<F: Form + Reserving>(form: &mut F, kind: Kind, pairs: u64, slots: usize) -> bool {
+fn relocates<F: Form>(form: &mut F, kind: Kind, pairs: u64, slots: usize) -> bool {
     let waits = form.sizes().capacity == slots && form.waiting() == Some(slots / 32);
     let found = finds(form, kind, pairs);
     let added = fills(form, pairs, pairs.saturating_add(1));
@@ -48,7 +47,7 @@ fn relocates<F: Form + Reserving>(form: &mut F, kind: Kind, pairs: u64, slots: u
 
 /// Returns whether a bucket of `pairs` pairs waits and is relocated three times: the array grows by a reservation and
 /// by a second one, and shrinks when the second one is released.
-fn crowds<F: Form + Reserving>(form: &mut F, kind: Kind, pairs: u64) -> bool {
+fn crowds<F: Form>(form: &mut F, kind: Kind, pairs: u64) -> bool {
     let filled = fills(form, 0, pairs);
     let Some(_first) = form.reserve_slots(10_000) else {
         return false;

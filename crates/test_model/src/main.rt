@@ -9,6 +9,7 @@
 mod crowded;
 mod draws;
 mod equal_keys;
+mod kept;
 mod lives;
 mod run;
 mod sizes;
@@ -50,18 +51,21 @@ fn run_all<R: Wait + AllocGlobal + Print>(rt: &R, calls: u64) -> u8 {
         calls,
         mask: 255,
         waits: false,
+        grows: calls == USUAL_CALLS,
     };
     let alike = Run {
         hasher: ALIKE,
         calls,
         mask: 511,
         waits: calls == USUAL_CALLS,
+        grows: false,
     };
     let same = Run {
         hasher: SAME,
         calls,
         mask: 511,
         waits: calls == USUAL_CALLS,
+        grows: false,
     };
     let zero = run_under(
         rt,

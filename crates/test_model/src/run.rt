@@ -1,11 +1,12 @@
 //! A run of random calls on a container of any kind and form, and on a plain list.
 
 use crate::draws::{Call, Draws};
+use crate::kept::Kept;
 use crate::tally::Tally;
 use std::alloc::{AllocError, Global};
 use std::hash::BuildHasher;
 use test_forms::agreeing::{Asked, agrees};
-use test_forms::calls::make;
+use test_forms::calls::{What, make};
 use test_forms::form::Form;
 use test_forms::list::List;
 use test_forms::token::Token;
@@ -27,6 +28,8 @@ pub struct Run {
     /// Whether buckets of an owned container must wait during more than an eighth of the calls. In a run of the usual
     /// length they do.
     pub waits: bool,
+    /// Whether an array must grow in an insertion while a token is kept.
+    pub grows: bool,
 }
 
 /// Returns the numbers of a call.
@@ -47,10 +50,12 @@ fn is_as<F: Form>(alloc: Global, form: &F, list: &List) -> Result<bool, AllocErr
     Ok(collected && list.is_met_by(alloc, met.as_slice())?)
 }
 
-/// Returns whether the sizes fit a container with as many pairs as the list.
+/// Returns whether the sizes fit a container with as many pairs as the list, and each resize that was due was made: no
+/// memory is refused in a run.
 fn fits<F: Form>(form: &F, list: &List) -> bool {
     let sizes = form.sizes();
-    sizes.len == list.len()
+    !form.is_resize_refused()
+        && sizes.len == list.len()
         && sizes.is_empty == (sizes.len == 0)
         && sizes.minimum <= sizes.maximum
         && sizes.capacity <= sizes.maximum
@@ -78,21 +83,27 @@ fn step<F: Form>(
     Ok(is_right && fits(form, list))
 }
 
-/// Makes the calls. Returns whether all agreed.
+/// Makes the calls, some of them while a token is kept. Returns whether all agreed.
 fn make_all<F: Form>(
     alloc: Global,
     run: &Run,
     form: &mut F,
     list: &mut List,
     tally: &mut Tally,
+    kept: &mut Kept,
 ) -> Result<bool, AllocError> {
     let mut draws = Draws::new(run.calls, run.mask);
     let mut agree = true;
     for number in 0..run.calls {
+        agree = kept.turn(form, number) && fits(form, list) && agree;
         let waits = form.waiting().unwrap_or(0) > 0;
         let call = draws.draw(list, waits);
         tally.note(call.what, list.find(call.number).is_some(), waits)?;
+        let before = form.sizes().capacity;
         let is_right = step(alloc, &run.hasher, form, list, &call)?;
+        if matches!(call.what, What::Add(_)) {
+            kept.note(before, form.sizes().capacity);
+        }
         let is_whole = number % LOOK > 0 || is_as(alloc, form, list)?;
         agree = agree && is_right && is_whole;
     }
@@ -103,9 +114,11 @@ impl Case for Run {
     fn check<F: Form>(&self, alloc: Global, form: &mut F) -> Result<bool, AllocError> {
         let mut list = List::new(alloc, form.kind(), form.is_one());
         let mut tally = Tally::new(alloc);
-        let agree = make_all(alloc, self, form, &mut list, &mut tally)?;
+        let mut kept = Kept::new();
+        let agree = make_all(alloc, self, form, &mut list, &mut tally, &mut kept)?;
         let waited = !self.waits || form.waiting().is_none() || tally.has_waited();
-        Ok(agree && waited && tally.is_whole())
+        let grown = !self.grows || kept.has_seen_growth();
+        Ok(agree && waited && grown && tally.is_whole())
     }
 
     fn has_ended(&self) -> bool {
@@ -121,7 +134,8 @@ impl Case for Forgetful {
     fn check<F: Form>(&self, alloc: Global, form: &mut F) -> Result<bool, AllocError> {
         let mut list = List::forgetful(alloc, form.kind(), form.is_one(), 20);
         let mut tally = Tally::new(alloc);
-        let agree = make_all(alloc, &self.0, form, &mut list, &mut tally)?;
+        let mut kept = Kept::new();
+        let agree = make_all(alloc, &self.0, form, &mut list, &mut tally, &mut kept)?;
         Ok(!agree)
     }
 

@@ -4,7 +4,6 @@ use std::alloc::{AllocError, Global};
 use test_forms::answers::{Answer, Kind};
 use test_forms::form::{Form, Way};
 use test_forms::numbered::Seen;
-use test_forms::reserving::Reserving;
 use test_forms::token::Token;
 use test_kit::lines::say;
 use test_kit::masked::{Masked, SAME};
@@ -86,7 +85,7 @@ fn grows<F: Form>(form: &mut F, kind: Kind) -> bool {
 
 /// Returns whether a container of 1000 pairs gets more than 2^20 slots by a reservation, finds its pairs while all its
 /// buckets wait, and shrinks back when the reservation is released.
-fn reserves<F: Form + Reserving>(form: &mut F, kind: Kind) -> bool {
+fn reserves<F: Form>(form: &mut F, kind: Kind) -> bool {
     let filled = fills(form, 0, 1000) && form.sizes().used() == (1000, 2048);
     let Some(token) = form.reserve_slots(1 + (1 << 20)) else {
         return false;

@@ -2,13 +2,13 @@
 
 use scc_table::Reservation;
 use std::alloc::Global;
-use test_forms::reserving::Reserving;
+use test_forms::form::Form;
 use test_forms::token::Token;
 use test_kit::lines::say;
 use test_kit::masked::{Masked, SAME};
 
 /// Returns whether `form` refuses `token` and returns it with its `slots` slots.
-fn refuses<C: Reserving>(form: &mut C, token: Reservation, slots: usize) -> bool {
+fn refuses<F: Form>(form: &mut F, token: Reservation, slots: usize) -> bool {
     match form.release_slots(token) {
         Ok(()) => false,
         Err(back) => back.additional_capacity() == slots,
@@ -17,17 +17,17 @@ fn refuses<C: Reserving>(form: &mut C, token: Reservation, slots: usize) -> bool
 
 /// Returns whether `second`, which reserved 50 and 60 slots, refuses a token of 200 slots of `first`, takes a token of
 /// 100, and then refuses its own two.
-fn judges<C: Reserving>(first: &mut C, second: &mut C) -> bool {
+fn judges<F: Form>(first: &mut F, second: &mut F) -> bool {
     let (Some(large), Some(small)) = (first.reserve_slots(200), first.reserve_slots(100)) else {
         return false;
     };
     let (Some(fifty), Some(sixty)) = (second.reserve_slots(50), second.reserve_slots(60)) else {
         return false;
     };
-    let refused = refuses(second, large, 200) && second.minimum() == 110;
-    let taken = second.release_slots(small).is_ok() && second.minimum() == 10;
+    let refused = refuses(second, large, 200) && second.sizes().minimum == 110;
+    let taken = second.release_slots(small).is_ok() && second.sizes().minimum == 10;
     let own = refuses(second, sixty, 60) && refuses(second, fifty, 50);
-    refused && taken && own && second.minimum() == 10 && first.minimum() == 300
+    refused && taken && own && second.sizes().minimum == 10 && first.sizes().minimum == 300
 }
 
 fn of_maps(alloc: Global) -> bool {

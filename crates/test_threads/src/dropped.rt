@@ -1,5 +1,5 @@
-// What is left of a reservation that was dropped: a removal gives its slots back, and a first array is made without
-// them. The number of a bucket shows the size of an array, and asking for it changes nothing.
+// What is left of a reservation that was dropped: a removal gives its slots back, an insertion leaves them, and a first
+// array is made without them. The number of a bucket shows the size of an array, and asking for it changes nothing.
 use crate::expect::expect_eq;
 use crate::kinds::{Bucketed, HALF, Index, Map, Set, Threaded};
 use scc_common::Verdict;
@@ -177,6 +177,16 @@ const REMOVALS: [Removal; 7] = [
     Removal::Clear,
 ];
 
+/// Inserts a key, reserves 1000 slots and drops the reservation. Returns the buckets of another key at first, under the
+/// reservation, and after it was dropped.
+fn reserved_and_dropped<C: Reserving, R: Wait>(rt: &R, container: &C) -> Option<[usize; 3]> {
+    if !container.insert_by(rt, Insertion::Insert, 1) {
+        return None;
+    }
+    let (before, grown) = container.reserve_and_drop(rt, 1000, HALF)?;
+    Some([before, grown, container.bucket(rt, HALF)])
+}
+
 /// Returns the buckets of a key at first, under a reservation, after it was dropped, and after the only key was removed.
 fn gives_back<C: Reserving, R: Wait>(
     rt: &R,
@@ -184,19 +194,11 @@ fn gives_back<C: Reserving, R: Wait>(
     container: &C,
     way: Removal,
 ) -> Option<[usize; 4]> {
-    if !container.insert_by(rt, Insertion::Insert, 1) {
-        return None;
-    }
-    match container.reserve_and_drop(rt, 1000, HALF) {
-        Some((before, grown)) => {
-            let left = container.bucket(rt, HALF);
-            if container.remove_by(rt, alloc, way, 1) {
-                Some([before, grown, left, container.bucket(rt, HALF)])
-            } else {
-                None
-            }
-        }
-        None => None,
+    let [before, grown, left] = reserved_and_dropped(rt, container)?;
+    if container.remove_by(rt, alloc, way, 1) {
+        Some([before, grown, left, container.bucket(rt, HALF)])
+    } else {
+        None
     }
 }
 
@@ -230,6 +232,40 @@ const INSERTIONS: [Insertion; 4] = [
     Insertion::Entry,
     Insertion::Replace,
 ];
+
+/// Returns the buckets of a key at first, under a reservation, after it was dropped, and after a second key was added.
+fn keeps<C: Reserving, R: Wait>(rt: &R, container: &C, way: Insertion) -> Option<[usize; 4]> {
+    let [before, grown, left] = reserved_and_dropped(rt, container)?;
+    if container.insert_by(rt, way, 2) {
+        Some([before, grown, left, container.bucket(rt, HALF)])
+    } else {
+        None
+    }
+}
+
+/// Returns what each insertion shows of 1000 slots that a container of 64 is to keep.
+fn kept<C: Reserving + Drop, R: Wait>(rt: &R, alloc: Global) -> [Option<[usize; 4]>; 4] {
+    let mut found = [None; 4];
+    for (way, found) in INSERTIONS.iter().zip(found.iter_mut()) {
+        *found = match C::make(alloc, 64) {
+            Some(made) => keeps(rt, &made, *way),
+            None => None,
+        };
+    }
+    found
+}
+
+const KEPT: [Option<[usize; 4]>; 4] = [Some([1, 32, 32, 32]); 4];
+
+#[test]
+fn an_insertion_keeps_a_dropped_reservation(rt: HostRuntime) {
+    let found = [
+        kept::<Map, _>(&rt, rt.alloc()),
+        kept::<Set, _>(&rt, rt.alloc()),
+        kept::<Index, _>(&rt, rt.alloc()),
+    ];
+    expect_eq(&rt, found, [KEPT; 3]);
+}
 
 /// Inserts into the first of 16 stripes after 1024 slots for each were reserved and released. Returns the bucket of the
 /// greatest key of this stripe, which is 1 in an array of 64 slots.

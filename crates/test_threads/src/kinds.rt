@@ -31,6 +31,14 @@ pub trait Visit {
     fn meet(&mut self, key: u64);
 }
 
+/// Does nothing at a key.
+#[derive(Drop)]
+pub struct Passing;
+
+impl Visit for Passing {
+    fn meet(&mut self, _key: u64) {}
+}
+
 /// A way over all keys. A kind without the way walks instead.
 #[derive(Clone, Copy, Debug)]
 pub enum Way {
@@ -49,6 +57,33 @@ pub enum Way {
     /// A walk over a clone.
     Copy,
     /// A snapshot.
+    Snapshot,
+}
+
+/// A way of reading a container that has the keys 1 and `HALF`. A kind without the call reads a key instead.
+#[derive(Clone, Copy, Debug)]
+pub enum Look {
+    /// Reads a key.
+    Read,
+    /// Asks whether a key is present.
+    Contains,
+    /// Walks over all keys.
+    Walk,
+    /// Counts the keys.
+    Count,
+    /// Asks whether there is no key.
+    Empty,
+    /// Compares the container with itself.
+    Compare,
+    /// Asks for the bucket of a key.
+    Bucket,
+    /// Asks whether the bucket of a key has room.
+    Room,
+    /// Takes a version along.
+    Peek,
+    /// Reads a version in its place.
+    PeekWith,
+    /// Takes a snapshot.
     Snapshot,
 }
 
@@ -74,6 +109,9 @@ pub trait Threaded: Sized {
 
     /// Reads a key while `visit` meets the key, and returns whether the key was present.
     fn at_read<R: Wait, V: Visit>(&self, rt: &R, key: u64, visit: &mut V) -> bool;
+
+    /// Reads by `look`, and returns whether the answer is right.
+    fn look<R: Wait>(&self, rt: &R, alloc: Global, look: Look) -> bool;
 
     /// Returns the number of keys.
     fn count<R: Wait>(&self, rt: &R) -> usize;

@@ -2,7 +2,7 @@
 // the next. So one lock round the whole container fails these tests, and so does one lock for each stripe that readers
 // don't share.
 use crate::expect::expect_eq;
-use crate::kinds::{Cache, HALF, Index, Map, Set, Threaded, Visit, Way};
+use crate::kinds::{Cache, HALF, Index, Look, Map, Set, Threaded, Visit, Way};
 use crate::trials::{Trial, holds_in, holds_in_each};
 use std::alloc::Global;
 use std::process::Abort;
@@ -122,6 +122,61 @@ pub(crate) fn share<C: Threaded + Sync, R: Threads + Wait + Sync>(rt: &R, contai
 fn two_readers_one_stripe(rt: HostRuntime) {
     let right = holds_in_each(&rt, rt.alloc(), Trial::Readers);
     expect_eq(&rt, right, [true; 4]);
+}
+
+/// The ways of reading.
+const LOOKS: [Look; 11] = [
+    Look::Read,
+    Look::Contains,
+    Look::Walk,
+    Look::Count,
+    Look::Empty,
+    Look::Compare,
+    Look::Bucket,
+    Look::Room,
+    Look::Peek,
+    Look::PeekWith,
+    Look::Snapshot,
+];
+
+/// Reads by `look` once another thread has told that it reads a key, and tells that it is done.
+fn looks<C: Threaded, R: Wait>(
+    rt: &R,
+    alloc: Global,
+    container: &C,
+    look: Look,
+    flags: &Flags,
+) -> bool {
+    let read = sees(&flags.first);
+    let right = container.look(rt, alloc, look);
+    raise(&flags.second);
+    read && right
+}
+
+/// Returns whether a thread can read by `look` while another thread reads a key of the same stripe.
+pub(crate) fn looks_beside<C: Threaded + Sync, R: Threads + Wait + Sync>(
+    rt: &R,
+    alloc: Global,
+    container: &C,
+    look: Look,
+) -> bool {
+    let flags = Flags::new();
+    let added_both = adds_both(rt, container);
+    let (one, other) = join(
+        rt,
+        || reads(rt, container, &flags.first, &flags.second),
+        || looks(rt, alloc, container, look, &flags),
+    );
+    added_both && one && other
+}
+
+#[test]
+fn readers_of_every_way_share_a_stripe(rt: HostRuntime) {
+    let mut found = [[false; 4]; 11];
+    for (look, found) in LOOKS.iter().zip(found.iter_mut()) {
+        *found = holds_in_each(&rt, rt.alloc(), Trial::Beside(*look));
+    }
+    expect_eq(&rt, found, [[true; 4]; 11]);
 }
 
 /// Goes over all keys once the second stripe is held, and tells when it is in the first stripe.

@@ -1,4 +1,4 @@
-// Stripes of a shared map: which key lies in which stripe, what a reservation that ends does beside a held entry.
+// Stripes of a shared map: which key lies in which stripe, and walks through both in opposite ways.
 use crate::expect::{expect, expect_eq};
 use scc_script::same::Same;
 use scc_shared::map::HashMap;
@@ -32,28 +32,6 @@ fn shared_map_of_sixteen_stripes(rt: HostRuntime) {
         (10_000, (15, 31, 16_384)),
     ] {
         expect_eq(&rt, greatest(&rt, rt.alloc(), slots), Some(wanted));
-    }
-}
-
-/// Ends a reservation while the entry of key 1 is held. Returns the old and the new value of the key.
-fn reserve_under_entry(rt: &impl Wait, map: &Map) -> Option<(u64, u64)> {
-    let reserve = map.reserve(rt, 1000)?;
-    let mut entry = map.get_sync(rt, &1)?;
-    drop(reserve);
-    let old = entry.insert(11);
-    Some((old, *entry.get()))
-}
-
-#[test]
-fn reserve_drop_under_entry(rt: HostRuntime) {
-    match Map::with_capacity_and_hasher(rt.alloc(), 64, Same) {
-        Ok(map) => {
-            let inserted = map.insert_sync(&rt, 1, 10).is_ok();
-            let values = reserve_under_entry(&rt, &map);
-            let wanted = (true, Some((10, 11)), 64);
-            expect_eq(&rt, (inserted, values, map.capacity(&rt)), wanted);
-        }
-        Err(_) => expect(&rt, false),
     }
 }
 

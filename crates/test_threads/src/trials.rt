@@ -1,7 +1,7 @@
 // What is tried on a container of each kind. One function makes the container and tries it.
 use crate::comparing::{compares_both_ways, equals_its_copy, is_itself};
-use crate::kinds::{Cache, Index, Map, Set, Threaded, Way};
-use crate::locks::{leaves_other, lets_go, share};
+use crate::kinds::{Cache, Index, Look, Map, Set, Threaded, Way};
+use crate::locks::{leaves_other, lets_go, looks_beside, share};
 use crate::stripes::goes_in_order;
 use crate::walks::walks_beside;
 use std::alloc::Global;
@@ -21,6 +21,8 @@ pub enum Trial {
     OtherStripe,
     /// Two threads read one key at once.
     Readers,
+    /// A thread reads this way while another thread reads a key of the same stripe.
+    Beside(Look),
     /// This way over all keys releases the first stripe before it takes the second.
     LetsGo(Way),
     /// This way over all keys goes from each stripe to the next.
@@ -34,7 +36,7 @@ impl Trial {
     fn slots(self) -> usize {
         match self {
             Trial::EqualsItself | Trial::BothWays | Trial::Copy(_) => 512,
-            Trial::OtherStripe | Trial::Readers | Trial::LetsGo(_) => 128,
+            Trial::OtherStripe | Trial::Readers | Trial::Beside(_) | Trial::LetsGo(_) => 128,
             Trial::InOrder(_) => 1024,
             Trial::Walks(_, slots) => slots,
         }
@@ -54,6 +56,7 @@ fn holds<C: Threaded + Sync + Drop, R: Threads + Wait + Sync>(
         Trial::Copy(has_values) => equals_its_copy(rt, container, has_values),
         Trial::OtherStripe => leaves_other(rt, container),
         Trial::Readers => share(rt, container),
+        Trial::Beside(look) => looks_beside(rt, alloc, container, look),
         Trial::LetsGo(way) => lets_go(rt, alloc, container, way),
         Trial::InOrder(way) => goes_in_order(rt, alloc, container, way),
         Trial::Walks(moved, _) => walks_beside(rt, alloc, container, moved),

@@ -1,6 +1,6 @@
 // A thread that waits long for a stripe sleeps. It may look at the lock often before, which takes microseconds.
 use crate::expect::{expect, expect_eq};
-use crate::kinds::{Cache, Index, Map, Set, Threaded, Visit};
+use crate::kinds::{Cache, Index, Map, Passing, Set, Threaded, Visit};
 use std::alloc::Global;
 use std::fs;
 use std::rt::{Clock, Files};
@@ -73,14 +73,6 @@ impl<R: Clock> Visit for Staying<'_, R> {
         self.met = sees(self.other);
         sleep(self.rt, Duration::from_millis(HELD));
     }
-}
-
-// Does nothing at a key.
-#[derive(Drop)]
-struct Passing;
-
-impl Visit for Passing {
-    fn meet(&mut self, _key: u64) {}
 }
 
 fn stays<C: Threaded, R: Wait + Clock>(

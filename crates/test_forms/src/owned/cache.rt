@@ -1,6 +1,8 @@
 //! `Form` for the owned cache.
 
-use crate::answers::{Answer, Kind, Rule, raise_and_keep, refused, tried, untried, verdict};
+use crate::answers::{
+    Answer, Kind, Rule, prepared, raise_and_keep, refused, tried, untried, verdict,
+};
 use crate::form::{Act, At, Form, Sizes, Way};
 use crate::numbered::{Seen, note_pairs, raise_to_even, seen, seen_pair, value_of};
 use crate::token::Token;
@@ -248,6 +250,14 @@ impl Form for Owned<Token, Token, Masked> {
         self.clear_sync();
     }
 
+    fn make_room(&mut self, key: &Token) -> Answer {
+        prepared(Owned::make_room(self, key))
+    }
+
+    fn drop_room(&mut self) {
+        Owned::drop_room(self);
+    }
+
     fn sizes(&self) -> Sizes {
         let range = self.capacity_range();
         Sizes {
@@ -261,5 +271,9 @@ impl Form for Owned<Token, Token, Masked> {
 
     fn waiting(&self) -> Option<usize> {
         Some(self.pending())
+    }
+
+    fn is_resize_refused(&self) -> bool {
+        Owned::is_resize_refused(self)
     }
 }

@@ -1,6 +1,6 @@
 //! `Form` for the owned index.
 
-use crate::answers::{Answer, Kind, refused, tried, untried};
+use crate::answers::{Answer, Kind, prepared, refused, tried, untried};
 use crate::form::{Act, At, Form, Sizes, Way};
 use crate::numbered::{Seen, keeps, seen, value_of};
 use crate::token::Token;
@@ -8,6 +8,7 @@ use scc_common::InsertError;
 use scc_fallible::TryInsertError;
 use scc_owned::index::Owned;
 use scc_owned::index::borrowed::{Entry, OccupiedEntry};
+use scc_table::Reservation;
 use test_kit::masked::Masked;
 
 /// Adds the pair through its entry.
@@ -197,7 +198,13 @@ impl Form for Owned<Token, Token, Masked> {
             Some(version) => Some(seen(version.key(), version.value())),
             None => None,
         };
-        if read == found && peeked == found && self.contains(key) == found.is_some() {
+        let kept = match self.peek_shared(key) {
+            Ok(Some(version)) => Some(seen(version.key(), version.value())),
+            Ok(None) => None,
+            Err(_) => return Answer::Wrong,
+        };
+        let agree = read == found && peeked == found && kept == found;
+        if agree && self.contains(key) == found.is_some() {
             Answer::Found(found)
         } else {
             Answer::Wrong
@@ -283,6 +290,22 @@ impl Form for Owned<Token, Token, Masked> {
         }
     }
 
+    fn reserve_slots(&mut self, additional: usize) -> Option<Reservation> {
+        Owned::reserve(self, additional)
+    }
+
+    fn release_slots(&mut self, token: Reservation) -> Result<(), Reservation> {
+        self.release(token)
+    }
+
+    fn make_room(&mut self, key: &Token) -> Answer {
+        prepared(Owned::make_room(self, key))
+    }
+
+    fn drop_room(&mut self) {
+        Owned::drop_room(self);
+    }
+
     fn sizes(&self) -> Sizes {
         let range = self.capacity_range();
         Sizes {
@@ -296,5 +319,9 @@ impl Form for Owned<Token, Token, Masked> {
 
     fn waiting(&self) -> Option<usize> {
         Some(self.pending())
+    }
+
+    fn is_resize_refused(&self) -> bool {
+        Owned::is_resize_refused(self)
     }
 }

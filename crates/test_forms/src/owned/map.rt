@@ -1,6 +1,8 @@
 //! `Form` for the owned map.
 
-use crate::answers::{Answer, Kind, Rule, raise_and_keep, refused, tried, untried, verdict};
+use crate::answers::{
+    Answer, Kind, Rule, prepared, raise_and_keep, refused, tried, untried, verdict,
+};
 use crate::form::{Act, At, Form, Sizes, Way};
 use crate::numbered::{Seen, note_pairs, number_of, raise_to_even, seen, seen_pair, value_of};
 use crate::token::Token;
@@ -8,6 +10,7 @@ use scc_common::InsertError;
 use scc_fallible::TryInsertError;
 use scc_owned::map::Owned;
 use scc_owned::map::borrowed::{Entry, OccupiedEntry, ReplaceResult};
+use scc_table::Reservation;
 use std::alloc::Global;
 use test_kit::masked::Masked;
 
@@ -323,6 +326,22 @@ impl Form for Owned<Token, Token, Masked> {
         }
     }
 
+    fn reserve_slots(&mut self, additional: usize) -> Option<Reservation> {
+        Owned::reserve(self, additional)
+    }
+
+    fn release_slots(&mut self, token: Reservation) -> Result<(), Reservation> {
+        self.release(token)
+    }
+
+    fn make_room(&mut self, key: &Token) -> Answer {
+        prepared(Owned::make_room(self, key))
+    }
+
+    fn drop_room(&mut self) {
+        Owned::drop_room(self);
+    }
+
     fn sizes(&self) -> Sizes {
         let range = self.capacity_range();
         Sizes {
@@ -336,5 +355,9 @@ impl Form for Owned<Token, Token, Masked> {
 
     fn waiting(&self) -> Option<usize> {
         Some(self.pending())
+    }
+
+    fn is_resize_refused(&self) -> bool {
+        Owned::is_resize_refused(self)
     }
 }

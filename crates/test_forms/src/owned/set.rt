@@ -1,11 +1,12 @@
 //! `Form` for the owned set.
 
-use crate::answers::{Answer, Kind, Rule, key_verdict, refused_key};
+use crate::answers::{Answer, Kind, Rule, key_verdict, prepared, refused_key};
 use crate::form::{Act, At, Form, Sizes, Way};
 use crate::numbered::{Seen, keeps, mark_of, note_keys, seen_key, seen_lone};
 use crate::token::Token;
 use scc_set::Owned;
 use scc_set::entry::OccupiedEntry;
+use scc_table::Reservation;
 use std::alloc::Global;
 use test_kit::masked::Masked;
 
@@ -195,6 +196,22 @@ impl Form for Owned<Token, Masked> {
         }
     }
 
+    fn reserve_slots(&mut self, additional: usize) -> Option<Reservation> {
+        Owned::reserve(self, additional)
+    }
+
+    fn release_slots(&mut self, token: Reservation) -> Result<(), Reservation> {
+        self.release(token)
+    }
+
+    fn make_room(&mut self, key: &Token) -> Answer {
+        prepared(Owned::make_room(self, key))
+    }
+
+    fn drop_room(&mut self) {
+        Owned::drop_room(self);
+    }
+
     fn sizes(&self) -> Sizes {
         let range = self.capacity_range();
         Sizes {
@@ -208,5 +225,9 @@ impl Form for Owned<Token, Masked> {
 
     fn waiting(&self) -> Option<usize> {
         Some(self.pending())
+    }
+
+    fn is_resize_refused(&self) -> bool {
+        Owned::is_resize_refused(self)
     }
 }

@@ -1,5 +1,5 @@
 // The cache.
-use super::{Cache, MOST, Threaded, Visit, Way};
+use super::{Cache, Look, MOST, Passing, Threaded, Visit, Way};
 use scc_common::Verdict;
 use scc_script::same::Same;
 use scc_shared_cache::HashCache;
@@ -81,6 +81,17 @@ impl Threaded for Cache {
     fn at_read<R: Wait, V: Visit>(&self, rt: &R, key: u64, visit: &mut V) -> bool {
         self.read_sync(rt, &key, |key, _| visit.meet(*key))
             .is_some()
+    }
+
+    fn look<R: Wait>(&self, rt: &R, alloc: Global, look: Look) -> bool {
+        match look {
+            Look::Contains => self.contains_sync(rt, &1),
+            Look::Walk => self.go_over(rt, alloc, Way::Walk, &mut Passing),
+            Look::Count => self.len(rt) == 2,
+            Look::Empty => !self.is_empty(rt),
+            Look::Compare => self.eq_sync(rt, self),
+            _ => self.at_read(rt, 1, &mut Passing),
+        }
     }
 
     fn count<R: Wait>(&self, rt: &R) -> usize {

@@ -1,5 +1,5 @@
 // The index.
-use super::{Bucketed, Index, MOST, Threaded, Visit, Way};
+use super::{Bucketed, Index, Look, MOST, Passing, Threaded, Visit, Way};
 use scc_script::same::Same;
 use scc_shared::index::HashIndex;
 use std::alloc::Global;
@@ -112,6 +112,21 @@ impl Threaded for Index {
     fn at_read<R: Wait, V: Visit>(&self, rt: &R, key: u64, visit: &mut V) -> bool {
         self.read_sync(rt, &key, |key, _| visit.meet(*key))
             .is_some()
+    }
+
+    fn look<R: Wait>(&self, rt: &R, alloc: Global, look: Look) -> bool {
+        match look {
+            Look::Read | Look::Room => self.at_read(rt, 1, &mut Passing),
+            Look::Contains => self.contains(rt, &1),
+            Look::Walk => self.go_over(rt, alloc, Way::Walk, &mut Passing),
+            Look::Count => self.len(rt) == 2,
+            Look::Empty => !self.is_empty(rt),
+            Look::Compare => self.eq_sync(rt, self),
+            Look::Bucket => self.bucket_index(rt, &1) == 0,
+            Look::Peek => matches!(self.peek(rt, &1), Ok(Some(_))),
+            Look::PeekWith => self.peek_with(rt, &1, |_, v| *v) == Some(1),
+            Look::Snapshot => self.go_over(rt, alloc, Way::Snapshot, &mut Passing),
+        }
     }
 
     fn count<R: Wait>(&self, rt: &R) -> usize {

@@ -1,5 +1,5 @@
 // The map.
-use super::{Bucketed, MOST, Map, Threaded, Visit, Way};
+use super::{Bucketed, Look, MOST, Map, Passing, Threaded, Visit, Way};
 use scc_common::Verdict;
 use scc_script::same::Same;
 use scc_shared::map::HashMap;
@@ -113,6 +113,21 @@ impl Threaded for Map {
     fn at_read<R: Wait, V: Visit>(&self, rt: &R, key: u64, visit: &mut V) -> bool {
         self.read_sync(rt, &key, |key, _| visit.meet(*key))
             .is_some()
+    }
+
+    fn look<R: Wait>(&self, rt: &R, alloc: Global, look: Look) -> bool {
+        match look {
+            Look::Contains => self.contains_sync(rt, &1),
+            Look::Walk => self.go_over(rt, alloc, Way::Walk, &mut Passing),
+            Look::Count => self.len(rt) == 2,
+            Look::Empty => !self.is_empty(rt),
+            Look::Compare => self.eq_sync(rt, self),
+            Look::Bucket => self.bucket_index(rt, &1) == 0,
+            Look::Room => self.has_room(rt, &1),
+            Look::Read | Look::Peek | Look::PeekWith | Look::Snapshot => {
+                self.at_read(rt, 1, &mut Passing)
+            }
+        }
     }
 
     fn count<R: Wait>(&self, rt: &R) -> usize {

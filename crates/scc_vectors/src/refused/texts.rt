@@ -4,13 +4,10 @@ ghost use Rattle.std.specs.Prelude.{IfSome, IsSome};
 ghost use Rattle.scc_calls.specs.MapCalls.{map_key};
 
 use crate::expect::{expect, expect_eq};
-use crate::finishing::finished;
-use crate::kinds::{Met, What};
-use crate::opened::{Trial, outlast};
-use scc_calls::{MapCall, Reply, Step};
-use scc_common::Shared;
-use scc_owned::map::Owned;
-use scc_recorded::{Finished, Pass, Recorded, Site};
+use crate::refused::finishing::{Told, expect_finished};
+use crate::refused::opened::{Trial, outlast};
+use scc::hash_map::Owned;
+use scc::recorded::{MapCall, Pass, Receipt, Recorded, Reply, Shared, Site, Step};
 use std::io::Print;
 use std::process::Abort;
 use std::sync::Wait;
@@ -112,62 +109,97 @@ fn expect_answer<L: Ledger, M: Site<Shared<Zero>>, R: AllocGlobal + Abort + Prin
             None => expect_eq(rt, (pass.clock(), pass.receipts().len()), before),
         }
     }
-    expect_receipt(rt, pass, number);
+    expect_receipts(rt, pass, number);
 }
 
-/// Checks that the last receipt is that of the call with this number.
-fn expect_receipt<L: Ledger, R: Abort>(rt: &R, pass: &Pass<Names, L>, number: u64) {
-    let stamp = number.saturating_add(1);
+/// Checks that the pass has the receipts of the calls up to this number.
+fn expect_receipts<L: Ledger, R: Abort>(rt: &R, pass: &Pass<Names, L>, number: u64) {
+    let made = number.saturating_add(1);
     expect_eq(
         rt,
         (pass.clock(), pass.receipts().len() as u64),
-        (stamp, stamp),
+        (made, made),
     );
-    let is_last = match pass.receipts().last() {
-        Some(receipt) => receipt.stamp == stamp && is_answer(number, &receipt.reply),
-        None => false,
-    };
-    expect(rt, is_last);
+    expect(rt, are_receipts(pass.receipts()));
 }
 
-/// Returns whether the records of `history` have the stamps from 1 on, each with the right reply, and the number of
-/// records. Resizes may stand between them.
-fn records_of(history: &[Step<MapCall<String, String>, Reply<String, String>>]) -> (bool, u64) {
-    let mut told = 0u64;
-    let mut are_right = true;
-    for step in history {
-        if let Step::Call { stamp, reply, .. } = step {
-            are_right = are_right && is_answer(told, reply);
-            told = told.saturating_add(1);
-            are_right = are_right && *stamp == told;
+/// Returns whether `call` is the call with this number.
+fn is_call(number: u64, call: &MapCall<String, String>) -> bool {
+    match call {
+        MapCall::Insert(key, value) => {
+            number == 0 && key.as_str() == "a" && value.as_str() == "x"
+        }
+        MapCall::Upsert(key, value) => {
+            number == 1 && key.as_str() == "a" && value.as_str() == "y"
+        }
+        MapCall::Remove(key) => number == 2 && key.as_str() == "a",
+        _ => false,
+    }
+}
+
+/// Returns whether these are the receipts of the first calls, in their order.
+fn are_receipts(receipts: &[Receipt<MapCall<String, String>, Reply<String, String>>]) -> bool {
+    let mut number = 0u64;
+    for receipt in receipts {
+        let is_right = is_call(number, &receipt.call) && is_answer(number, &receipt.reply);
+        number = number.saturating_add(1);
+        if !is_right || receipt.stripe != 0 || receipt.stamp != number {
+            return false;
         }
     }
-    (are_right, told)
-}
-
-/// Checks that the one stripe has three records, and that nothing is left.
-fn expect_told<R: Abort>(rt: &R, finished: &Finished<Names>) {
-    for history in finished.histories.as_slice() {
-        expect_eq(rt, records_of(history.as_slice()), (true, 3));
-    }
-    for part in finished.parts.as_slice() {
-        expect(rt, part.is_empty());
-    }
-    expect_eq(rt, (finished.histories.len(), finished.parts.len()), (1, 1));
-}
-
-impl Met for Names {
-    fn meet<R: Print>(rt: &R, refusal: &mut Refusal, what: What) {
-        match what {
-            What::Finish => refusal.meet(rt, "a finish"),
-            _ => {}
-        }
-    }
+    true
 }
 
 // The three calls and the finish.
 #[derive(Drop)]
 struct ThreeCalls;
+
+impl Told<Names> for ThreeCalls {
+    fn meet<R: Print>(&self, rt: &R, refusal: &mut Refusal) {
+        refusal.meet(rt, "a finish of calls of texts");
+    }
+
+    fn last(&self) -> u64 {
+        3
+    }
+
+    // The first array comes before the first call, and the removal shrinks nothing.
+    fn are_steps(&self, history: &[Step<MapCall<String, String>, Reply<String, String>>]) -> bool {
+        let array = Step::Resize {
+            stamp: 1,
+            buckets: 2,
+        };
+        let mut number = 0u64;
+        for step in history.get(1..).unwrap_or(&[]) {
+            let Step::Call {
+                stamp,
+                pass,
+                call,
+                reply,
+            } = step
+            else {
+                return false;
+            };
+            let is_right = is_call(number, call) && is_answer(number, reply);
+            number = number.saturating_add(1);
+            if !is_right || *pass != 0 || *stamp != number {
+                return false;
+            }
+        }
+        history.first() == Some(&array) && number == 3
+    }
+
+    fn are_receipts(
+        &self,
+        receipts: &[Receipt<MapCall<String, String>, Reply<String, String>>],
+    ) -> bool {
+        receipts.len() == 3 && are_receipts(receipts)
+    }
+
+    fn is_left(&self, map: &Names) -> bool {
+        map.is_empty() && map.capacity() == 64
+    }
+}
 
 impl Trial<Names> for ThreeCalls {
     fn hasher(hasher: Shared<Zero>) -> Shared<Zero> {
@@ -188,14 +220,11 @@ impl Trial<Names> for ThreeCalls {
                 expect_answer(rt, refusal, &recorded, pass, number);
             }
         }
-        match finished(rt, refusal, What::Finish, recorded.close(), passes) {
-            Some(run) => expect_told(rt, &run),
-            None => expect(rt, false),
-        }
+        expect_finished(rt, refusal, &ThreeCalls, recorded, passes);
     }
 }
 
 #[test]
 fn recorded_strings_on_a_map(rt: HostRuntime) {
-    outlast::<Names, ThreeCalls, _>(&rt, "a recorded container of texts", (0, 0), 1);
+    outlast::<Names, ThreeCalls, _>(&rt, "a recorded map of texts", (0, 0), 1);
 }

@@ -1,13 +1,10 @@
 // A recorded cache of numbers and texts. A put copies the pair that it evicts before it changes anything, so a put
 // whose copy is refused evicts nothing.
 use crate::expect::{expect, expect_eq};
-use crate::opened::{Trial, outlast};
-use crate::texts::text;
-use scc_cache::Owned;
-use scc_calls::{CacheCall, Reply};
-use scc_common::Shared;
-use scc_history::CallError;
-use scc_recorded::{Pass, Recorded, Site};
+use crate::refused::opened::{Trial, outlast};
+use crate::refused::texts::text;
+use scc::hash_cache::Owned;
+use scc::recorded::{CacheCall, CallError, Pass, Recorded, Reply, Shared, Site};
 use std::io::Print;
 use std::process::Abort;
 use std::sync::Wait;

@@ -1,7 +1,7 @@
-// Tests of a cache whose keys share a bucket of 32 slots, and whose new array is refused.
+// A cache whose keys share a bucket of 32 slots, and whose new array is refused.
 use crate::expect::{expect, expect_eq};
-use scc_cache::Owned;
-use scc_common::InsertError;
+use scc::InsertError;
+use scc::hash_cache::Owned;
 use std::io::Print;
 use std::process::Abort;
 use test_kit::refusals::{Refusal, TRIES};

@@ -1,8 +1,8 @@
-// Tests of maps whose keys share a bucket of 32 slots, and whose new array, overflow list or list of taken pairs is
+// Maps whose keys share a bucket of 32 slots, and whose new array, overflow list or list of taken pairs is
 // refused.
 use crate::expect::{expect, expect_eq};
-use scc_common::{InsertError, Verdict};
-use scc_owned::map::Owned;
+use scc::hash_map::Owned;
+use scc::{InsertError, Verdict, WalkError};
 use std::io::Print;
 use std::process::Abort;
 use test_kit::refusals::{Refusal, TRIES};
@@ -71,9 +71,26 @@ fn insert_next<R: Abort + Print>(rt: &R, map: &mut Map, key: u64) -> bool {
     false
 }
 
+/// Reports what an insertion of a due growth was refused: the new array, if the old one is still there, and the
+/// overflow list, if the key didn't go in.
+fn meet_insertion<R: Abort + Print>(rt: &R, refusal: &mut Refusal, map: &Map, is_in: bool) {
+    match (map.capacity() == 64, is_in) {
+        (true, true) => refusal.meet(rt, "a new array alone"),
+        (true, false) => {
+            refusal.meet(rt, "a new array");
+            refusal.meet(rt, "the overflow list after it");
+        }
+        (false, true) => {}
+        (false, false) => refusal.meet(rt, "the overflow list of a new array"),
+    }
+    let sizes = (map.capacity(), map.is_resize_refused());
+    expect(rt, sizes == (64, true) || sizes == (128, false));
+}
+
 /// A refused array leaves the old array, raises the note, and the key goes to the overflow list. The next insertion asks
 /// for the array again, which lowers the note: key 33 makes it if one request is refused. Each delay is told as a
-/// refusal, and `tools/refuse_memory` allows as many as there were refused requests.
+/// refusal, and `tools/refuse_memory` allows as many as there were refused requests: so an insertion that is refused
+/// and leaves its growth due wants two.
 #[test]
 fn map_refused_array_uses_overflow(rt: HostRuntime) {
     let mut refusal = Refusal::new();
@@ -81,13 +98,12 @@ fn map_refused_array_uses_overflow(rt: HostRuntime) {
     fill(&rt, &mut refusal, &mut map);
     let mut key = 32u64;
     for _ in 0..TRIES {
-        if insert_next(&rt, &mut map, key) {
-            let is_refused = map.is_resize_refused();
+        let is_in = insert_next(&rt, &mut map, key);
+        meet_insertion(&rt, &mut refusal, &map, is_in);
+        if is_in {
             if map.capacity() == 128 {
-                return expect(&rt, !is_refused);
+                return;
             }
-            expect_eq(&rt, (map.capacity(), is_refused), (64, true));
-            refusal.meet(&rt, "a new array alone");
             key = key.saturating_add(1);
         }
     }
@@ -101,14 +117,10 @@ fn map_refused_array_and_overflow(rt: HostRuntime) {
     let mut map = Owned::with_hasher(rt.alloc(), Zero);
     fill(&rt, &mut refusal, &mut map);
     for _ in 0..TRIES {
-        if insert_next(&rt, &mut map, 32) {
+        let is_in = insert_next(&rt, &mut map, 32);
+        meet_insertion(&rt, &mut refusal, &map, is_in);
+        if is_in {
             return;
-        }
-        if map.capacity() == 64 {
-            refusal.meet(&rt, "a new array and the overflow list");
-        } else {
-            refusal.meet(&rt, "the overflow list of a new array");
-            expect_eq(&rt, map.capacity(), 128);
         }
     }
     expect(&rt, false);
@@ -125,9 +137,8 @@ fn listed<R: AllocGlobal + Print>(rt: &R, refusal: &mut Refusal) -> Option<Vec<(
     None
 }
 
-/// Walks with a closure that takes each pair. Returns the number of the closure's calls, and whether the walk came to
-/// its end.
-fn take_all(map: &mut Map, taken: &mut Vec<(u64, u64)>) -> (usize, bool) {
+/// Walks with a closure that takes each pair. Returns the number of the closure's calls, and the walk's answer.
+fn take_all(map: &mut Map, taken: &mut Vec<(u64, u64)>) -> (usize, Result<bool, WalkError>) {
     let mut calls = 0usize;
     let ended = map.iter_mut_sync(
         |_, _| {
@@ -136,7 +147,7 @@ fn take_all(map: &mut Map, taken: &mut Vec<(u64, u64)>) -> (usize, bool) {
         },
         taken,
     );
-    (calls, ended == Ok(true))
+    (calls, ended)
 }
 
 /// Takes all three pairs into a list with room for one. A refused walk has called its closure once for each pair that
@@ -151,14 +162,12 @@ fn expect_taken<R: Abort + Print>(
     for _ in 0..TRIES {
         let (calls, ended) = take_all(map, taken);
         all = all.saturating_add(calls);
-        expect_eq(rt, taken.len(), all);
-        expect_eq(rt, map.len().saturating_add(all), 3);
-        if ended {
-            expect_eq(rt, all, 3);
-            return;
+        expect_eq(rt, (taken.len(), map.len().saturating_add(all)), (all, 3));
+        if all == 3 {
+            return expect_eq(rt, ended, Ok(true));
         }
         refusal.meet(rt, "more room for taken pairs");
-        expect_eq(rt, all, 1);
+        expect_eq(rt, (ended, all), (Err(WalkError), 1));
     }
     expect(rt, false);
 }
