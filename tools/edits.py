@@ -3,6 +3,7 @@
 An edit is a file crates/CRATE/must-fail/NAME.edit if `rt ci`, and so the gate, tries it each time, and slips/CRATE/NAME.edit
 if the command `./test --slips` alone does. It has these lines; others say nothing:
     function: PATH    the function whose contract has to refuse the edit, by its whole path, as a check prints it
+    test: CRATE NAME  in the place of function: the test that has to fail with the edit (tools/by_test.py)
     named: yes        if the edit is bold in docs/CLAUSES.md
     file: src/lib.rt  the file of the crate that the next pairs change
     old: TEXT         a text that stands in that file exactly once
@@ -35,6 +36,12 @@ class Edit(NamedTuple):
     @property
     def function(self):
         return "".join(self.words("function")[:1])
+
+    @property
+    def test(self):
+        """The crate and the name of the test that has to fail, or nothing if a function has to refuse the edit."""
+        words = "".join(self.words("test")[:1]).split()
+        return tuple(words) if len(words) == 2 else ()
 
     @property
     def is_named(self):
@@ -97,7 +104,10 @@ def edited(edit, crate_folder):
 
 def wrong_with(edit):
     """What is wrong with an edit, as can be seen without a proof; nothing where all is right."""
-    if len(edit.words("function")) != 1 or not edit.function.startswith(edit.crate + "::"):
+    if edit.words("test"):
+        if len(edit.words("test")) != 1 or not edit.test or edit.words("function"):
+            return "it needs one line test: with a crate and a test, and no line function:"
+    elif len(edit.words("function")) != 1 or not edit.function.startswith(edit.crate + "::"):
         return "it needs one line function: with the path of a function of its crate"
     if edit.words("named") not in ([], ["yes"]):
         return "its line named: says something else than yes"

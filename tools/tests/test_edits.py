@@ -58,6 +58,13 @@ class Edits(unittest.TestCase):
         self.assertIn("stands 0 times", self.wrong("file: src/lib.rt", "old: a + 2", "new: b"))
         self.assertIn("stands 2 times", self.wrong("file: src/lib.rt", "old: f", "new: b"))
 
+    def test_an_edit_names_a_function_or_a_test(self):
+        lines = ["file: src/lib.rt", "old: a + 1", "new: a"]
+        one = edits.Edit("low", "one", ["test: high adds_one", *lines])
+        self.assertEqual((one.test, one.function, edits.wrong_with(one)), (("high", "adds_one"), "", ""))
+        for wrong in (["test: high"], ["test: high adds_one", "test: high adds_two"], ["test: high adds_one", "function: low::len"]):
+            self.assertIn("one line test:", edits.wrong_with(edits.Edit("low", "one", [*wrong, *lines])))
+
     def test_strangers(self):
         self.assertEqual(list(edits.strangers({"low": []})), [])
         tools.write(self.top, {"slips/gone/one.edit": LINES, "slips/low/README.md": "", "crates/low/must-fail/one.txt": ""})

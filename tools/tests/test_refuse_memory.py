@@ -150,6 +150,12 @@ class Driver(unittest.TestCase):
     def test_a_program_without_tests_is_wrong(self):
         self.assertFalse(self.tried(named=())[1])
 
+    def test_takes_the_tests_of_a_module_alone(self):
+        program = self.program("right")
+        tools.write(self.folder, {f"{os.path.basename(program)}.list": "one::a: test\none::low::b: test\nones::c: test\n"})
+        self.assertEqual(driver.tests_of(program, "test_small"), ["one::a", "one::low::b", "ones::c"])
+        self.assertEqual(driver.tests_of(program, "test_small::one"), ["one::a", "one::low::b"])
+
     def test_tells_all_of_one_request(self):
         runs, is_well, said = self.tried("right", "silent", only=2)
         self.assertTrue(is_well)
@@ -164,6 +170,13 @@ class Sources(unittest.TestCase):
         with mock.patch.object(driver, "sources_of", lambda crate: {"src/lib.rt": text}):
             self.assertEqual(driver.names_of("test_small"), {"insert_sync", "try_clone"})
 
+    def test_names_of_a_module(self):
+        texts = {f"src/{name}.rt": f'refusal.meet(rt, "{name}");\n' for name in ("one", "one/low", "one/low/lowest", "ones", "two")}
+        with mock.patch.object(driver, "sources_of", lambda crate: texts):
+            self.assertEqual(driver.names_of("test_small::one"), {"one", "one/low", "one/low/lowest"})
+            self.assertEqual(driver.names_of("test_small::one::low"), {"one/low", "one/low/lowest"})
+            self.assertEqual(driver.names_of("test_small"), {"one", "one/low", "one/low/lowest", "ones", "two"})
+
     def test_a_program_is_of_its_sources_until_one_is_newer(self):
         with tempfile.TemporaryDirectory(prefix="refuse-memory-") as top:
             tools.write(top, {"crates/test_small/src/lib.rt": "", "crates/low/src/lib.rt": "", "program": ""})
@@ -176,13 +189,14 @@ class Sources(unittest.TestCase):
                 self.assertFalse(driver.is_of_these_sources(f"{top}/gone", "test_small"))
 
     def test_wrong_words(self):
-        for words in ([], ["nothing"], ["scc_common", "--only", "0"], ["test_memory", "--windows", "1,,2"], ["test_memory", "--all"]):
+        for words in ([], ["nothing"], ["scc_common", "--only", "0"], ["test_memory", "--windows", "1,,2"], ["test_memory", "--all"], ["scc_vectors::nothing"], ["nothing::refused"]):
             with self.subTest(words), contextlib.redirect_stderr(io.StringIO()), self.assertRaises(SystemExit) as ended:
                 driver.read_words(words)
             self.assertEqual(ended.exception.code, 2)
 
     def test_words(self):
         self.assertEqual(driver.read_words(["test_memory", "--windows", "2,1+8", "--only", "3"]), (["test_memory"], ["2", "1+8"], 3))
+        self.assertEqual(driver.read_words(["scc_vectors::refused"])[0], ["scc_vectors::refused"])
         self.assertEqual(driver.read_words(["--only", "3", "test_memory"]), (["test_memory"], driver.WINDOWS, 3))
 
 

@@ -1,4 +1,4 @@
-"""How edits are chosen and copies are made, and which slips are planted; nothing is proved."""
+"""How edits are chosen and copies are made; nothing is proved."""
 import contextlib
 import io
 import os
@@ -9,38 +9,8 @@ from unittest import mock
 import tools
 import edits
 
-slips, plant_slips = tools.tool("slips"), tools.tool("plant_slips")
+slips = tools.tool("slips")
 CRATES = {"low": [], "high": ["low"], "alone": []}
-SOURCE = """//! A library.
-pub struct Table<E> {
-    len: usize,
-}
-
-impl<E> Table<E> {
-    pub fn is_less(&self, n: usize) -> bool
-        ensures { IsTrue result }
-    {
-        // a comment with 1 < 2
-        self.len < n
-    }
-}
-
-impl Keyed for Table<u64> {
-    fn key(&self) -> bool {
-        true
-    }
-}
-
-impl<E> Drop for Table<E> {
-    fn drop(&mut self) {
-        forget(self);
-    }
-}
-
-fn next(n: usize) -> usize {
-    n + 1
-}
-"""
 
 
 def edit(crate, name, named=False):
@@ -112,36 +82,6 @@ class Copies(unittest.TestCase):
         self.assertEqual(worker.built_below(), [])
         tools.write(worker.root, {"crates/low/out/incremental/c": ""})
         self.assertEqual(worker.built_below(), ["low"])
-
-
-class Planted(unittest.TestCase):
-    def test_bodies_with_the_paths_of_their_functions(self):
-        module = plant_slips.module_of("low", "src/tables/lib.rt")
-        self.assertEqual(module, "low::tables")
-        homes = plant_slips.homes_of("low", {"src/tables.rt": SOURCE})
-        self.assertEqual(homes, {"Table": "low::tables"})
-        found = list(plant_slips.bodies(SOURCE.split("\n"), module, homes))
-        # The impl of a type with fixed arguments gives no path.
-        self.assertEqual([one for one in found if one[0]], [("low::tables::Table::is_less", "self.len < n"), ("low::tables::Table::drop", "forget(self);"), ("low::tables::next", "n + 1")])
-
-    def test_slips_of_a_line(self):
-        self.assertEqual(plant_slips.slips_of("self.len < n"), ["self.len <= n"])
-        self.assertEqual(sorted(plant_slips.slips_of("n + 1")), ["n + 2", "n - 1"])
-        self.assertEqual(plant_slips.slips_of("forget(self);"), [""])
-        self.assertEqual(plant_slips.slips_of("let gone = forget(self);"), [])
-
-    def test_plants_the_same_by_the_same_seed(self):
-        with mock.patch.object(plant_slips, "sources_of", lambda crate: {"src/lib.rt": SOURCE}):
-            one, other = plant_slips.planted("low", 2, 1), plant_slips.planted("low", 2, 1)
-            self.assertEqual(one, other)
-            self.assertEqual(len(one), 2)
-            self.assertEqual(set(plant_slips.planted("low", 9, 1)), {"low::Table::is_less", "low::Table::drop", "low::next"})
-
-    def test_writes_edits_that_fit(self):
-        with tempfile.TemporaryDirectory(prefix="planted-") as folder, contextlib.redirect_stdout(io.StringIO()):
-            plant_slips.write_edits(folder, "low", {"low::next": ("src/lib.rt", "n + 1", "n - 1")})
-            (found,) = edits.edits_in(f"{folder}/low", "low")
-        self.assertEqual((found.function, found.changes()), ("low::next", [("src/lib.rt", "n + 1", "n - 1")]))
 
 
 if __name__ == "__main__":

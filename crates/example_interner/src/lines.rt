@@ -1,6 +1,5 @@
-//! The lines of a text, each with the symbol of its text.
-ghost use Rattle.std.specs.Arc.{arc_str_bytes};
-ghost use Rattle.std.specs.Prelude.{◌≡◌, IfSome};
+//! The lines of a text, each with the symbol of its text. A line's number counts from 0.
+ghost use Rattle.std.specs.Prelude.{◌≡◌, ◌<◌, IfSome, length, slice_get};
 
 use crate::interner::{Home, Interner, Symbol, Text};
 use std::alloc::{AllocError, Global};
@@ -11,67 +10,57 @@ use std::thread::{Threads, map_indices};
 /// How many workers there are.
 const WORKERS: usize = 8;
 
-/// A line that was read, with its number, counted from 1.
-#[derive(Drop)]
-pub struct Line {
-    pub number: usize,
-    pub text: Text,
-}
-
 /// A line whose text has a symbol. A line with the symbol of another text can't be made.
 #[derive(Drop)]
-pub struct Interned<'a, B: Home> {
-    pub line: &'a Line,
+pub struct Interned<B: Home> {
+    pub number: usize,
     pub symbol: Symbol<B>,
-    pub ghost right: { arc_str_bytes symbol.pushed.value ≡ arc_str_bytes line.now.text },
+    pub ghost within: { number < length B.texts },
+    pub ghost right: { slice_get B.texts symbol.number ≡ slice_get B.texts number },
 }
 
 /// Returns the lines of `text` in their order. Fails if memory is refused.
-pub fn lines_of(alloc: Global, text: &str) -> Result<Vec<Line>, AllocError> {
+pub fn lines_of(alloc: Global, text: &str) -> Result<Vec<Text>, AllocError> {
     let mut lines = Vec::new(alloc);
-    for (place, line) in text.lines().enumerate() {
-        lines.push(Line {
-            number: place.saturating_add(1),
-            text: Text::from_str(alloc, line)?,
-        })?;
+    for line in text.lines() {
+        lines.push(Text::from_str(alloc, line)?)?;
     }
     Ok(lines)
 }
 
-/// Interns the texts of `many` lines, from place `start` on.
-fn intern_part<'a, B: Home, R: Wait>(
+/// Interns `many` lines, from line `start` on.
+fn intern_part<B: Home, R: Wait>(
     rt: &R,
     alloc: Global,
-    interner: &Interner<B>,
-    lines: &'a [Line],
+    interner: &Interner<'_, B>,
     start: usize,
     many: usize,
-) -> io::Result<Vec<Interned<'a, B>>> {
+) -> io::Result<Vec<Interned<B>>> {
     let mut interned = Vec::new(alloc);
-    for line in lines.iter().skip(start).take(many) {
-        let symbol = interner.intern(rt, line.text.clone()?)?;
+    let end = start.saturating_add(many).min(interner.len());
+    for number in start..end {
+        let symbol = interner.intern(rt, number)?;
         interned
-            .push(Interned { line, symbol })
+            .push(Interned { number, symbol })
             .map_err(AllocError::from)?;
     }
     Ok(interned)
 }
 
-/// Lets the workers intern the texts of the lines, each those of its part, and returns the lines in their order.
-pub fn intern_lines<'a, B: Home + Sync + Send, R: Threads + Sync + Wait>(
+/// Lets the workers intern the lines, each those of its part, and returns the lines in their order.
+pub fn intern_lines<B: Home + Sync + Send, R: Threads + Sync + Wait>(
     rt: &R,
     alloc: Global,
-    interner: &Interner<B>,
-    lines: &'a [Line],
-) -> io::Result<Vec<Interned<'a, B>>> {
-    let many = lines.len() / WORKERS + 1;
+    interner: &Interner<'_, B>,
+) -> io::Result<Vec<Interned<B>>> {
+    let many = interner.len() / WORKERS + 1;
     let parts = map_indices(
         rt,
         alloc,
         WORKERS,
         &|worker| {
             let start = worker.saturating_mul(many);
-            intern_part(rt, alloc, interner, lines, start, many)
+            intern_part(rt, alloc, interner, start, many)
         },
     )?;
     let mut all = Vec::new(alloc);
@@ -83,16 +72,16 @@ pub fn intern_lines<'a, B: Home + Sync + Send, R: Threads + Sync + Wait>(
     Ok(all)
 }
 
-/// Returns the first of the lines whose text is that of `line`. Only numbers are compared.
-pub fn first_same<'a, B: Home>(
-    interner: &Interner<B>,
-    lines: &[Interned<'a, B>],
-    line: &Interned<'_, B>,
-) -> Option<&'a Line>
-    ensures { IfSome result (λ first. arc_str_bytes first.now.text ≡ arc_str_bytes line.now.line.now.text) }
+/// Returns the number of the first of the lines whose text is that of `line`. Only symbols are compared.
+pub fn first_same<B: Home>(
+    interner: &Interner<'_, B>,
+    lines: &[Interned<B>],
+    line: &Interned<B>,
+) -> Option<usize>
+    ensures { IfSome result (λ first. slice_get B.texts first ≡ slice_get B.texts line.now.number) }
 {
     let first = lines
         .iter()
         .find(|first| interner.is_same(&first.symbol, &line.symbol))?;
-    Some(first.line)
+    Some(first.number)
 }

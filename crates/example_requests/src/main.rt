@@ -36,7 +36,7 @@ fn print_served<R: Print + Eprint>(rt: &R, bound: usize, served: Served) -> io::
     let kept = if served.most <= bound {
         "never"
     } else {
-        "once"
+        "at least once"
     };
     println!(rt;
         "bound {bound}: {requests} requests served, sum {sum}, {kept} more than {bound} answers kept"
