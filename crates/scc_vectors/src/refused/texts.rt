@@ -1,7 +1,7 @@
 // Recorded maps of texts: every clone is made before anything is changed, so a refused call leaves everything as it
 // was, and the call that succeeds is right.
 ghost use Rattle.std.specs.Prelude.{IfSome, IsSome};
-ghost use Rattle.scc_calls.specs.MapCalls.{map_key};
+ghost use Rattle.scc.specs.MapCalls.{map_key};
 
 use crate::expect::{expect, expect_eq};
 use crate::refused::finishing::{Told, expect_finished};
