@@ -2,7 +2,8 @@ pub mod Caching
 pub mod Collecting
 pub mod EachPair
 pub mod Entries
-pub mod Found
+pub mod FirstOfAll
+mod Found
 pub mod LookUps
 pub mod Relocations
 pub mod Removing

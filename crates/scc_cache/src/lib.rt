@@ -11,6 +11,7 @@ ghost use Rattle.std.specs.Prelude.{◌≡◌, ◌≤◌, ◌*◌, ◌↔◌, []
 
 pub mod borrowed;
 pub mod held;
+mod hinted;
 pub mod locked;
 mod make;
 mod part;

@@ -36,7 +36,10 @@ impl<K: Eq + Hash, V, R: Rule<K, V>, H: BuildHasher> RuledCache<K, V, R, H> {
         requires { IsCalledOn K.eq R.holds F.FnOnce f k.now }
         ensures answer { IfSome result (ReadsKept K.eq R.holds F.FnOnce f k.now) }
     {
-        self.stripes.read(rt, self.stripes.route(k)).read_sync(k, f)
+        let hash = self.stripes.hash(k);
+        self.stripes
+            .read(rt, self.stripes.route_hash(hash))
+            .read_by_hint(hash, k, f)
     }
 
     /// As `read_sync`, but makes the pair of `k` the most recent of its bucket before it calls `f`. The stripe of `k` is
@@ -52,10 +55,11 @@ impl<K: Eq + Hash, V, R: Rule<K, V>, H: BuildHasher> RuledCache<K, V, R, H> {
 
     /// Returns whether a key equals `k`. Refreshes nothing.
     pub fn contains_sync(&self, rt: &impl Wait, k: &K) -> bool {
+        let hash = self.stripes.hash(k);
         self.stripes
-            .read(rt, self.stripes.route(k))
+            .read(rt, self.stripes.route_hash(hash))
             .look()
-            .contains_sync(k)
+            .contains_by_hint(hash, k)
     }
 
     /// Removes the pair of `k` if `f` returns true on its value, and returns the pair with what `f` wrote. If `f`

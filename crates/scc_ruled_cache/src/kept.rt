@@ -58,11 +58,16 @@ impl<K: Eq + Hash, V, R: Rule<K, V>, H: BuildHasher> Kept<K, V, R, H> {
     }
 
     #[inline(always)]
-    pub(crate) fn read_sync<A, F: FnOnce(&K, &V) -> A>(&self, k: &K, f: F) -> Option<A>
+    pub(crate) fn read_by_hint<A, F: FnOnce(&K, &V) -> A>(
+        &self,
+        hint: u64,
+        k: &K,
+        f: F,
+    ) -> Option<A>
         requires { IsCalledOn K.eq R.holds F.FnOnce f k.now }
         ensures answer { IfSome result (ReadsKept K.eq R.holds F.FnOnce f k.now) }
     {
-        self.cache.read_sync(k, f)
+        self.cache.read_by_hint(hint, k, f)
     }
 
     #[inline(always)]

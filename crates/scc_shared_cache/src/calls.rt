@@ -31,14 +31,18 @@ impl<K: Eq + Hash, V, H: BuildHasher> HashCache<K, V, H> {
         requires { F.IsAlwaysCallable f }
         ensures answer { IfSome result (ReadsEqual K.eq F.FnOnce f k.now) }
     {
-        self.stripes.read(rt, self.stripes.route(k)).read_sync(k, f)
+        let hash = self.stripes.hash(k);
+        self.stripes
+            .read(rt, self.stripes.route_hash(hash))
+            .read_by_hint(hash, k, f)
     }
 
     /// Returns whether a key equals `k`. Refreshes nothing.
     pub fn contains_sync(&self, rt: &impl Wait, k: &K) -> bool {
+        let hash = self.stripes.hash(k);
         self.stripes
-            .read(rt, self.stripes.route(k))
-            .contains_sync(k)
+            .read(rt, self.stripes.route_hash(hash))
+            .contains_by_hint(hash, k)
     }
 
     /// Removes the pair of `k` if `f` returns true on its value, and returns the pair with what `f` wrote. If `f`
