@@ -10,6 +10,7 @@ pub mod Gets
 pub mod Hinted
 pub mod Joined
 pub mod ListPushing
+pub mod Listed
 pub mod ListsLemmas
 pub mod Parting
 pub mod Picking

@@ -11,7 +11,7 @@ use Rattle.scc_buckets.specs.declared.place.Place.{Place}
 module _ (E H K V : RattleType) (by : keyed.Ghosts E.Denot K.Denot) (compare : comparison.Ghosts K.Denot) (hashes : hashing.Ghosts H.Denot K.Denot) (put : E.Denot → V.Denot → E.Denot) where
   -- the type of the buckets, as the logic holds it
   abbrev pub buckets_row : RattleType
-  buckets_row = the_row E H K by hashes compare
+  buckets_row = the_row E H K by compare hashes
 
   -- when the loan r ends, the entry at p has the last value written through r
   abbrev pub lends_value : MutBor (Contents E.Denot H.Denot) → Place → MutBor V.Denot → Fml

@@ -58,7 +58,7 @@ module _ {K V H : Type 0} (eq : K → K → Bool) (clone : K → K → Type 0) (
   removed-setting k true h = ap run_setting_by h.1.settings
 
 module _ {G N K V S T : Type 0} {d : guard.Ghosts G (Contents (K × V) S)} {g : equality.Ghosts K} {h : hash.Ghosts K} {b : builder.Ghosts S T} {w : hasher.Ghosts T} {eq : K → K → Bool} (laws : IsEquivalence eq) (C : K → K → Type 0)
-    (c : Contents (K × V) S) (k : K) (v : V) (o p : HeldOccupied G N (K × V) S K T d pair_keys b w g h) (at : IsOccupiedAt eq c k o) (up : IsUpdated C eq o v p) where
+    (c : Contents (K × V) S) (k : K) (v : V) (o p : HeldOccupied G N (K × V) S K T d pair_keys g b w h) (at : IsOccupiedAt eq c k o) (up : IsUpdated C eq o v p) where
   near : eq k up.key ≡ true
   near = laws.congr k (occupied_pair o).0 up.key at.equal ∙ laws.symm (occupied_pair o).0 up.key ∙ up.equal
 

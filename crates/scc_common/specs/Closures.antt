@@ -17,6 +17,10 @@ module _ {F K V R : Type 0} (g : Once F (Bor K × (Bor V × Unit {0})) R) (f : F
   Reads (Some p) r = IsSomeAnd r (AnswersAt p)
 
 module _ {F K V R : Type 0} (g : Once F (Bor K × (MutBor V × Unit {0})) (R × (MutBor V × Unit {0}))) (f : F) where
+  -- f may be called with a & to the key and a &mut to the value of p
+  abbrev pub TakesAt : K × V → Type 0
+  TakesAt p = (key : Bor K) (value : MutBor V) → (key.now, value.now) ≡ p → g.pre f (key, (value, tt))
+
   -- a call of f with the key and the value of p may return r and leave the value w
   pub record WritesAt (p : K × V) (r : R) (w : V) : Type 0 where
     pub key : Bor K

@@ -10,11 +10,13 @@ pub mod hashes;
 pub mod shared;
 pub mod verdict;
 pub mod version;
+pub mod writer;
 
-pub use entry::{Keyed, Made, Valued};
+pub use entry::{Keyed, Lending, Made, Valued};
 pub use errors::{InsertError, KeyError, MakeError, WalkError};
 pub use guard::Guard;
 pub use hashes::Hashes;
 pub use shared::{CloneOwner, Shared};
 pub use verdict::Verdict;
 pub use version::{SharedVersion, Version};
+pub use writer::{OfEach, OfPair, OfValue, Put, Writer};

@@ -107,7 +107,7 @@ impl<K, V> SharedVersion<K, V> {
     }
 }
 
-impl<K, V> Keyed for SharedVersion<K, V> {
+impl<K: Eq, V> Keyed for SharedVersion<K, V> {
     type Key = K;
 
     ghost key_of = { λ e. e.0 };

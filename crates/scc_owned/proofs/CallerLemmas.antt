@@ -70,14 +70,14 @@ module _ {K V : Type 0} {eq : K → K → Bool} (laws : IsEquivalence eq) where
 
 module _ {G N K V S T : Type 0} {keep : guard.Ghosts G (Contents (K × V) S)} {b : builder.Ghosts S T} {w : hasher.Ghosts T} {g : equality.Ghosts K} {h : hash.Ghosts K} {eq : K → K → Bool} (laws : IsEquivalence eq) (c : Contents (K × V) S) (k : K) where
   -- after a write through an occupied entry, a look-up of k finds the entry's key with the written value
-  pub finds-written : (o d : HeldOccupied G N (K × V) S K T keep pair_keys b w g h) (v : V) → IsOccupiedAt eq c k o → IsWritten o v d → FindsInstead eq (entries c) k (Some ((occupied_pair o).0, v)) (entries (keep.inner d.guard))
+  pub finds-written : (o d : HeldOccupied G N (K × V) S K T keep pair_keys g b w h) (v : V) → IsOccupiedAt eq c k o → IsWritten o v d → FindsInstead eq (entries c) k (Some ((occupied_pair o).0, v)) (entries (keep.inner d.guard))
   finds-written o d v at written = record {
     finds = λ q.
         ap (λ es. find eq es q) (written.at.contents.exact ∙ at.writes v) ∙ find-written laws (entries c) k q (occupied_pair o) v at.found;
   }
 
   -- after an insertion through a vacant entry, a look-up of k finds k with the inserted value
-  pub finds-put : (e : HeldVacant G N (K × V) S K T keep pair_keys b w g h) (o : HeldOccupied G N (K × V) S K T keep pair_keys b w g h) (v : V) → IsVacantAt eq c k e → IsInserted e v o → IsUnique eq (keep.inner o.guard) → FindsInstead eq (entries c) k (Some (k, v)) (entries (keep.inner o.guard))
+  pub finds-put : (e : HeldVacant G N (K × V) S K T keep pair_keys g b w h) (o : HeldOccupied G N (K × V) S K T keep pair_keys g b w h) (v : V) → IsVacantAt eq c k e → IsInserted e v o → IsUnique eq (keep.inner o.guard) → FindsInstead eq (entries c) k (Some (k, v)) (entries (keep.inner o.guard))
   finds-put e o v at put u = record {
     finds = λ q.
         (finds-inserted laws (keep.inner e.guard) (keep.inner o.guard) (e.key, v) put.at.contents u).finds q
@@ -85,7 +85,7 @@ module _ {G N K V S T : Type 0} {keep : guard.Ghosts G (Contents (K × V) S)} {b
   }
 
   -- after an occupied entry is released, a look-up of k finds the pair of the entry
-  finds-held : (o : HeldOccupied G N (K × V) S K T keep pair_keys b w g h) → IsOccupiedAt eq c k o → FindsInstead eq (entries c) k (Some (occupied_pair o)) (entries (keep.inner o.guard))
+  finds-held : (o : HeldOccupied G N (K × V) S K T keep pair_keys g b w h) → IsOccupiedAt eq c k o → FindsInstead eq (entries c) k (Some (occupied_pair o)) (entries (keep.inner o.guard))
   finds-held o at = record {
     finds = λ q. ap (λ d. find eq (entries d) q) at.contents ∙ by_answer (eq q k)
         (λ y. find-equal laws (entries c) q k y ∙ at.found ∙ sym (cond-true (Some (occupied_pair o)) (find eq (entries c) q) y))
@@ -93,18 +93,18 @@ module _ {G N K V S T : Type 0} {keep : guard.Ghosts G (Contents (K × V) S)} {b
   }
 
   -- after `or_insert`, a look-up of k finds the pair of the returned entry
-  pub finds-or_insert : (e : HeldEntry G N (K × V) S K T keep pair_keys b w g h) (v : V) (o : HeldOccupied G N (K × V) S K T keep pair_keys b w g h) → IsEntryOf eq c k e → OrInserts e v o → IsUnique eq (keep.inner o.guard) → FindsInstead eq (entries c) k (Some (occupied_pair o)) (entries (keep.inner o.guard))
+  pub finds-or_insert : (e : HeldEntry G N (K × V) S K T keep pair_keys g b w h) (v : V) (o : HeldOccupied G N (K × V) S K T keep pair_keys g b w h) → IsEntryOf eq c k e → OrInserts e v o → IsUnique eq (keep.inner o.guard) → FindsInstead eq (entries c) k (Some (occupied_pair o)) (entries (keep.inner o.guard))
   finds-or_insert (Occupied p) v o at is u = subst (λ q. FindsInstead eq (entries c) k (Some (occupied_pair q)) (entries (keep.inner q.guard))) (sym is) (finds-held p at)
   finds-or_insert (Vacant e) v o at is u = subst (λ q. FindsInstead eq (entries c) k (Some q) (entries (keep.inner o.guard))) (ap (λ x. (x, v)) (sym at.key) ∙ sym is.at.here) (finds-put e o v at is u)
 
   module _ {F : Type 0} (f : Once F (MutBor V × Unit {0}) (Unit {0} × (MutBor V × Unit {0}))) (x : F) where
     -- q is the pair of the entry after `and_modify` and `or_insert`
-    abbrev pub ModifiedOr : HeldEntry G N (K × V) S K T keep pair_keys b w g h → V → K × V → Type 0
+    abbrev pub ModifiedOr : HeldEntry G N (K × V) S K T keep pair_keys g b w h → V → K × V → Type 0
     ModifiedOr (Occupied p) v q = (q.0 ≡ (occupied_pair p).0) × FnOnceReturnsAtMut f x (occupied_pair p).1 tt q.1
     ModifiedOr (Vacant e) v q = q ≡ (k, v)
 
     -- after `and_modify` and `or_insert`, a look-up of k finds the pair of the returned entry
-    pub finds-modify_or_insert : (e e2 : HeldEntry G N (K × V) S K T keep pair_keys b w g h) (v : V) (o : HeldOccupied G N (K × V) S K T keep pair_keys b w g h) → IsEntryOf eq c k e → Modifies f x e e2 → OrInserts e2 v o → IsUnique eq (keep.inner o.guard)
+    pub finds-modify_or_insert : (e e2 : HeldEntry G N (K × V) S K T keep pair_keys g b w h) (v : V) (o : HeldOccupied G N (K × V) S K T keep pair_keys g b w h) → IsEntryOf eq c k e → Modifies f x e e2 → OrInserts e2 v o → IsUnique eq (keep.inner o.guard)
         → ModifiedOr e v (occupied_pair o) × FindsInstead eq (entries c) k (Some (occupied_pair o)) (entries (keep.inner o.guard))
     finds-modify_or_insert (Occupied p) (Occupied d) v o at is ins u =
         let pair : occupied_pair o ≡ ((occupied_pair p).0, is.0) = ap (λ q. occupied_pair q) ins ∙ is.2.at.here in (
@@ -124,7 +124,7 @@ find-rearranged laws xs ys q same u = find-IsPermutation laws xs ys q same u
 
 module _ {G N K V S T : Type 0} {keep : guard.Ghosts G (Contents (K × V) S)} {b : builder.Ghosts S T} {w : hasher.Ghosts T} {g : equality.Ghosts K} {h : hash.Ghosts K} {eq : K → K → Bool} (laws : IsEquivalence eq) where
   -- an occupied entry is the entry of its own key, whichever call returned it
-  pub occupied-of-unique : (o : HeldOccupied G N (K × V) S K T keep pair_keys b w g h) → IsUnique eq (keep.inner o.guard) → IsOccupiedAt eq (keep.inner o.guard) (occupied_pair o).0 o
+  pub occupied-of-unique : (o : HeldOccupied G N (K × V) S K T keep pair_keys g b w h) → IsUnique eq (keep.inner o.guard) → IsOccupiedAt eq (keep.inner o.guard) (occupied_pair o).0 o
   occupied-of-unique o u =
       let c : Contents (K × V) S = keep.inner o.guard in
       let f = found-place laws (occupied_pair o).0 (entries c) (index_of c o.place) (occupied_pair o) u (entry_of-get c o.place o.within) (laws.refl (occupied_pair o).0) in

@@ -33,13 +33,13 @@ version-apart laws m p within e x got same u =
 
 module _ {G N K V S T : Type 0} {d : guard.Ghosts G (Contents (K × V) S)} {b : builder.Ghosts S T} {w : hasher.Ghosts T} {g : eq.Ghosts K} {h : hash.Ghosts K} where
   -- after a version is written at a place through the guard, the place is still a place
-  pub within-after : (o : HeldOccupied G N (K × V) S K T d pair_keys b w g h) (m n : Contents (K × V) S) (e : K × V) → m ≡ d.inner o.guard → n ≡ with_write_at put_whole m o.place e → IsPlace (d.inner (d.with_inner o.guard n)) o.place
+  pub within-after : (o : HeldOccupied G N (K × V) S K T d pair_keys g b w h) (m n : Contents (K × V) S) (e : K × V) → m ≡ d.inner o.guard → n ≡ with_write_at put_whole m o.place e → IsPlace (d.inner (d.with_inner o.guard n)) o.place
   within-after o m n e is made =
       let P : Contents (K × V) S → Type 0 = λ c. IsPlace c o.place in
       subst P (sym (d.inner_law o.guard n)) (subst P (sym made) (IsPlace-with_write_at put_whole m o.place e (subst P (sym is) o.within)))
 
   -- if a version is written through the guard, the entry is updated to that version
-  pub updated-after : (C : K → K → Type 0) {same : K → K → Bool} (laws : IsEquivalence same) (o : HeldOccupied G N (K × V) S K T d pair_keys b w g h) (m n : Contents (K × V) S) (e : K × V) → m ≡ d.inner o.guard → n ≡ with_write_at put_whole m o.place e → C (occupied_pair o).0 e.0 → same e.0 (occupied_pair o).0 ≡ true
+  pub updated-after : (C : K → K → Type 0) {same : K → K → Bool} (laws : IsEquivalence same) (o : HeldOccupied G N (K × V) S K T d pair_keys g b w h) (m n : Contents (K × V) S) (e : K × V) → m ≡ d.inner o.guard → n ≡ with_write_at put_whole m o.place e → C (occupied_pair o).0 e.0 → same e.0 (occupied_pair o).0 ≡ true
       → IsDistinct same (keys_of (entries m)) → (p : IsPlace (d.inner (d.with_inner o.guard n)) o.place) (v : IsUnique g.eq (d.inner (d.with_inner o.guard n))) → IsUpdated C same o e.1 (record { guard = d.with_inner o.guard n; place = o.place; rest = o.rest; of = o.of; within = p; unique = v })
   updated-after C laws o m n e is made cloned equal u p v =
       let at = written-there put_whole (d.inner o.guard) o.place o.within e (d.inner (d.with_inner o.guard n)) p (d.inner_law o.guard n ∙ made ∙ ap (λ c. with_write_at put_whole c o.place e) is) in
@@ -55,5 +55,5 @@ module _ {G N K V S T : Type 0} {d : guard.Ghosts G (Contents (K × V) S)} {b : 
       }
 
   -- a write of a version through the guard leaves the waiting buckets as they are
-  pub waiting-after : (o : HeldOccupied G N (K × V) S K T d pair_keys b w g h) (m n : Contents (K × V) S) (e : K × V) → m ≡ d.inner o.guard → n ≡ with_write_at put_whole m o.place e → waiting_of (d.inner (d.with_inner o.guard n)) ≡ waiting_of (d.inner o.guard)
+  pub waiting-after : (o : HeldOccupied G N (K × V) S K T d pair_keys g b w h) (m n : Contents (K × V) S) (e : K × V) → m ≡ d.inner o.guard → n ≡ with_write_at put_whole m o.place e → waiting_of (d.inner (d.with_inner o.guard n)) ≡ waiting_of (d.inner o.guard)
   waiting-after o m n e is made = ap waiting_of (d.inner_law o.guard n ∙ made) ∙ waiting-write put_whole m o.place e ∙ ap waiting_of is

@@ -49,22 +49,22 @@ any-err (Err e) = tt
 
 module _ {G N E V S K T : Type 0} {d : guard.Ghosts G (Contents E S)} {y : keyed.Ghosts E K} {b : builder.Ghosts S T} {w : hasher.Ghosts T} {g : eq.Ghosts K} {h : hash.Ghosts K} where
   -- if P implies Q, a refusal that returns some value with P is a refusal that returns some value with Q
-  pub refuses-some : {A : Type 0} {P Q : V → Type 0} (e : HeldEntry G N E S K T d y b w g h) (r : Result A (InsertError K V)) → IfErr r (λ y. (v : V) × P v × (y ≡ Memory (entry_key e, v))) → ((v : V) → P v → Q v) → IfErr r (λ y. (v : V) × Q v × (y ≡ Memory (entry_key e, v)))
+  pub refuses-some : {A : Type 0} {P Q : V → Type 0} (e : HeldEntry G N E S K T d y g b w h) (r : Result A (InsertError K V)) → IfErr r (λ y. (v : V) × P v × (y ≡ Memory (entry_key e, v))) → ((v : V) → P v → Q v) → IfErr r (λ y. (v : V) × Q v × (y ≡ Memory (entry_key e, v)))
   refuses-some e (Ok a) i f = tt
   refuses-some e (Err y) i f = (i.0, f i.0 i.1, i.2)
 
-  pub refuses-this : {A : Type 0} {P : V → Type 0} {x : V} (e : HeldEntry G N E S K T d y b w g h) (r : Result A (InsertError K V)) → IfErr r (λ y. (v : V) × P v × (y ≡ Memory (entry_key e, v))) → ((v : V) → P v → v ≡ x) → IfErr r (λ y. y ≡ Memory (entry_key e, x))
+  pub refuses-this : {A : Type 0} {P : V → Type 0} {x : V} (e : HeldEntry G N E S K T d y g b w h) (r : Result A (InsertError K V)) → IfErr r (λ y. (v : V) × P v × (y ≡ Memory (entry_key e, v))) → ((v : V) → P v → v ≡ x) → IfErr r (λ y. y ≡ Memory (entry_key e, x))
   refuses-this e (Ok a) i f = tt
   refuses-this e (Err y) i f = subst (λ v. y ≡ Memory (entry_key e, v)) (f i.0 i.1) i.2
 
 module _ {G N E S K T : Type 0} {d : guard.Ghosts G (Contents E S)} {y : keyed.Ghosts E K} {b : builder.Ghosts S T} {w : hasher.Ghosts T} {g : eq.Ghosts K} {h : hash.Ghosts K} where
   -- if a closure fails at a vacant entry, its error comes back
-  pub fails-at : {X : Type 0} (Q : K → X → Type 0) (e : HeldEntry G N E S K T d y b w g h) (x : HeldVacant G N E S K T d y b w g h) (y : X) → e ≡ Vacant x → Q x.key y → FailsAtVacant e Q y
+  pub fails-at : {X : Type 0} (Q : K → X → Type 0) (e : HeldEntry G N E S K T d y g b w h) (x : HeldVacant G N E S K T d y g b w h) (y : X) → e ≡ Vacant x → Q x.key y → FailsAtVacant e Q y
   fails-at Q e x y is gave = subst (λ z. FailsAtVacant z Q y) (sym is) (record { vacant = tt; failed = gave })
 
 module _ {G N E V S K T : Type 0} {d : guard.Ghosts G (Contents E S)} {y : keyed.Ghosts E K} {b : builder.Ghosts S T} {w : hasher.Ghosts T} {g : eq.Ghosts K} {h : hash.Ghosts K} {made : K → V → E} where
   -- if a pair is inserted through the guard, the returned entry stands at that pair
-  pub inserted-after : (e : HeldVacant G N E S K T d y b w g h) (m n : Contents E S) (v : V) (o : HeldOccupied G N E S K T d y b w g h) → o.guard ≡ d.with_inner e.guard n → o.rest ≡ e.rest → m ≡ d.inner e.guard → IsInsertedAt m (made e.key v) n o.place → IsInserted made e v o
+  pub inserted-after : (e : HeldVacant G N E S K T d y g b w h) (m n : Contents E S) (v : V) (o : HeldOccupied G N E S K T d y g b w h) → o.guard ≡ d.with_inner e.guard n → o.rest ≡ e.rest → m ≡ d.inner e.guard → IsInsertedAt m (made e.key v) n o.place → IsInserted made e v o
   inserted-after e m n v o guarded rests is i =
       let k : d.inner o.guard ≡ n = ap d.inner guarded ∙ d.inner_law e.guard n in
       record {
@@ -75,7 +75,7 @@ module _ {G N E V S K T : Type 0} {d : guard.Ghosts G (Contents E S)} {y : keyed
 
   -- if a new pair was inserted at q through the guard, an entry with that guard and the place q meets the contract of
   -- `insert_entry`
-  pub inserts-at-vacant : {taking : Bool} (same : K → K → Bool) (hash_of : S → K → ℕ) (e : HeldVacant G N E S K T d y b w g h) (m n : Contents E S) (v : V) (o : HeldOccupied G N E S K T d y b w g h) (q : Place) → o.guard ≡ d.with_inner e.guard n → o.place ≡ q → o.rest ≡ e.rest
+  pub inserts-at-vacant : {taking : Bool} (same : K → K → Bool) (hash_of : S → K → ℕ) (e : HeldVacant G N E S K T d y g b w h) (m n : Contents E S) (v : V) (o : HeldOccupied G N E S K T d y g b w h) (q : Place) → o.guard ≡ d.with_inner e.guard n → o.place ≡ q → o.rest ≡ e.rest
       → m ≡ d.inner e.guard → IsInsertedAt m (made e.key v) n q → IsGrownFor y.key_of (hash_in hash_of m) m e.key n → Relocates m n → RelocatesTwo (hash_in hash_of m e.key) m n → IsUniqueBy same y.key_of n → InsertsAtVacant made same hash_of taking e v (Ok o)
   inserts-at-vacant same hash_of e m n v o q guarded placed rests is i growth relocates two unique =
       let k : d.inner o.guard ≡ n = ap d.inner guarded ∙ d.inner_law e.guard n in
@@ -90,7 +90,7 @@ module _ {G N E V S K T : Type 0} {d : guard.Ghosts G (Contents E S)} {y : keyed
       }
 
   -- the insertion of v through a vacant entry is the insertion of a value for which P holds, if P holds of v
-  pub through-vacant : {taking : Bool} (same : K → K → Bool) (hash_of : S → K → ℕ) (P : K → V → Type 0) (e : HeldEntry G N E S K T d y b w g h) (x : HeldVacant G N E S K T d y b w g h) (v : V) (r : Result (HeldOccupied G N E S K T d y b w g h) (InsertError K V)) → e ≡ Vacant x → P x.key v → InsertsAtVacant made same hash_of taking x v r → InsertsThrough made same hash_of taking e (OrInsertsSome made e P) (RefusesSome e P) r
+  pub through-vacant : {taking : Bool} (same : K → K → Bool) (hash_of : S → K → ℕ) (P : K → V → Type 0) (e : HeldEntry G N E S K T d y g b w h) (x : HeldVacant G N E S K T d y g b w h) (v : V) (r : Result (HeldOccupied G N E S K T d y g b w h) (InsertError K V)) → e ≡ Vacant x → P x.key v → InsertsAtVacant made same hash_of taking x v r → InsertsThrough made same hash_of taking e (OrInsertsSome made e P) (RefusesSome e P) r
   through-vacant {taking} same hash_of P e x v r is gave put =
       subst (λ z. InsertsThrough made same hash_of taking z (OrInsertsSome made z P) (RefusesSome z P) r) (sym is) record {
         entry = map-ok (IsInserted made x v) (OrInsertsSome made (Vacant x) P) r (λ o i. (v, gave, i)) put.inserted;
@@ -104,24 +104,24 @@ module _ {G N E V S K T : Type 0} {d : guard.Ghosts G (Contents E S)} {y : keyed
 
 module _ {G N E V S K T : Type 0} {d : guard.Ghosts G (Contents E S)} {y : keyed.Ghosts E K} {b : builder.Ghosts S T} {w : hasher.Ghosts T} {g : eq.Ghosts K} {h : hash.Ghosts K} (made : K → V → E) where
   -- if P implies Q, an insertion of some value with P is an insertion of some value with Q
-  pub inserts-some : {X : Type 0} {P Q : K → V → Type 0} (e : HeldEntry G N E S K T d y b w g h) (r : Result (HeldOccupied G N E S K T d y b w g h) X) → IfOk r (OrInsertsSome made e P) → ((k : K) (v : V) → P k v → Q k v) → IfOk r (OrInsertsSome made e Q)
+  pub inserts-some : {X : Type 0} {P Q : K → V → Type 0} (e : HeldEntry G N E S K T d y g b w h) (r : Result (HeldOccupied G N E S K T d y g b w h) X) → IfOk r (OrInsertsSome made e P) → ((k : K) (v : V) → P k v → Q k v) → IfOk r (OrInsertsSome made e Q)
   inserts-some (Occupied p) (Ok o) i f = i
   inserts-some (Vacant e) (Ok o) i f = (i.0, f e.key i.0 i.1, i.2)
   inserts-some e (Err x) i f = tt
 
   -- if x is the only value with P, an insertion of some value with P is an insertion of x
-  pub inserts-this : {X : Type 0} {P : K → V → Type 0} {x : V} (e : HeldEntry G N E S K T d y b w g h) (r : Result (HeldOccupied G N E S K T d y b w g h) X) → IfOk r (OrInsertsSome made e P) → ((k : K) (v : V) → P k v → v ≡ x) → IfOk r (OrInserts made e x)
+  pub inserts-this : {X : Type 0} {P : K → V → Type 0} {x : V} (e : HeldEntry G N E S K T d y g b w h) (r : Result (HeldOccupied G N E S K T d y g b w h) X) → IfOk r (OrInsertsSome made e P) → ((k : K) (v : V) → P k v → v ≡ x) → IfOk r (OrInserts made e x)
   inserts-this (Occupied p) (Ok o) i f = i
   inserts-this (Vacant e) (Ok o) i f = subst (λ v. IsInserted made e v o) (f e.key i.0 i.1) i.2
   inserts-this e (Err x) i f = tt
 
-  some-as : (P P' : K → V → Type 0) (e : HeldEntry G N E S K T d y b w g h) (o : HeldOccupied G N E S K T d y b w g h) → ((k : K) (v : V) → P' k v → P k v) → OrInsertsSome made e P' o → OrInsertsSome made e P o
+  some-as : (P P' : K → V → Type 0) (e : HeldEntry G N E S K T d y g b w h) (o : HeldOccupied G N E S K T d y g b w h) → ((k : K) (v : V) → P' k v → P k v) → OrInsertsSome made e P' o → OrInsertsSome made e P o
   some-as P P' (Occupied p) o f i = i
   some-as P P' (Vacant x) o f i = (i.0, f x.key i.0 i.1, i.2)
 
   -- an insertion of a value that a closure makes meets the contract for P and Q if it meets that for P' and Q', which
   -- imply them
-  pub tries-as : {X : Type 0} {P' : K → V → Type 0} {Q' : K → X → Type 0} (taking : Bool) (same : K → K → Bool) (hash_of : S → K → ℕ) (P : K → V → Type 0) (Q : K → X → Type 0) (e : HeldEntry G N E S K T d y b w g h) (r : Result (HeldOccupied G N E S K T d y b w g h) (TryInsertError K V X)) → TriesThrough made same hash_of taking e P' Q' r
+  pub tries-as : {X : Type 0} {P' : K → V → Type 0} {Q' : K → X → Type 0} (taking : Bool) (same : K → K → Bool) (hash_of : S → K → ℕ) (P : K → V → Type 0) (Q : K → X → Type 0) (e : HeldEntry G N E S K T d y g b w h) (r : Result (HeldOccupied G N E S K T d y g b w h) (TryInsertError K V X)) → TriesThrough made same hash_of taking e P' Q' r
       → ((k : K) (v : V) → P' k v → P k v) → ((k : K) (x : X) → Q' k x → Q k x) → TriesThrough made same hash_of taking e P Q r
   tries-as {P' = P'} taking same hash_of P Q e (Ok o) t f g = record {
     entry = some-as P P' e o f t.entry;
@@ -145,5 +145,5 @@ module _ {G N E V S K T : Type 0} {d : guard.Ghosts G (Contents E S)} {y : keyed
 
 module _ {N E S K T : Type 0} {d : guard.Ghosts (MutBor (Contents E S)) (Contents E S)} {y : keyed.Ghosts E K} {b : builder.Ghosts S T} {w : hasher.Ghosts T} {g : eq.Ghosts K} {h : hash.Ghosts K} where
   -- the container that a vacant entry borrows
-  pub vacant-now : (e : HeldEntry (MutBor (Contents E S)) N E S K T d y b w g h) (x : HeldVacant (MutBor (Contents E S)) N E S K T d y b w g h) → e ≡ Vacant x → x.guard.now ≡ (entry_guard e).now
-  vacant-now e x is = ap (λ (z : HeldEntry (MutBor (Contents E S)) N E S K T d y b w g h). (entry_guard z).now) (sym is)
+  pub vacant-now : (e : HeldEntry (MutBor (Contents E S)) N E S K T d y g b w h) (x : HeldVacant (MutBor (Contents E S)) N E S K T d y g b w h) → e ≡ Vacant x → x.guard.now ≡ (entry_guard e).now
+  vacant-now e x is = ap (λ (z : HeldEntry (MutBor (Contents E S)) N E S K T d y g b w h). (entry_guard z).now) (sym is)

@@ -29,7 +29,7 @@ module _ {F K V R S : Type 0} (g : Once F (Bor K × (MutBor V × Unit {0})) (R �
         r,
         w,
         refl,
-        record { key = called.key; value = called.value; shows = ap (λ a. (a, called.value.now)) called.shows_key ∙ ap (λ b. (e.0, b)) called.shows_value; left = called.left; met = called.met; leaves = called.leaves },
+        called,
         subst (λ (z : Contents (K × V) S). HoldsExactly c (set_value (eq k) (entries c) w) z) (sym written) (value-written laws c q found.within k unique at w),
       )
 
@@ -43,7 +43,7 @@ module _ {F K V R S : Type 0} (g : Once F (Bor K × (MutBor V × Unit {0})) (R �
         w,
         here,
         ap (λ (x : K × V). eq k x.0) (sym pair) ∙ at.3,
-        record { key = called.key; value = called.value; shows = ap (λ a. (a, called.value.now)) called.shows_key ∙ ap (λ b. (e.0, b)) called.shows_value; left = called.left; met = called.met; leaves = called.leaves },
+        called,
         finds-set_value laws c d k e w here (subst (λ (z : Contents (K × V) S). HoldsExactly c (set_value (eq k) (entries c) w) z) (sym written) (value-written laws c q found.within k unique at w)),
       )
 

@@ -17,21 +17,21 @@ use Rattle.scc_owned.specs.declared.held.HeldVacant.{HeldVacant}
 
 module _ {G N K V S T : Type 0} {d : guard.Ghosts G (Contents (K × V) S)} {b : builder.Ghosts S T} {w : hasher.Ghosts T} {g : eq.Ghosts K} {h : hash.Ghosts K} where
   -- the container is c, and o stands at the pair of k
-  abbrev pub IsOccupiedAt : (K → K → Bool) → Contents (K × V) S → K → HeldOccupied G N (K × V) S K T d pair_keys b w g h → Type 0
+  abbrev pub IsOccupiedAt : (K → K → Bool) → Contents (K × V) S → K → HeldOccupied G N (K × V) S K T d pair_keys g b w h → Type 0
   IsOccupiedAt same c k o = lookups.IsOccupiedAt pair_lookups same c k o
 
   -- the container is c, and e has the key k, which the container lacks
-  abbrev pub IsVacantAt : (K → K → Bool) → Contents (K × V) S → K → HeldVacant G N (K × V) S K T d pair_keys b w g h → Type 0
+  abbrev pub IsVacantAt : (K → K → Bool) → Contents (K × V) S → K → HeldVacant G N (K × V) S K T d pair_keys g b w h → Type 0
   IsVacantAt same c k e = lookups.IsVacantAt pair_lookups same c k e
 
   -- the entry is the entry of k: occupied if the container has k, else vacant
-  abbrev pub IsEntryOf : (K → K → Bool) → Contents (K × V) S → K → HeldEntry G N (K × V) S K T d pair_keys b w g h → Type 0
+  abbrev pub IsEntryOf : (K → K → Bool) → Contents (K × V) S → K → HeldEntry G N (K × V) S K T d pair_keys g b w h → Type 0
   IsEntryOf same c k e = lookups.IsEntryOf pair_lookups same c k e
 
   -- o stands at the pair that was inserted through e
-  abbrev pub IsInserted : HeldVacant G N (K × V) S K T d pair_keys b w g h → V → HeldOccupied G N (K × V) S K T d pair_keys b w g h → Type 0
+  abbrev pub IsInserted : HeldVacant G N (K × V) S K T d pair_keys g b w h → V → HeldOccupied G N (K × V) S K T d pair_keys g b w h → Type 0
   IsInserted e v o = inserting.IsInserted pair_lookups.made e v o
 
   -- o is the entry; if the entry was vacant, v was inserted
-  abbrev pub OrInserts : HeldEntry G N (K × V) S K T d pair_keys b w g h → V → HeldOccupied G N (K × V) S K T d pair_keys b w g h → Type 0
+  abbrev pub OrInserts : HeldEntry G N (K × V) S K T d pair_keys g b w h → V → HeldOccupied G N (K × V) S K T d pair_keys g b w h → Type 0
   OrInserts e v o = inserting.OrInserts pair_lookups.made e v o

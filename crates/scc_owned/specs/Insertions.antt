@@ -92,40 +92,40 @@ module _ {E K S : Type 0} (key : E → K) where
 
 module _ {G N E V S K T : Type 0} {d : guard.Ghosts G (Contents E S)} {y : keyed.Ghosts E K} {b : builder.Ghosts S T} {w : hasher.Ghosts T} {g : eq.Ghosts K} {h : hash.Ghosts K} (made : K → V → E) where
   -- o stands at the pair that was inserted through e
-  pub record IsInserted (e : HeldVacant G N E S K T d y b w g h) (v : V) (o : HeldOccupied G N E S K T d y b w g h) : Type 0 where
+  pub record IsInserted (e : HeldVacant G N E S K T d y g b w h) (v : V) (o : HeldOccupied G N E S K T d y g b w h) : Type 0 where
     pub same_guard : o.guard ≡ d.with_inner e.guard (d.inner o.guard)
     pub rest : o.rest ≡ e.rest
     pub at : IsPutAt (d.inner e.guard) (made e.key v) (d.inner o.guard) o.place o.within
 
   -- o is the entry; if the entry was vacant, a value for which P holds was inserted
-  abbrev pub OrInsertsSome : HeldEntry G N E S K T d y b w g h → (K → V → Type 0) → HeldOccupied G N E S K T d y b w g h → Type 0
+  abbrev pub OrInsertsSome : HeldEntry G N E S K T d y g b w h → (K → V → Type 0) → HeldOccupied G N E S K T d y g b w h → Type 0
   OrInsertsSome (Occupied p) P o = o ≡ p
   OrInsertsSome (Vacant e) P o = (v : V) × P e.key v × IsInserted e v o
 
   -- o is the entry; if the entry was vacant, v was inserted
-  abbrev pub OrInserts : HeldEntry G N E S K T d y b w g h → V → HeldOccupied G N E S K T d y b w g h → Type 0
+  abbrev pub OrInserts : HeldEntry G N E S K T d y g b w h → V → HeldOccupied G N E S K T d y g b w h → Type 0
   OrInserts (Occupied p) v o = o ≡ p
   OrInserts (Vacant e) v o = IsInserted e v o
 
 module _ {G N E S K T : Type 0} {d : guard.Ghosts G (Contents E S)} {y : keyed.Ghosts E K} {b : builder.Ghosts S T} {w : hasher.Ghosts T} {g : eq.Ghosts K} {h : hash.Ghosts K} where
   -- the container lacks the key of the entry
-  abbrev pub IsVacant : HeldEntry G N E S K T d y b w g h → Type 0
+  abbrev pub IsVacant : HeldEntry G N E S K T d y g b w h → Type 0
   IsVacant (Occupied o) = ⊥
   IsVacant (Vacant e) = ⊤
 
   -- if a value was inserted, the array grew as an insertion of the key may and must grow it
-  abbrev pub GrowsThrough : (K → ℕ) → HeldEntry G N E S K T d y b w g h → HeldOccupied G N E S K T d y b w g h → Type 0
+  abbrev pub GrowsThrough : (K → ℕ) → HeldEntry G N E S K T d y g b w h → HeldOccupied G N E S K T d y g b w h → Type 0
   GrowsThrough hash (Occupied p) o = ⊤
   GrowsThrough hash (Vacant e) o = IsGrownFor y.key_of hash (d.inner e.guard) e.key (d.inner o.guard)
 
   -- if a value was inserted, the buckets wait that an insertion of the key leaves waiting; else the same buckets as
   -- before
-  abbrev pub RelocatesThrough : (K → ℕ) → HeldEntry G N E S K T d y b w g h → HeldOccupied G N E S K T d y b w g h → Type 0
+  abbrev pub RelocatesThrough : (K → ℕ) → HeldEntry G N E S K T d y g b w h → HeldOccupied G N E S K T d y g b w h → Type 0
   RelocatesThrough hash (Occupied p) o = waiting_of (d.inner o.guard) ≡ waiting_of (d.inner p.guard)
   RelocatesThrough hash (Vacant e) o = Relocates (d.inner e.guard) (d.inner o.guard) × RelocatesTwo (hash e.key) (d.inner e.guard) (d.inner o.guard)
 
   -- the closure that was to make the value for the entry e failed with x
-  pub record FailsAtVacant {X : Type 0} (e : HeldEntry G N E S K T d y b w g h) (Q : K → X → Type 0) (x : X) : Type 0 where
+  pub record FailsAtVacant {X : Type 0} (e : HeldEntry G N E S K T d y g b w h) (Q : K → X → Type 0) (x : X) : Type 0 where
     -- the closure is called only at a vacant entry
     pub vacant : IsVacant e
     -- Q holds of the key and the error
@@ -133,17 +133,17 @@ module _ {G N E S K T : Type 0} {d : guard.Ghosts G (Contents E S)} {y : keyed.G
 
 module _ {G N E V S K T : Type 0} {d : guard.Ghosts G (Contents E S)} {y : keyed.Ghosts E K} {b : builder.Ghosts S T} {w : hasher.Ghosts T} {g : eq.Ghosts K} {h : hash.Ghosts K} where
   -- memory was refused: the key comes back with v
-  abbrev pub Refuses : HeldEntry G N E S K T d y b w g h → V → InsertError K V → Type 0
+  abbrev pub Refuses : HeldEntry G N E S K T d y g b w h → V → InsertError K V → Type 0
   Refuses e v r = r ≡ Memory (entry_key e, v)
 
   -- memory was refused: the key comes back with a value for which P holds
-  abbrev pub RefusesSome : HeldEntry G N E S K T d y b w g h → (K → V → Type 0) → InsertError K V → Type 0
+  abbrev pub RefusesSome : HeldEntry G N E S K T d y g b w h → (K → V → Type 0) → InsertError K V → Type 0
   RefusesSome e P r = (v : V) × P (entry_key e) v × (r ≡ Memory (entry_key e, v))
 
 module _ {G N E V S K T : Type 0} {d : guard.Ghosts G (Contents E S)} {y : keyed.Ghosts E K} {b : builder.Ghosts S T} {w : hasher.Ghosts T} {g : eq.Ghosts K} {h : hash.Ghosts K} (made : K → V → E) where
   module _ (same : K → K → Bool) (hash_of : S → K → ℕ) (taking : Bool) where
     -- the contract of `insert_entry` of the vacant entry e: with the value v it returns `result`
-    pub record InsertsAtVacant (e : HeldVacant G N E S K T d y b w g h) (v : V) (result : Result (HeldOccupied G N E S K T d y b w g h) (InsertError K V)) : Type 0 where
+    pub record InsertsAtVacant (e : HeldVacant G N E S K T d y g b w h) (v : V) (result : Result (HeldOccupied G N E S K T d y g b w h) (InsertError K V)) : Type 0 where
       -- the key is inserted with the value, and the result is its entry
       pub inserted : IfOk result (IsInserted made e v)
       -- the first array was made if it was due, or the array grew as an insertion of the key may and must grow it
@@ -162,7 +162,7 @@ module _ {G N E V S K T : Type 0} {d : guard.Ghosts G (Contents E S)} {y : keyed
 
     -- the contract of an insertion through the entry e, which returns `result`: P holds of the returned entry, Q of
     -- the error
-    pub record InsertsThrough (e : HeldEntry G N E S K T d y b w g h) (P : HeldOccupied G N E S K T d y b w g h → Type 0) (Q : InsertError K V → Type 0) (result : Result (HeldOccupied G N E S K T d y b w g h) (InsertError K V)) : Type 0 where
+    pub record InsertsThrough (e : HeldEntry G N E S K T d y g b w h) (P : HeldOccupied G N E S K T d y g b w h → Type 0) (Q : InsertError K V → Type 0) (result : Result (HeldOccupied G N E S K T d y g b w h) (InsertError K V)) : Type 0 where
       -- if it succeeds, P holds of the returned entry
       pub entry : IfOk result P
       -- if memory is refused, the key comes back with the value
@@ -181,7 +181,7 @@ module _ {G N E V S K T : Type 0} {d : guard.Ghosts G (Contents E S)} {y : keyed
     -- the contract of an insertion through the entry e of a value that a closure makes, or fails to make: it returns
     -- `result`. P holds of a key and a value that the closure makes of it, Q of a key and an error with which it fails.
     -- If the closure doesn't fail, the call is the insertion of a value with P
-    abbrev pub TriesThrough : {X : Type 0} → HeldEntry G N E S K T d y b w g h → (K → V → Type 0) → (K → X → Type 0) → Result (HeldOccupied G N E S K T d y b w g h) (TryInsertError K V X) → Type 0
+    abbrev pub TriesThrough : {X : Type 0} → HeldEntry G N E S K T d y g b w h → (K → V → Type 0) → (K → X → Type 0) → Result (HeldOccupied G N E S K T d y g b w h) (TryInsertError K V X) → Type 0
     TriesThrough e P Q (Ok o) = InsertsThrough e (OrInsertsSome made e P) (RefusesSome e P) (Ok o)
     TriesThrough e P Q (Err (NoMemory p)) = InsertsThrough e (OrInsertsSome made e P) (RefusesSome e P) (Err (Memory p))
     TriesThrough e P Q (Err (Failed x)) = FailsAtVacant e Q x

@@ -20,7 +20,7 @@ pair_keys = record { key_of = λ e. e.0 }
 module _ (E S K H : RattleType) (by : keyed.Ghosts E.Denot K.Denot) (key : HashMembers K.Denot) (build : builder.Ghosts S.Denot H.Denot) (feed : hasher.Ghosts H.Denot) where
   -- the type of a container of entries E
   abbrev pub owned_row : RattleType
-  owned_row = the_row E S K H by build feed (record {}) (record { eq = key.eq }) (record { hash_input = key.hash_input })
+  owned_row = the_row E S K H by (record {}) (record { eq = key.eq }) build feed (record { hash_input = key.hash_input })
 
 module _ (K V : RattleType) where
   -- the type of an entry of a map

@@ -76,7 +76,7 @@ pair_lookups-lawful = record {
 
 module _ {G N E V S K T : Type 0} {d : guard.Ghosts G (Contents E S)} {y : keyed.Ghosts E K} {b : builder.Ghosts S T} {w : hasher.Ghosts T} {g : eq.Ghosts K} {h : hash.Ghosts K} (l : Lookups E K V) where
   -- the container is c, and o stands at the pair of k
-  pub record IsOccupiedAt (same : K → K → Bool) (c : Contents E S) (k : K) (o : HeldOccupied G N E S K T d y b w g h) : Type 0 where
+  pub record IsOccupiedAt (same : K → K → Bool) (c : Contents E S) (k : K) (o : HeldOccupied G N E S K T d y g b w h) : Type 0 where
     pub contents : d.inner o.guard ≡ c
     pub found : l.find (same k) (entries c) ≡ Some (occupied_pair o)
     pub equal : same k (y.key_of (occupied_pair o)) ≡ true
@@ -85,12 +85,12 @@ module _ {G N E V S K T : Type 0} {d : guard.Ghosts G (Contents E S)} {y : keyed
     pub removes : occupied_front o ++ occupied_back o ≡ l.without (same k) (entries c)
 
   -- the container is c, and e has the key k, which the container lacks
-  pub record IsVacantAt (same : K → K → Bool) (c : Contents E S) (k : K) (e : HeldVacant G N E S K T d y b w g h) : Type 0 where
+  pub record IsVacantAt (same : K → K → Bool) (c : Contents E S) (k : K) (e : HeldVacant G N E S K T d y g b w h) : Type 0 where
     pub contents : d.inner e.guard ≡ c
     pub found : l.find (same k) (entries c) ≡ None
     pub key : e.key ≡ k
 
   -- the entry is the entry of k: occupied if the container has k, else vacant
-  abbrev pub IsEntryOf : (K → K → Bool) → Contents E S → K → HeldEntry G N E S K T d y b w g h → Type 0
+  abbrev pub IsEntryOf : (K → K → Bool) → Contents E S → K → HeldEntry G N E S K T d y g b w h → Type 0
   IsEntryOf same c k (Occupied o) = IsOccupiedAt same c k o
   IsEntryOf same c k (Vacant e) = IsVacantAt same c k e

@@ -47,27 +47,27 @@ value_apart same m p within u v =
 
 module _ {G N K V S T : Type 0} {d : guard.Ghosts G (Contents (K × V) S)} {b : builder.Ghosts S T} {w : hasher.Ghosts T} {g : eq.Ghosts K} {h : hash.Ghosts K} where
   -- p is the entry o after v became its value
-  pub record IsWritten (o : HeldOccupied G N (K × V) S K T d pair_keys b w g h) (v : V) (p : HeldOccupied G N (K × V) S K T d pair_keys b w g h) : Type 0 where
+  pub record IsWritten (o : HeldOccupied G N (K × V) S K T d pair_keys g b w h) (v : V) (p : HeldOccupied G N (K × V) S K T d pair_keys g b w h) : Type 0 where
     pub same_guard : p.guard ≡ d.with_inner o.guard (d.inner p.guard)
     pub rest : p.rest ≡ o.rest
     pub at : IsWrittenAt (d.inner o.guard) o.place ((occupied_pair o).0, v) (d.inner p.guard) p.place p.within
 
   -- the map after v became the value of the entry's pair
-  abbrev pub written_map : HeldOccupied G N (K × V) S K T d pair_keys b w g h → V → Contents (K × V) S
+  abbrev pub written_map : HeldOccupied G N (K × V) S K T d pair_keys g b w h → V → Contents (K × V) S
   written_map o v = with_write_at with_pair_value (d.inner o.guard) o.place v
 
   -- the place of an entry is still a place after a write to it
-  pub still_within : (o : HeldOccupied G N (K × V) S K T d pair_keys b w g h) (v : V) → IsPlace (d.inner (d.with_inner o.guard (written_map o v))) o.place
+  pub still_within : (o : HeldOccupied G N (K × V) S K T d pair_keys g b w h) (v : V) → IsPlace (d.inner (d.with_inner o.guard (written_map o v))) o.place
   still_within o v =
       let P : Contents (K × V) S → Type 0 = λ c. IsPlace c o.place in
       subst P (sym (d.inner_law o.guard (written_map o v))) (IsPlace-with_write_at with_pair_value (d.inner o.guard) o.place v o.within)
 
   -- keys are still distinct after a write to an entry
-  pub still_unique : (o : HeldOccupied G N (K × V) S K T d pair_keys b w g h) (v : V) → IsUnique g.eq (d.inner (d.with_inner o.guard (written_map o v)))
+  pub still_unique : (o : HeldOccupied G N (K × V) S K T d pair_keys g b w h) (v : V) → IsUnique g.eq (d.inner (d.with_inner o.guard (written_map o v)))
   still_unique o v = subst (λ c. IsUnique g.eq c) (sym (d.inner_law o.guard (written_map o v))) (value_apart g.eq (d.inner o.guard) o.place o.within o.unique v)
 
   -- o after v became its value
-  abbrev pub with_value : HeldOccupied G N (K × V) S K T d pair_keys b w g h → V → HeldOccupied G N (K × V) S K T d pair_keys b w g h
+  abbrev pub with_value : HeldOccupied G N (K × V) S K T d pair_keys g b w h → V → HeldOccupied G N (K × V) S K T d pair_keys g b w h
   with_value o v = record {
     guard = d.with_inner o.guard (written_map o v);
     place = o.place;
@@ -78,33 +78,33 @@ module _ {G N K V S T : Type 0} {d : guard.Ghosts G (Contents (K × V) S)} {b : 
   }
 
   -- o is the entry, with v as its value; if the entry was vacant, v was inserted
-  abbrev pub SetsEntry : HeldEntry G N (K × V) S K T d pair_keys b w g h → V → HeldOccupied G N (K × V) S K T d pair_keys b w g h → Type 0
+  abbrev pub SetsEntry : HeldEntry G N (K × V) S K T d pair_keys g b w h → V → HeldOccupied G N (K × V) S K T d pair_keys g b w h → Type 0
   SetsEntry (Occupied p) v o = IsWritten p v o
   SetsEntry (Vacant e) v o = IsInserted e v o
 
   -- the guard of the entry's map
-  abbrev pub replaced_guard : HeldReplace G N (K × V) S K T d pair_keys b w g h → G
+  abbrev pub replaced_guard : HeldReplace G N (K × V) S K T d pair_keys g b w h → G
   replaced_guard (Replaced o k) = o.guard
   replaced_guard (NotReplaced e) = e.guard
 
   -- k is put in the place of the key that equals it, where o stands; if no key equals k, nothing changes
-  abbrev pub Replaces : (K → K → Bool) → Contents (K × V) S → K → HeldReplace G N (K × V) S K T d pair_keys b w g h → Type 0
+  abbrev pub Replaces : (K → K → Bool) → Contents (K × V) S → K → HeldReplace G N (K × V) S K T d pair_keys g b w h → Type 0
   Replaces same c k (Replaced o old) = SwapsKey same (entries c) k old (λ v es. (occupied_pair o ≡ (k, v)) × HoldsExactly c es (d.inner o.guard))
   Replaces same c k (NotReplaced e) = IsVacantAt same c k e
 
   module _ {F : Type 0} (f : Once F (MutBor V × Unit {0}) (Unit {0} × (MutBor V × Unit {0}))) (x : F) where
     -- f may be called on the value
-    abbrev pub TakesEntry : HeldEntry G N (K × V) S K T d pair_keys b w g h → Type 0
+    abbrev pub TakesEntry : HeldEntry G N (K × V) S K T d pair_keys g b w h → Type 0
     TakesEntry (Occupied o) = FnOnceTakesAtMut f x (occupied_pair o).1
     TakesEntry (Vacant e) = ⊤
 
     -- the entry after f was called on its value
-    abbrev pub Modifies : HeldEntry G N (K × V) S K T d pair_keys b w g h → HeldEntry G N (K × V) S K T d pair_keys b w g h → Type 0
+    abbrev pub Modifies : HeldEntry G N (K × V) S K T d pair_keys g b w h → HeldEntry G N (K × V) S K T d pair_keys g b w h → Type 0
     Modifies (Occupied o) (Occupied p) = (v : V) × FnOnceReturnsAtMut f x (occupied_pair o).1 tt v × IsWritten o v p
     Modifies (Vacant e) (Vacant p) = p ≡ e
     Modifies e p = ⊥
 
 module _ (G N K V S T : RattleType) {d : guard.Ghosts G.Denot (Contents (K.Denot × V.Denot) S.Denot)} {b : builder.Ghosts S.Denot T.Denot} {w : hasher.Ghosts T.Denot} {g : eq.Ghosts K.Denot} {h : hash.Ghosts K.Denot} where
   -- after the borrow r ends, the entry behind o has the last value written through r
-  abbrev pub occupied_lends : MutBor (HeldOccupied G.Denot N.Denot (K.Denot × V.Denot) S.Denot K.Denot T.Denot d pair_keys b w g h) → MutBor V.Denot → Fml
-  occupied_lends o r = Lends (the_row G N (pair_row K V) S K T d pair_keys b w g h) V o r (with_value o.now)
+  abbrev pub occupied_lends : MutBor (HeldOccupied G.Denot N.Denot (K.Denot × V.Denot) S.Denot K.Denot T.Denot d pair_keys g b w h) → MutBor V.Denot → Fml
+  occupied_lends o r = Lends (the_row G N (pair_row K V) S K T d pair_keys g b w h) V o r (with_value o.now)

@@ -29,7 +29,7 @@ pub trait Stored: Keyed + Sized {
         value: Self::Value,
     ) -> Result<Place, (Self::Key, Self::Value)>
     where
-        Self::Key: Eq + Hash,
+        Self::Key: Hash,
         requires hashed { hash ≡ hash_in ⟦<H as Hashes<Self::Key>>⟧.hash_of owned.old key }
         requires absent { position (λ e. Self.Key.eq key (Self.key_of e)) (entries owned.old) ≡ None }
         ensures { InsertsInto Self.key_of Self.Key.eq ⟦<H as Hashes<Self::Key>>⟧.hash_of taking owned.old key value
@@ -38,7 +38,7 @@ pub trait Stored: Keyed + Sized {
     ghost lawful: { AreLawful lookups Self.key_of };
 }
 
-impl<K, V> Stored for (K, V) {
+impl<K: Eq, V> Stored for (K, V) {
     type Value = V;
 
     ghost lookups = { pair_lookups };
@@ -53,7 +53,7 @@ impl<K, V> Stored for (K, V) {
         value: V,
     ) -> Result<Place, (K, V)>
     where
-        K: Eq + Hash,
+        K: Hash,
     {
         owned.insert_new(hash, key, value)
     }
@@ -61,7 +61,7 @@ impl<K, V> Stored for (K, V) {
     ghost lawful = { pair_lookups-lawful };
 }
 
-impl<K, V> Stored for SharedVersion<K, V> {
+impl<K: Eq, V> Stored for SharedVersion<K, V> {
     type Value = V;
 
     ghost lookups = { pair_lookups };
@@ -76,7 +76,7 @@ impl<K, V> Stored for SharedVersion<K, V> {
         value: V,
     ) -> Result<Place, (K, V)>
     where
-        K: Eq + Hash,
+        K: Hash,
     {
         owned.insert_new(hash, key, value)
     }

@@ -6,6 +6,10 @@
 
 ghost use Rattle.std.specs.Prelude.{◌≡◌, true};
 
+pub mod ruled;
+
+pub use ruled::Ruled;
+
 /// A rule that a container keeps for each of its pairs: a route leads to its own address, a square is the square of its
 /// key.
 pub trait Rule<K: Eq, V> {

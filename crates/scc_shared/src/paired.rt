@@ -16,7 +16,7 @@ pub trait Paired: Stored {
     /// Returns the key and the value of the entry at `place`.
     fn pair_at<H: BuildHasher>(owned: &Owned<Self, H>, place: Place) -> (&Self::Key, &Self::Value)
     where
-        Self::Key: Eq + Hash,
+        Self::Key: Hash,
         requires { IsPlace owned.now place }
         ensures { slice_get (entries owned.now) (index_of owned.now place)
             ≡ Some (Self.lookups.made result.0.now result.1.now) };
@@ -28,7 +28,7 @@ pub trait Paired: Stored {
         f: F,
     ) -> bool
     where
-        Self::Key: Eq + Hash,
+        Self::Key: Hash,
         requires { F.IsAlwaysCallable f }
         ensures { (es : List (Self.Key × Self.Value)) × (last : F)
             × IsPermutation (entries owned.now) (map (λ p. Self.lookups.made p.0 p.1) es)
@@ -37,16 +37,16 @@ pub trait Paired: Stored {
     /// Returns whether `k` is in `owned` with a value that equals `v`.
     fn has_equal<H: BuildHasher>(owned: &Owned<Self, H>, k: &Self::Key, v: &Self::Value) -> bool
     where
-        Self::Key: Eq + Hash,
+        Self::Key: Hash,
         Self::Value: PartialEq,
         ensures { HasEqual Self.lookups Self.Key.eq Self.Value.eq (entries owned.now) k.now v.now result };
 }
 
-impl<K, V> Paired for (K, V) {
+impl<K: Eq, V> Paired for (K, V) {
     #[inline(always)]
     fn pair_at<H: BuildHasher>(owned: &Owned<(K, V), H>, place: Place) -> (&K, &V)
     where
-        K: Eq + Hash,
+        K: Hash,
     {
         owned.pair_at(place)
     }
@@ -54,7 +54,7 @@ impl<K, V> Paired for (K, V) {
     #[inline(always)]
     fn all<H: BuildHasher, F: FnMut(&K, &V) -> bool>(owned: &Owned<(K, V), H>, f: F) -> bool
     where
-        K: Eq + Hash,
+        K: Hash,
     {
         owned.iter_sync(f)
     }
@@ -62,7 +62,7 @@ impl<K, V> Paired for (K, V) {
     #[inline(always)]
     fn has_equal<H: BuildHasher>(owned: &Owned<(K, V), H>, k: &K, v: &V) -> bool
     where
-        K: Eq + Hash,
+        K: Hash,
         V: PartialEq,
     {
         match owned.read_sync(k, |_, w| *w == *v) {
@@ -72,11 +72,11 @@ impl<K, V> Paired for (K, V) {
     }
 }
 
-impl<K, V> Paired for SharedVersion<K, V> {
+impl<K: Eq, V> Paired for SharedVersion<K, V> {
     #[inline(always)]
     fn pair_at<H: BuildHasher>(owned: &Owned<SharedVersion<K, V>, H>, place: Place) -> (&K, &V)
     where
-        K: Eq + Hash,
+        K: Hash,
     {
         owned.pair_at(place)
     }
@@ -87,7 +87,7 @@ impl<K, V> Paired for SharedVersion<K, V> {
         f: F,
     ) -> bool
     where
-        K: Eq + Hash,
+        K: Hash,
     {
         owned.iter_sync(f)
     }
@@ -95,7 +95,7 @@ impl<K, V> Paired for SharedVersion<K, V> {
     #[inline(always)]
     fn has_equal<H: BuildHasher>(owned: &Owned<SharedVersion<K, V>, H>, k: &K, v: &V) -> bool
     where
-        K: Eq + Hash,
+        K: Hash,
         V: PartialEq,
     {
         match owned.peek_with(k, |_, w| *w == *v) {

@@ -20,7 +20,7 @@ use borrow.Author.Tests.{eqb-true}
 
 module _ {G N S T : Type 0} {keep : guard.Ghosts G (Contents (ℕ × ℕ) S)} {g : equality.Ghosts ℕ} {h : hash.Ghosts ℕ} {b : builder.Ghosts S T} {w : hasher.Ghosts T} (c : Contents (ℕ × ℕ) S) (k : ℕ)
     {F : Type 0} (f : Once F (MutBor ℕ × Unit {0}) (Unit {0} × (MutBor ℕ × Unit {0}))) (x : F) (says : (m n : ℕ) → FnOnceReturnsAtMut f x m tt n → n ≡ min (suc m) (2 ^ 64 - 1)) where
-  pub counted : (e : HeldEntry G N (ℕ × ℕ) S ℕ T keep pair_keys b w g h) (q : ℕ × ℕ) → IsEntryOf nat_eq c k e → ModifiedOr nat_eq_equiv c k f x e 1 q → q ≡ (k, one_more (find nat_eq (entries c) k))
+  pub counted : (e : HeldEntry G N (ℕ × ℕ) S ℕ T keep pair_keys g b w h) (q : ℕ × ℕ) → IsEntryOf nat_eq c k e → ModifiedOr nat_eq_equiv c k f x e 1 q → q ≡ (k, one_more (find nat_eq (entries c) k))
   counted (Occupied p) q at m =
       let key : q.0 ≡ k = m.0 ∙ sym (eqb-true k (occupied_pair p).0 at.equal) in
       let value : q.1 ≡ one_more (find nat_eq (entries c) k) = says (occupied_pair p).1 q.1 m.1 ∙ sym (ap one_more at.found) in

@@ -21,19 +21,19 @@ use borrow.Author.Tests.{eqb-true}
 
 module _ {G N S T : Type 0} {keep : guard.Ghosts G (Contents (ℕ × ℕ) S)} {g : equality.Ghosts ℕ} {h : hash.Ghosts ℕ} {b : builder.Ghosts S T} {w : hasher.Ghosts T} where
   -- the entry d is e, and if e is occupied, the count of d is one more than the count of e
-  abbrev pub CountsUp : (ℕ → ℕ → Type 0) → HeldEntry G N (ℕ × ℕ) S ℕ T keep pair_keys b w g h → HeldEntry G N (ℕ × ℕ) S ℕ T keep pair_keys b w g h → Type 0
+  abbrev pub CountsUp : (ℕ → ℕ → Type 0) → HeldEntry G N (ℕ × ℕ) S ℕ T keep pair_keys g b w h → HeldEntry G N (ℕ × ℕ) S ℕ T keep pair_keys g b w h → Type 0
   CountsUp C (Occupied p) (Occupied d) = (n : ℕ) × (n ≡ min (suc (occupied_pair p).1) (2 ^ 64 - 1)) × IsUpdated C nat_eq p n d
   CountsUp C (Vacant e) (Vacant d) = d ≡ e
   CountsUp C e d = ⊥
 
   -- an occupied entry is returned unchanged, with a number that is one more than its count
-  abbrev pub KeepsCount : HeldEntry G N (ℕ × ℕ) S ℕ T keep pair_keys b w g h → HeldEntry G N (ℕ × ℕ) S ℕ T keep pair_keys b w g h × ℕ → Type 0
+  abbrev pub KeepsCount : HeldEntry G N (ℕ × ℕ) S ℕ T keep pair_keys g b w h → HeldEntry G N (ℕ × ℕ) S ℕ T keep pair_keys g b w h × ℕ → Type 0
   KeepsCount (Occupied p) r = (r.0 ≡ Occupied p) × (r.1 ≡ min (suc (occupied_pair p).1) (2 ^ 64 - 1))
   KeepsCount (Vacant e) r = ⊥
 
   module _ (c : Contents (ℕ × ℕ) S) (k : ℕ) where
     -- after the word k is counted, a look-up of k finds one more than before
-    pub counted : (C : ℕ → ℕ → Type 0) (e d : HeldEntry G N (ℕ × ℕ) S ℕ T keep pair_keys b w g h) (o : HeldOccupied G N (ℕ × ℕ) S ℕ T keep pair_keys b w g h) → IsEntryOf nat_eq c k e → CountsUp C e d → OrInserts d 1 o → IsUnique nat_eq (keep.inner o.guard)
+    pub counted : (C : ℕ → ℕ → Type 0) (e d : HeldEntry G N (ℕ × ℕ) S ℕ T keep pair_keys g b w h) (o : HeldOccupied G N (ℕ × ℕ) S ℕ T keep pair_keys g b w h) → IsEntryOf nat_eq c k e → CountsUp C e d → OrInserts d 1 o → IsUnique nat_eq (keep.inner o.guard)
         → FindsInstead nat_eq (entries c) k (Some (k, one_more (find nat_eq (entries c) k))) (entries (keep.inner o.guard))
     counted C (Occupied p) (Occupied d) o at up ins u =
         let stored : (occupied_pair p).0 ≡ k = sym (eqb-true k (occupied_pair p).0 at.equal) in
@@ -41,12 +41,12 @@ module _ {G N S T : Type 0} {keep : guard.Ghosts G (Contents (ℕ × ℕ) S)} {g
         let count : up.0 ≡ one_more (find nat_eq (entries c) k) = up.1 ∙ sym (ap one_more at.found) in
         record {
           finds = λ q.
-              ap (λ (y : HeldOccupied G N (ℕ × ℕ) S ℕ T keep pair_keys b w g h). find nat_eq (entries (keep.inner y.guard)) q) ins
+              ap (λ (y : HeldOccupied G N (ℕ × ℕ) S ℕ T keep pair_keys g b w h). find nat_eq (entries (keep.inner y.guard)) q) ins
               ∙ up.2.finds.finds q
               ∙ (λ i. cond (nat_eq q (stored i)) (Some (key i, count i)) (find nat_eq (entries (at.contents i)) q));
         }
     counted C (Vacant e) (Vacant d) o at up ins u =
-        let put : IsInserted e 1 o = subst (λ (y : HeldEntry G N (ℕ × ℕ) S ℕ T keep pair_keys b w g h). OrInserts y 1 o) (ap Vacant up) ins in
+        let put : IsInserted e 1 o = subst (λ (y : HeldEntry G N (ℕ × ℕ) S ℕ T keep pair_keys g b w h). OrInserts y 1 o) (ap Vacant up) ins in
         record {
           finds = λ q.
               (finds-inserted nat_eq_equiv (keep.inner e.guard) (keep.inner o.guard) (e.key, 1) put.at.contents u).finds q

@@ -65,15 +65,15 @@ module _ {S : Type 0} (c d : Contents (ℕ × Route) S) where
 
 module _ {G N S T : Type 0} {keep : guard.Ghosts G (Contents (ℕ × Route) S)} {g : equality.Ghosts ℕ} {h : hash.Ghosts ℕ} {b : builder.Ghosts S T} {w : hasher.Ghosts T} (c : Contents (ℕ × Route) S) (k : ℕ) (r : Route) where
   -- a better route is written over the route that is there
-  pub offer_better : (o d : HeldOccupied G N (ℕ × Route) S ℕ T keep pair_keys b w g h) → IsOccupiedAt nat_eq c k o → IsWritten o r d → r.metric < (occupied_pair o).1.metric → Offers (route_to c k) c k r (keep.inner d.guard) true
+  pub offer_better : (o d : HeldOccupied G N (ℕ × Route) S ℕ T keep pair_keys g b w h) → IsOccupiedAt nat_eq c k o → IsWritten o r d → r.metric < (occupied_pair o).1.metric → Offers (route_to c k) c k r (keep.inner d.guard) true
   offer_better o d at written less = better c (keep.inner d.guard) k (occupied_pair o).0 r (occupied_pair o).1 at.found less (finds-written nat_eq_equiv c k o d r at written)
 
-  pub offer_worse : (o : HeldOccupied G N (ℕ × Route) S ℕ T keep pair_keys b w g h) → IsOccupiedAt nat_eq c k o → (occupied_pair o).1.metric ≤ r.metric → Offers (route_to c k) c k r (keep.inner o.guard) false
+  pub offer_worse : (o : HeldOccupied G N (ℕ × Route) S ℕ T keep pair_keys g b w h) → IsOccupiedAt nat_eq c k o → (occupied_pair o).1.metric ≤ r.metric → Offers (route_to c k) c k r (keep.inner o.guard) false
   offer_worse o at more = worse c (keep.inner o.guard) k (occupied_pair o).0 r (occupied_pair o).1 at.found more (as_before c (keep.inner o.guard) (λ q. ap (λ d. find nat_eq (entries d) q) at.contents))
 
-  pub offer_first : (e : HeldVacant G N (ℕ × Route) S ℕ T keep pair_keys b w g h) (o : HeldOccupied G N (ℕ × Route) S ℕ T keep pair_keys b w g h) → IsVacantAt nat_eq c k e → IsInserted e r o → IsUnique nat_eq (keep.inner o.guard) → Offers (route_to c k) c k r (keep.inner o.guard) true
+  pub offer_first : (e : HeldVacant G N (ℕ × Route) S ℕ T keep pair_keys g b w h) (o : HeldOccupied G N (ℕ × Route) S ℕ T keep pair_keys g b w h) → IsVacantAt nat_eq c k e → IsInserted e r o → IsUnique nat_eq (keep.inner o.guard) → Offers (route_to c k) c k r (keep.inner o.guard) true
   offer_first e o at put u = first c (keep.inner o.guard) k r at.found (finds-put nat_eq_equiv c k e o r at put u)
 
   -- a refused insertion changes no route
-  pub offer_refused : (e : HeldVacant G N (ℕ × Route) S ℕ T keep pair_keys b w g h) → IsVacantAt nat_eq c k e → (hash : ℕ → ℕ) (d : Contents (ℕ × Route) S) → RestsRefused nat_eq hash (keep.inner e.guard) k d → IsAsBefore c d
+  pub offer_refused : (e : HeldVacant G N (ℕ × Route) S ℕ T keep pair_keys g b w h) → IsVacantAt nat_eq c k e → (hash : ℕ → ℕ) (d : Contents (ℕ × Route) S) → RestsRefused nat_eq hash (keep.inner e.guard) k d → IsAsBefore c d
   offer_refused e at hash d r = as_before c d (λ q. finds-rearranged nat_eq_equiv (keep.inner e.guard) d r.rests r.unique q ∙ ap (λ m. find nat_eq (entries m) q) at.contents)

@@ -63,3 +63,13 @@ returns-clause-new g c =
     let here = list-view bs _ c.args.self.now c.self.view_is c.args.place.bucket b l (shelf-at c.self.inside.buckets c.args.place.bucket l) in
     let x = c.replace_key_at.ensures.old in
     rw c.replace_key_at.ensures.new (written-view g.E.Valued.with_key (λ e. g.H.Hashes.hash_of c.self.inside.router.hasher (g.E.Keyed.key_of e)) t.router.skipped t.length t.overflowing c.args.place bs c.self.invariant.table _ c.args.self.now c.self.view_is b l (shelf-at c.self.inside.buckets c.args.place.bucket l) x.0 x.1 c.args.key)
+
+pub replace_key_at-requires-clause-same : goal.replace_key_at-requires-clause-same
+replace_key_at-requires-clause-same g c = λ e at.
+    let t = c.self.inside in
+    let bs = t.buckets in
+    let count = count-view bs _ c.args.self.now c.self.view_is in
+    let l : c.args.place.bucket < length bs = rw count at c.requires.within.bucket in
+    let b = (shelf_of c.self.inside.buckets c.args.place.bucket) in
+    let here = list-view bs _ c.args.self.now c.self.view_is c.args.place.bucket b l (shelf-at c.self.inside.buckets c.args.place.bucket l) in
+    c.requires.same e (place-get c.args.self.now c.args.place c.requires.within e (rw here at))

@@ -72,3 +72,10 @@ returns-then-place-count-clause-unique g c = (invariant_of-self g c).unique
 
 pub returns-clause-unique : goal.returns-clause-unique
 returns-clause-unique g c = (invariant_of-self-2 g c).unique
+
+pub replace_key_at-requires-2-clause-same : goal.replace_key_at-requires-2-clause-same
+replace_key_at-requires-2-clause-same g c =
+    let hashes : g.row.H.Denot → g.row.E-Key.Denot → ℕ = λ s k. g.H.Hashes.hash_of s k in
+    let n = c.bucket_count-count.result in
+    let far : bucket_count c.self.inside.current ≤ c.args.place.bucket = omega (arith, c.bucket_count-count.ensures.count) in
+    λ e got. c.requires.same e (far-got g.met.E.Key.Eq.laws hashes c.self.invariant c.self.view_is c.args.place c.requires.within far n c.bucket_count-count.ensures.count e got)

@@ -3,7 +3,7 @@ use Rattle.scc_owned.proofs.Updating.{updated-step, updated-finds, updated-missi
 use Rattle.scc_owned.proofs.map.calls.Map+K+V+H.update_sync.Goals as goal
 
 pub update-requires-clause-takes : goal.update-requires-clause-takes
-update-requires-clause-takes g c = λ e a b found key value. c.requires a b (rw (← c.self.view_is) (found ∙ ap Some (sym (ap (λ x. (x, b.now)) key ∙ ap (λ x. (e.0, x)) value))))
+update-requires-clause-takes g c = λ e found allowed a b shows. c.requires a b (rw (← c.self.view_is) (found ∙ ap Some (sym shows)))
 
 pub returns-clause-step : goal.returns-clause-step
 returns-clause-step g c = rw (← c.self.view_is) (updated-step g.U.FnOnce c.args.u g.met.K.Eq.laws c.self.inside.table c.update.new.self c.args.k.now c.update.ensures.unique c.update.result c.update.ensures.step)
