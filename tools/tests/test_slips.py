@@ -13,19 +13,20 @@ slips = tools.tool("slips")
 CRATES = {"low": [], "high": ["low"], "alone": []}
 
 
-def edit(crate, name, named=False):
-    return edits.Edit(crate, name, ["named: yes"] if named else [])
+def edit(crate, name, *lines):
+    return edits.Edit(crate, name, list(lines))
 
 
 class Chosen(unittest.TestCase):
     def chosen(self, *words):
-        found = [edit("low", "a"), edit("low", "b", True), edit("high", "c")]
+        found = [edit("low", "a"), edit("low", "b", "named: yes"), edit("high", "c", "test: high c")]
         with mock.patch.object(edits, "edits_of", lambda crates, folder: found):
             return [one.name for one in slips.chosen(list(words), None, CRATES)]
 
-    def test_all_named_or_of_crates(self):
+    def test_all_named_tested_or_of_crates(self):
         self.assertEqual(self.chosen(), ["a", "b", "c"])
         self.assertEqual(self.chosen("named"), ["b"])
+        self.assertEqual(self.chosen("tested"), ["c"])
         self.assertEqual(self.chosen("low"), ["a", "b"])
         self.assertEqual(self.chosen("high", "low"), ["a", "b", "c"])
 

@@ -1,5 +1,6 @@
 //! The stripes without their locks.
 ghost use Rattle.scc_calls.specs.declared.fixed.Request.{Request};
+ghost use Rattle.std.specs.List.{range_with_len};
 ghost use Rattle.std.specs.Prelude.{◌≡◌, ◌+◌, ◌<◌, ◌≤◌, map, MatchOption, Some, slice_get, vec_len, [], vec_capacity, IfOk};
 
 use crate::counted::{Count, CountedStripe, PartCount};
@@ -32,11 +33,12 @@ impl<C: Calls + Drop, L: Ledger, M: Site<C::Hasher>> Recorded<C, L, M>
 where
     C::Hasher: Drop,
 {
-    /// Takes the stripes out of their locks. Allocates nothing.
+    /// Takes the stripes out of their locks, in the order of their numbers. Allocates nothing.
     pub fn close(self) -> Closed<C, L, M>
         ensures stripes { vec_len result.stripes ≡ self.stripes }
         ensures passes { result.passes ≡ self.passes }
         ensures hasher { result.hasher ≡ self.hasher }
+        ensures numbers { map (λ s. s.stripe.number) result.stripes.items ≡ range_with_len 0 self.stripes }
     {
         let Recorded {
             stripes: _,
@@ -53,8 +55,7 @@ where
         let StripeRoom { list } = room.into_inner();
         let mut stripes = list;
         while !locks.is_empty() {
-            let LockedStripe { number: _, lock } = locks.remove(0);
-            stripes.push_reserved(lock.into_inner());
+            stripes.push_reserved(locks.remove(0).into_stripe());
         }
         Closed {
             stripes,
@@ -65,6 +66,19 @@ where
             handed,
             stripe_count,
         }
+    }
+}
+
+impl<C: Calls, M: Site<C::Hasher>> LockedStripe<C, M> {
+    /// Takes the stripe out of its lock. Nothing is known of what was behind a lock, so the stripe is given its number
+    /// once more.
+    fn into_stripe(self) -> CountedStripe<C, M>
+        ensures { result.stripe.number ≡ self.number }
+    {
+        let LockedStripe { number, lock } = self;
+        let mut counted = lock.into_inner();
+        counted.stripe.number = number;
+        counted
     }
 }
 

@@ -6,7 +6,7 @@ ghost use Rattle.scc_history.specs.Receipts.{AreAll, calls_of};
 ghost use Rattle.scc_history.specs.Stamps.{calls_in};
 ghost use Rattle.scc_recorded.specs.Closing.{AllMatch};
 ghost use Rattle.scc_recorded.specs.Finished.{IsFinishedRun, IsRefusedRun};
-ghost use Rattle.std.specs.List.{sum_by};
+ghost use Rattle.std.specs.List.{range_with_len, sum_by};
 ghost use Rattle.std.specs.Prelude.{◌≡◌, ◌+◌, ◌<◌, ◌≤◌, [], length, map, Err, IfOk, IfErr, Some, vec_len, vec_capacity};
 
 use crate::Recorded;
@@ -185,12 +185,15 @@ where
     C::Hasher: Drop,
 {
     /// Returns what the run was: [`Recorded::close`], and then [`Closed::finish`], with its costs and its errors. If
-    /// it fails, the stripes come back without their locks, so a further try is made by [`Closed::finish`].
+    /// it fails, the stripes come back in the order of their numbers and without their locks, so a further try is made
+    /// by [`Closed::finish`].
     pub fn finish(self, passes: Vec<Pass<C, L>>) -> Result<Finished<C>, Unfinished<C, L, M>>
         ensures finished { IfOk result (IsFinishedRun self.hasher self.passes passes.items M.chosen) }
         ensures stripes { IfOk result (λ f. vec_len f.parts ≡ self.stripes) }
         ensures back { IfErr result (λ u. (u.passes ≡ passes) × (vec_len u.recorded.stripes ≡ self.stripes)
             × (u.recorded.passes ≡ self.passes) × (u.recorded.hasher ≡ self.hasher)) }
+        ensures numbers { IfErr result (λ u. map (λ s. s.stripe.number) u.recorded.stripes.items
+            ≡ range_with_len 0 self.stripes) }
         ensures refused { IfErr result (λ u. IsRefusedRun u.recorded.hasher u.recorded.passes
             (map (λ s. s.stripe.history.items) u.recorded.stripes.items) u.passes.items u.cause) }
         ensures counted { IfErr result (λ u. AreAll u.recorded.passes (map (λ p. p.log.number) u.passes.items)

@@ -13,3 +13,6 @@ returns-clause-stripes g c = if-ok c.finish.result c.finish.ensures.parts (λ f 
 
 pub returns-clause-back : goal.returns-clause-back
 returns-clause-back g c = if-err c.finish.result c.finish.ensures.back (λ u b. (b.1, ap (λ x. vec_len x.stripes) b.0 ∙ c.close.ensures.stripes, ap (λ x. x.passes) b.0 ∙ c.close.ensures.passes, ap (λ x. x.hasher) b.0 ∙ c.close.ensures.hasher))
+
+pub returns-clause-numbers : goal.returns-clause-numbers
+returns-clause-numbers g c = if-err c.finish.result c.finish.ensures.back (λ u b. ap (λ x. map (λ s. s.stripe.number) x.stripes.items) b.0 ∙ c.close.ensures.numbers)
