@@ -10,7 +10,11 @@ mod expect;
 #[cfg(test)]
 mod index;
 #[cfg(test)]
+mod index_entries;
+#[cfg(test)]
 mod map;
+#[cfg(test)]
+mod map_entries;
 #[cfg(test)]
 mod memo;
 #[cfg(test)]

@@ -6,6 +6,7 @@ use std::sync::Wait;
 use std::sync::atomic::{AtomicU64, Ordering};
 use std::test::Fail;
 use std::thread::{Threads, join};
+use test_kit::zero::Zero;
 
 /// The double of a number, by a function that counts how often it is called.
 #[derive(Drop)]
@@ -72,5 +73,37 @@ fn memo_keeps_no_failure(rt: HostRuntime) -> Result<(), Fail> {
     expect_eq(&rt, half_of(&rt, &halves, 8), Ok(4));
     expect_eq(&rt, (halves.len(&rt), halves.known(&rt, &8)), (1, Some(4)));
     expect(&rt, halves.forget(&rt, &8) && halves.capacity(&rt) <= 256);
+    Ok(())
+}
+
+/// Fills a bucket of 32 values, asks whether the first is known, and makes one value more. Returns whether the first is
+/// known before and then.
+fn known_first<R: Wait>(rt: &R, memo: &Memo<Doubled<'_>, Zero>) -> [bool; 2] {
+    for k in 0..32u64 {
+        let _double = memo.get(rt, k);
+    }
+    let before = memo.known(rt, &0).is_some();
+    let _double = memo.get(rt, 32);
+    [before, memo.known(rt, &0).is_some()]
+}
+
+/// Does the same with a function that may fail, which doesn't at an even number.
+fn tried_first<R: Wait>(rt: &R, memo: &TryMemo<Half, Zero>) -> [bool; 2] {
+    for k in 0..32u64 {
+        let _half = memo.get(rt, k.wrapping_mul(2));
+    }
+    let before = memo.known(rt, &0).is_some();
+    let _half = memo.get(rt, 64);
+    [before, memo.known(rt, &0).is_some()]
+}
+
+#[test]
+fn memo_that_is_asked_what_it_knows_refreshes_nothing(rt: HostRuntime) -> Result<(), Fail> {
+    let calls = AtomicU64::new(0);
+    let doubled = Doubled { calls: &calls };
+    let memo = Memo::with_capacity_and_hasher(rt.alloc(), doubled, 0, 64, Zero)?;
+    expect_eq(&rt, known_first(&rt, &memo), [true, false]);
+    let halves = TryMemo::with_capacity_and_hasher(rt.alloc(), Half, 0, 64, Zero)?;
+    expect_eq(&rt, tried_first(&rt, &halves), [true, false]);
     Ok(())
 }

@@ -9,6 +9,7 @@ use std::process::Abort;
 use std::sync::Wait;
 use std::test::Fail;
 use std::thread::{Threads, join};
+use test_kit::maybe_equal::MaybeEqual;
 
 type Numbers = RuledSet<u64, Anything>;
 
@@ -128,5 +129,14 @@ fn threads_share_evens(rt: HostRuntime) -> Result<(), Fail> {
     expect_eq(&rt, half_of(&rt, &evens, 14), None);
     expect(&rt, take_first_half(&rt, &evens).is_some());
     expect_eq(&rt, evens.len(&rt), 98);
+    Ok(())
+}
+
+#[test]
+fn ruled_set_of_items_keeps_the_first_of_equals(rt: HostRuntime) -> Result<(), Fail> {
+    let items = [MaybeEqual(1, 10), MaybeEqual(2, 20), MaybeEqual(1, 30)];
+    let set: RuledSet<MaybeEqual, Anything> = RuledSet::try_from_iter(&rt, rt.alloc(), items)?;
+    let first = set.read_sync(&rt, &MaybeEqual(1, 0), |key| key.1);
+    expect_eq(&rt, (set.len(&rt), first), (2, Some(10)));
     Ok(())
 }

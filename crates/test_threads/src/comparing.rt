@@ -1,11 +1,9 @@
 // Whole containers: comparisons beside a writer and in both ways at once, clones, and containers made of items.
-use crate::expect::{expect, expect_eq};
-use crate::kinds::{Cache, Index, Map, Set, Threaded};
+use crate::expect::expect_eq;
+use crate::kinds::{
+    Cache, Index, MOST, Map, Passing, RuledCache, RuledIndex, RuledMap, RuledSet, Set, Threaded,
+};
 use crate::trials::{Trial, holds_in, holds_in_each};
-use scc_shared::index::HashIndex;
-use scc_shared::map::HashMap;
-use scc_shared_cache::HashCache;
-use scc_shared_set::HashSet;
 use std::alloc::Global;
 use std::process::Abort;
 use std::sync::Wait;
@@ -73,7 +71,7 @@ pub(crate) fn is_itself<C: Threaded + Sync, R: Threads + Wait + Sync>(
 #[test]
 fn equals_itself_beside_a_writer(rt: HostRuntime) {
     let right = holds_in_each(&rt, rt.alloc(), Trial::EqualsItself);
-    expect_eq(&rt, right, [true; 4]);
+    expect_eq(&rt, right, [true; 8]);
 }
 
 /// Compares in both ways at once while keys of both containers come and go. A comparison may return anything, and must
@@ -118,7 +116,7 @@ pub(crate) fn compares_both_ways<C: Threaded + Sync + Drop, R: Threads + Wait + 
 #[test]
 fn comparisons_in_opposite_ways_end(rt: HostRuntime) {
     let right = holds_in_each(&rt, rt.alloc(), Trial::BothWays);
-    expect_eq(&rt, right, [true; 4]);
+    expect_eq(&rt, right, [true; 8]);
 }
 
 /// Returns whether a container differs from its equal, looked at from either side.
@@ -157,43 +155,66 @@ fn shared_clones_equal(rt: HostRuntime) {
         holds_in::<Map, _>(&rt, rt.alloc(), Trial::Copy(true)),
         holds_in::<Set, _>(&rt, rt.alloc(), Trial::Copy(false)),
         holds_in::<Index, _>(&rt, rt.alloc(), Trial::Copy(true)),
+        holds_in::<RuledMap, _>(&rt, rt.alloc(), Trial::Copy(true)),
+        holds_in::<RuledSet, _>(&rt, rt.alloc(), Trial::Copy(false)),
+        holds_in::<RuledIndex, _>(&rt, rt.alloc(), Trial::Copy(true)),
     ];
-    expect_eq(&rt, right, [true; 3]);
+    expect_eq(&rt, right, [true; 6]);
 }
 
-/// Returns the capacity of a map, and the capacity and the least capacity of its clone.
-fn slots_of_copy(rt: &impl Wait, map: &Map) -> Option<[usize; 3]> {
-    match map.try_clone(rt) {
-        Ok(copy) => Some([
-            map.capacity(rt),
-            copy.capacity(rt),
-            *copy.capacity_range().start(),
-        ]),
-        Err(_) => None,
-    }
+/// Returns the slots of a container with a hundred keys, and those of its clone.
+fn slots_of_copy<C: Threaded + Drop, R: Wait>(rt: &R, alloc: Global) -> Option<[[usize; 3]; 2]> {
+    let made = filled::<C, R>(rt, alloc)?;
+    let copy = made.copied(rt)?;
+    Some([made.slots(rt), copy.slots(rt)])
 }
 
 #[test]
-fn shared_map_clone_has_its_slots(rt: HostRuntime) {
-    match filled::<Map, _>(&rt, rt.alloc()) {
-        Some(map) => expect_eq(&rt, slots_of_copy(&rt, &map), Some([512; 3])),
-        None => expect(&rt, false),
-    }
+fn shared_clones_have_their_slots(rt: HostRuntime) {
+    let found = [
+        slots_of_copy::<Map, _>(&rt, rt.alloc()),
+        slots_of_copy::<Set, _>(&rt, rt.alloc()),
+        slots_of_copy::<Index, _>(&rt, rt.alloc()),
+        slots_of_copy::<RuledMap, _>(&rt, rt.alloc()),
+        slots_of_copy::<RuledSet, _>(&rt, rt.alloc()),
+        slots_of_copy::<RuledIndex, _>(&rt, rt.alloc()),
+    ];
+    expect_eq(&rt, found, [Some([[SLOTS, SLOTS, 1 << 63]; 2]); 6]);
 }
 
-/// Gets some keys of a cache, which are then its most recent ones.
-fn refreshes(rt: &impl Wait, cache: &Cache) {
+/// Returns the slots of a container with a hundred keys.
+fn slots_of<C: Threaded + Drop, R: Wait>(rt: &R, alloc: Global) -> Option<[usize; 3]> {
+    let made = filled::<C, R>(rt, alloc)?;
+    Some(made.slots(rt))
+}
+
+#[test]
+fn shared_caches_tell_their_slots(rt: HostRuntime) {
+    let found = [
+        slots_of::<Cache, _>(&rt, rt.alloc()),
+        slots_of::<RuledCache, _>(&rt, rt.alloc()),
+    ];
+    expect_eq(&rt, found, [Some([SLOTS, SLOTS, MOST]); 2]);
+}
+
+/// Uses some keys, which are then the most recent ones of a cache.
+fn refreshes<C: Threaded, R: Wait>(rt: &R, container: &C) {
     for key in 0..KEYS {
-        drop(cache.get_sync(rt, &((key % 3) << 57 | key % 3)));
+        let _there = container.at_entry(rt, (key % 3) << 57 | key % 3, &mut Passing);
     }
 }
 
-/// Returns whether a cache equals another cache with recent keys of its own, and differs from it as it must.
-fn cache_and_refreshed(rt: &impl Wait, alloc: Global, cache: &Cache) -> bool {
-    match filled::<Cache, _>(rt, alloc) {
+/// Fills an empty container. Returns whether it equals another one with recent keys of its own, and differs from it as
+/// it must.
+pub(crate) fn equals_refreshed<C: Threaded + Drop, R: Wait>(
+    rt: &R,
+    alloc: Global,
+    container: &C,
+) -> bool {
+    match filled::<C, R>(rt, alloc) {
         Some(other) => {
             refreshes(rt, &other);
-            differs(rt, cache, &other, true)
+            fills(rt, container) && differs(rt, container, &other, true)
         }
         None => false,
     }
@@ -202,77 +223,49 @@ fn cache_and_refreshed(rt: &impl Wait, alloc: Global, cache: &Cache) -> bool {
 /// The order in which pairs were used plays no part in the comparison of caches.
 #[test]
 fn shared_cache_equality_ignores_recency(rt: HostRuntime) {
-    match filled::<Cache, _>(&rt, rt.alloc()) {
-        Some(cache) => expect(&rt, cache_and_refreshed(&rt, rt.alloc(), &cache)),
-        None => expect(&rt, false),
-    }
+    let right = [
+        holds_in::<Cache, _>(&rt, rt.alloc(), Trial::Refreshed),
+        holds_in::<RuledCache, _>(&rt, rt.alloc(), Trial::Refreshed),
+    ];
+    expect_eq(&rt, right, [true; 2]);
 }
 
-fn read(rt: &impl Wait, map: &HashMap<u64, u64>, key: u64) -> Option<u64> {
-    map.read_sync(rt, &key, |_, value| *value)
+/// Fills an empty container with the keys 1 and 2 and the values `value` and 30. Returns whether it has them.
+fn fills_two<C: Threaded, R: Wait>(rt: &R, container: &C, value: u64) -> bool {
+    let first = container.add(rt, 1);
+    let second = container.add(rt, 2);
+    let written = container.rewrite(rt, 1, value) && container.rewrite(rt, 2, 30);
+    first && second && written
 }
 
-/// Returns the length, the capacity, and the values of the keys 1 and 2.
-fn map_shown(rt: &impl Wait, map: &HashMap<u64, u64>) -> (usize, usize, [Option<u64>; 2]) {
-    let values = [read(rt, map, 1), read(rt, map, 2)];
-    (map.len(rt), map.capacity(rt), values)
+/// Makes a container of two pairs with the key 1 and one with the key 2. Returns whether it has the keys, the first with
+/// `value`, and its slots, or `None` if it can't be made.
+fn collected<C: Threaded + Drop, R: Wait>(
+    rt: &R,
+    alloc: Global,
+    value: u64,
+) -> Option<(bool, [usize; 3])> {
+    let made = C::collected(rt, alloc, [(1, 10), (1, 20), (2, 30)])?;
+    let wanted = C::make(alloc, 64)?;
+    let is_right = fills_two(rt, &wanted, value) && made.equals(rt, &wanted);
+    Some((is_right, made.slots(rt)))
 }
 
+/// The last value of equal keys stays in a map, and the first in all others.
 #[test]
-fn shared_map_try_from_iter_last_wins(rt: HostRuntime) {
-    match HashMap::try_from_iter(&rt, rt.alloc(), [(1, 10), (1, 20), (2, 30)]) {
-        Ok(map) => expect_eq(&rt, map_shown(&rt, &map), (2, 64, [Some(20), Some(30)])),
-        Err(_) => expect(&rt, false),
-    }
-}
-
-/// Returns the length, and whether the keys 1 and 2 are there.
-fn set_shown(rt: &impl Wait, set: &HashSet<u64>) -> (usize, bool, bool) {
-    (
-        set.len(rt),
-        set.contains_sync(rt, &1),
-        set.contains_sync(rt, &2),
-    )
-}
-
-#[test]
-fn shared_set_try_from_iter_counts_once(rt: HostRuntime) {
-    match HashSet::try_from_iter(&rt, rt.alloc(), [1, 1, 2]) {
-        Ok(set) => expect_eq(&rt, set_shown(&rt, &set), (2, true, true)),
-        Err(_) => expect(&rt, false),
-    }
-}
-
-fn peek(rt: &impl Wait, index: &HashIndex<u64, u64>, key: u64) -> Option<u64> {
-    index.peek_with(rt, &key, |_, value| *value)
-}
-
-/// Returns the length, the capacity, and the values of the keys 1 and 2.
-fn index_shown(rt: &impl Wait, index: &HashIndex<u64, u64>) -> (usize, usize, [Option<u64>; 2]) {
-    let values = [peek(rt, index, 1), peek(rt, index, 2)];
-    (index.len(rt), index.capacity(rt), values)
-}
-
-#[test]
-fn shared_index_try_from_iter_first_wins(rt: HostRuntime) {
-    match HashIndex::try_from_iter(&rt, rt.alloc(), [(1, 10), (1, 20), (2, 30)]) {
-        Ok(index) => expect_eq(&rt, index_shown(&rt, &index), (2, 64, [Some(10), Some(30)])),
-        Err(_) => expect(&rt, false),
-    }
-}
-
-/// Returns the length, the value of the key 1, and the capacity with both ends of its range.
-fn cache_shown(rt: &impl Wait, cache: &HashCache<u64, u64>) -> (usize, Option<u64>, [usize; 3]) {
-    let value = cache.read_sync(rt, &1, |_, value| *value);
-    let range = cache.capacity_range();
-    let slots = [cache.capacity(rt), *range.start(), *range.end()];
-    (cache.len(rt), value, slots)
-}
-
-#[test]
-fn shared_cache_try_from_iter_first_wins(rt: HostRuntime) {
-    match HashCache::try_from_iter(&rt, rt.alloc(), [(1, 10), (1, 20)]) {
-        Ok(cache) => expect_eq(&rt, cache_shown(&rt, &cache), (1, Some(10), [64, 64, 64])),
-        Err(_) => expect(&rt, false),
-    }
+fn shared_containers_of_items_have_each_key_once(rt: HostRuntime) {
+    let found = [
+        collected::<Map, _>(&rt, rt.alloc(), 20),
+        collected::<Set, _>(&rt, rt.alloc(), 10),
+        collected::<Index, _>(&rt, rt.alloc(), 10),
+        collected::<RuledMap, _>(&rt, rt.alloc(), 20),
+        collected::<RuledSet, _>(&rt, rt.alloc(), 10),
+        collected::<RuledIndex, _>(&rt, rt.alloc(), 10),
+    ];
+    expect_eq(&rt, found, [Some((true, [64, 64, 1 << 63])); 6]);
+    let found = [
+        collected::<Cache, _>(&rt, rt.alloc(), 10),
+        collected::<RuledCache, _>(&rt, rt.alloc(), 10),
+    ];
+    expect_eq(&rt, found, [Some((true, [64; 3])); 2]);
 }

@@ -1,7 +1,8 @@
 // What is left of a reservation that was dropped: a removal gives its slots back, an insertion leaves them, and a first
 // array is made without them. The number of a bucket shows the size of an array, and asking for it changes nothing.
 use crate::expect::expect_eq;
-use crate::kinds::{Bucketed, HALF, Index, Map, Set, Threaded};
+use crate::kinds::bodies::reserves_and_drops;
+use crate::kinds::{Bucketed, HALF, Index, Map, RuledIndex, RuledMap, RuledSet, Set, Threaded};
 use scc_common::Verdict;
 use std::alloc::Global;
 use std::process::Abort;
@@ -40,130 +41,183 @@ trait Reserving: Bucketed {
     fn remove_by<R: Wait>(&self, rt: &R, alloc: Global, way: Removal, key: u64) -> bool;
 }
 
-fn upsert<R: Wait>(rt: &R, map: &Map, way: Insertion, key: u64) -> bool {
-    match way {
-        Insertion::Insert => map.insert_sync(rt, key, key).is_ok(),
-        Insertion::Upsert => map.upsert_sync(rt, key, key).is_ok(),
-        Insertion::Entry => map.entry_sync(rt, key).or_insert(key).is_ok(),
-        Insertion::Replace => map.entry_sync(rt, key).insert_entry(key).is_ok(),
-    }
+macro_rules! upserts {
+    ($map:expr, $rt:expr, $way:expr, $key:expr) => {
+        match $way {
+            Insertion::Insert => $map.insert_sync($rt, $key, $key).is_ok(),
+            Insertion::Upsert => $map.upsert_sync($rt, $key, $key).is_ok(),
+            Insertion::Entry => $map.entry_sync($rt, $key).or_insert($key).is_ok(),
+            Insertion::Replace => $map.entry_sync($rt, $key).insert_entry($key).is_ok(),
+        }
+    };
 }
 
-fn remove<R: Wait>(rt: &R, alloc: Global, map: &Map, way: Removal, key: u64) -> bool {
-    match way {
-        Removal::Key => map.remove_sync(rt, &key).is_some(),
-        Removal::KeyIf => map.remove_if_sync(rt, &key, |_| true).is_some(),
-        Removal::Entry => match map.get_sync(rt, &key) {
-            Some(entry) => entry.remove_entry() == (key, key),
-            None => false,
-        },
-        Removal::EntryValue => match map.get_sync(rt, &key) {
-            Some(entry) => entry.remove() == key,
-            None => false,
-        },
-        Removal::Retain => {
-            map.retain_sync(rt, |_, _| false);
-            true
+macro_rules! removes {
+    ($map:expr, $rt:expr, $alloc:expr, $way:expr, $key:expr) => {
+        match $way {
+            Removal::Key => $map.remove_sync($rt, &$key).is_some(),
+            Removal::KeyIf => $map.remove_if_sync($rt, &$key, |_| true).is_some(),
+            Removal::Entry => match $map.get_sync($rt, &$key) {
+                Some(entry) => entry.remove_entry() == ($key, $key),
+                None => false,
+            },
+            Removal::EntryValue => match $map.get_sync($rt, &$key) {
+                Some(entry) => entry.remove() == $key,
+                None => false,
+            },
+            Removal::Retain => {
+                $map.retain_sync($rt, |_, _| false);
+                true
+            }
+            Removal::Take => {
+                let mut taken = Vec::new($alloc);
+                $map.iter_mut_sync($rt, |_, _| Verdict::Take, &mut taken) == Ok(true)
+            }
+            Removal::Clear => {
+                $map.clear_sync($rt);
+                true
+            }
         }
-        Removal::Take => {
-            let mut taken = Vec::new(alloc);
-            map.iter_mut_sync(rt, |_, _| Verdict::Take, &mut taken) == Ok(true)
+    };
+}
+
+macro_rules! inserts_key {
+    ($set:expr, $rt:expr, $way:expr, $key:expr) => {
+        match $way {
+            Insertion::Insert | Insertion::Entry => $set.insert_sync($rt, $key).is_ok(),
+            Insertion::Upsert | Insertion::Replace => $set.replace_sync($rt, $key).is_ok(),
         }
-        Removal::Clear => {
-            map.clear_sync(rt);
-            true
+    };
+}
+
+macro_rules! removes_key {
+    ($set:expr, $rt:expr, $way:expr, $key:expr) => {
+        match $way {
+            Removal::Entry | Removal::EntryValue => match $set.begin_sync($rt) {
+                Some(entry) => entry.remove_entry() == $key,
+                None => false,
+            },
+            _ => $set.remove_sync($rt, &$key).is_some(),
         }
-    }
+    };
+}
+
+macro_rules! inserts_version {
+    ($index:expr, $rt:expr, $way:expr, $key:expr) => {
+        match $way {
+            Insertion::Insert | Insertion::Upsert => $index.insert_sync($rt, $key, $key).is_ok(),
+            Insertion::Entry | Insertion::Replace => {
+                $index.entry_sync($rt, $key).or_insert($key).is_ok()
+            }
+        }
+    };
+}
+
+macro_rules! removes_version {
+    ($index:expr, $rt:expr, $way:expr, $key:expr) => {
+        match $way {
+            Removal::Key => $index.remove_sync($rt, &$key),
+            Removal::KeyIf => $index.remove_if_sync($rt, &$key, |_| true),
+            Removal::Entry | Removal::EntryValue => match $index.get_sync($rt, &$key) {
+                Some(entry) => {
+                    entry.remove_entry();
+                    true
+                }
+                None => false,
+            },
+            Removal::Retain | Removal::Take => {
+                $index.retain_sync($rt, |_, _| false);
+                true
+            }
+            Removal::Clear => {
+                $index.clear_sync($rt);
+                true
+            }
+        }
+    };
 }
 
 impl Reserving for Map {
     fn reserve_and_drop<R: Wait>(&self, rt: &R, slots: usize, key: u64) -> Option<(usize, usize)> {
-        let before = self.bucket_index(rt, &key);
-        match self.reserve(rt, slots) {
-            Some(_held) => Some((before, self.bucket_index(rt, &key))),
-            None => None,
-        }
+        reserves_and_drops!(self, rt, slots, key)
     }
 
     fn insert_by<R: Wait>(&self, rt: &R, way: Insertion, key: u64) -> bool {
-        upsert(rt, self, way, key)
+        upserts!(self, rt, way, key)
     }
 
     fn remove_by<R: Wait>(&self, rt: &R, alloc: Global, way: Removal, key: u64) -> bool {
-        remove(rt, alloc, self, way, key) && self.is_empty(rt)
+        removes!(self, rt, alloc, way, key) && self.is_empty(rt)
+    }
+}
+
+impl Reserving for RuledMap {
+    fn reserve_and_drop<R: Wait>(&self, rt: &R, slots: usize, key: u64) -> Option<(usize, usize)> {
+        reserves_and_drops!(self, rt, slots, key)
+    }
+
+    fn insert_by<R: Wait>(&self, rt: &R, way: Insertion, key: u64) -> bool {
+        upserts!(self, rt, way, key)
+    }
+
+    fn remove_by<R: Wait>(&self, rt: &R, alloc: Global, way: Removal, key: u64) -> bool {
+        removes!(self, rt, alloc, way, key) && self.is_empty(rt)
     }
 }
 
 impl Reserving for Set {
     fn reserve_and_drop<R: Wait>(&self, rt: &R, slots: usize, key: u64) -> Option<(usize, usize)> {
-        let before = self.bucket_index(rt, &key);
-        match self.reserve(rt, slots) {
-            Some(_held) => Some((before, self.bucket_index(rt, &key))),
-            None => None,
-        }
+        reserves_and_drops!(self, rt, slots, key)
     }
 
     fn insert_by<R: Wait>(&self, rt: &R, way: Insertion, key: u64) -> bool {
-        match way {
-            Insertion::Insert | Insertion::Entry => self.insert_sync(rt, key).is_ok(),
-            Insertion::Upsert | Insertion::Replace => self.replace_sync(rt, key).is_ok(),
-        }
+        inserts_key!(self, rt, way, key)
     }
 
     fn remove_by<R: Wait>(&self, rt: &R, _alloc: Global, way: Removal, key: u64) -> bool {
-        let removed = match way {
-            Removal::Entry | Removal::EntryValue => match self.begin_sync(rt) {
-                Some(entry) => entry.remove_entry() == key,
-                None => false,
-            },
-            _ => self.remove_sync(rt, &key).is_some(),
-        };
-        removed && self.is_empty(rt)
+        removes_key!(self, rt, way, key) && self.is_empty(rt)
     }
 }
 
-fn remove_version<R: Wait>(rt: &R, index: &Index, way: Removal, key: u64) -> bool {
-    match way {
-        Removal::Key => index.remove_sync(rt, &key),
-        Removal::KeyIf => index.remove_if_sync(rt, &key, |_| true),
-        Removal::Entry | Removal::EntryValue => match index.get_sync(rt, &key) {
-            Some(entry) => {
-                entry.remove_entry();
-                true
-            }
-            None => false,
-        },
-        Removal::Retain | Removal::Take => {
-            index.retain_sync(rt, |_, _| false);
-            true
-        }
-        Removal::Clear => {
-            index.clear_sync(rt);
-            true
-        }
+impl Reserving for RuledSet {
+    fn reserve_and_drop<R: Wait>(&self, rt: &R, slots: usize, key: u64) -> Option<(usize, usize)> {
+        reserves_and_drops!(self, rt, slots, key)
+    }
+
+    fn insert_by<R: Wait>(&self, rt: &R, way: Insertion, key: u64) -> bool {
+        inserts_key!(self, rt, way, key)
+    }
+
+    fn remove_by<R: Wait>(&self, rt: &R, _alloc: Global, way: Removal, key: u64) -> bool {
+        removes_key!(self, rt, way, key) && self.is_empty(rt)
     }
 }
 
 impl Reserving for Index {
     fn reserve_and_drop<R: Wait>(&self, rt: &R, slots: usize, key: u64) -> Option<(usize, usize)> {
-        let before = self.bucket_index(rt, &key);
-        match self.reserve(rt, slots) {
-            Some(_held) => Some((before, self.bucket_index(rt, &key))),
-            None => None,
-        }
+        reserves_and_drops!(self, rt, slots, key)
     }
 
     fn insert_by<R: Wait>(&self, rt: &R, way: Insertion, key: u64) -> bool {
-        match way {
-            Insertion::Insert | Insertion::Upsert => self.insert_sync(rt, key, key).is_ok(),
-            Insertion::Entry | Insertion::Replace => {
-                self.entry_sync(rt, key).or_insert(key).is_ok()
-            }
-        }
+        inserts_version!(self, rt, way, key)
     }
 
     fn remove_by<R: Wait>(&self, rt: &R, _alloc: Global, way: Removal, key: u64) -> bool {
-        remove_version(rt, self, way, key) && self.is_empty(rt)
+        removes_version!(self, rt, way, key) && self.is_empty(rt)
+    }
+}
+
+impl Reserving for RuledIndex {
+    fn reserve_and_drop<R: Wait>(&self, rt: &R, slots: usize, key: u64) -> Option<(usize, usize)> {
+        reserves_and_drops!(self, rt, slots, key)
+    }
+
+    fn insert_by<R: Wait>(&self, rt: &R, way: Insertion, key: u64) -> bool {
+        inserts_version!(self, rt, way, key)
+    }
+
+    fn remove_by<R: Wait>(&self, rt: &R, _alloc: Global, way: Removal, key: u64) -> bool {
+        removes_version!(self, rt, way, key) && self.is_empty(rt)
     }
 }
 
@@ -222,8 +276,11 @@ fn a_removal_gives_back_a_dropped_reservation(rt: HostRuntime) {
         given_back::<Map, _>(&rt, rt.alloc()),
         given_back::<Set, _>(&rt, rt.alloc()),
         given_back::<Index, _>(&rt, rt.alloc()),
+        given_back::<RuledMap, _>(&rt, rt.alloc()),
+        given_back::<RuledSet, _>(&rt, rt.alloc()),
+        given_back::<RuledIndex, _>(&rt, rt.alloc()),
     ];
-    expect_eq(&rt, found, [GIVEN_BACK; 3]);
+    expect_eq(&rt, found, [GIVEN_BACK; 6]);
 }
 
 const INSERTIONS: [Insertion; 4] = [
@@ -263,8 +320,11 @@ fn an_insertion_keeps_a_dropped_reservation(rt: HostRuntime) {
         kept::<Map, _>(&rt, rt.alloc()),
         kept::<Set, _>(&rt, rt.alloc()),
         kept::<Index, _>(&rt, rt.alloc()),
+        kept::<RuledMap, _>(&rt, rt.alloc()),
+        kept::<RuledSet, _>(&rt, rt.alloc()),
+        kept::<RuledIndex, _>(&rt, rt.alloc()),
     ];
-    expect_eq(&rt, found, [KEPT; 3]);
+    expect_eq(&rt, found, [KEPT; 6]);
 }
 
 /// Inserts into the first of 16 stripes after 1024 slots for each were reserved and released. Returns the bucket of the
@@ -295,6 +355,9 @@ fn a_first_array_forgets_a_dropped_reservation(rt: HostRuntime) {
         first_arrays::<Map, _>(&rt, rt.alloc()),
         first_arrays::<Set, _>(&rt, rt.alloc()),
         first_arrays::<Index, _>(&rt, rt.alloc()),
+        first_arrays::<RuledMap, _>(&rt, rt.alloc()),
+        first_arrays::<RuledSet, _>(&rt, rt.alloc()),
+        first_arrays::<RuledIndex, _>(&rt, rt.alloc()),
     ];
-    expect_eq(&rt, found, [[Some(1); 4]; 3]);
+    expect_eq(&rt, found, [[Some(1); 4]; 6]);
 }

@@ -1,24 +1,38 @@
-// The four shared containers, called by one trait. A key is a number, and its value is the key.
+// The four shared containers and the four under a rule, called by one trait. A key is a number, and its value is the key.
+pub(crate) mod bodies;
 mod cache;
 mod index;
 mod map;
+mod ruled_cache;
+mod ruled_index;
+mod ruled_map;
+mod ruled_set;
 mod set;
 
-use scc_script::same::Same;
+use scc_rules::Anything;
 use scc_shared::index::HashIndex;
 use scc_shared::map::HashMap;
 use scc_shared_cache::HashCache;
 use scc_shared_set::HashSet;
 use std::alloc::Global;
 use std::sync::Wait;
+use test_kit::masked::Masked;
 
-pub type Map = HashMap<u64, u64, Same>;
+pub type Map = HashMap<u64, u64, Masked>;
 
-pub type Set = HashSet<u64, Same>;
+pub type Set = HashSet<u64, Masked>;
 
-pub type Index = HashIndex<u64, u64, Same>;
+pub type Index = HashIndex<u64, u64, Masked>;
 
-pub type Cache = HashCache<u64, u64, Same>;
+pub type Cache = HashCache<u64, u64, Masked>;
+
+pub type RuledMap = scc_ruled_map::RuledMap<u64, u64, Anything, Masked>;
+
+pub type RuledSet = scc_ruled_set::RuledSet<u64, Anything, Masked>;
+
+pub type RuledIndex = scc_ruled_index::RuledIndex<u64, u64, Anything, Masked>;
+
+pub type RuledCache = scc_ruled_cache::RuledCache<u64, u64, Anything, Masked>;
 
 /// The least key of the upper half of all hashes.
 pub const HALF: u64 = 1 << 63;
@@ -113,6 +127,9 @@ pub trait Threaded: Sized {
     /// Reads by `look`, and returns whether the answer is right.
     fn look<R: Wait>(&self, rt: &R, alloc: Global, look: Look) -> bool;
 
+    /// Returns the capacity, the least and the greatest capacity.
+    fn slots<R: Wait>(&self, rt: &R) -> [usize; 3];
+
     /// Returns the number of keys.
     fn count<R: Wait>(&self, rt: &R) -> usize;
 
@@ -121,6 +138,9 @@ pub trait Threaded: Sized {
 
     /// Returns a clone, or `None` if memory is refused or the kind has no clones.
     fn copied<R: Wait>(&self, rt: &R) -> Option<Self>;
+
+    /// Makes a container of pairs, or returns `None` if it fails.
+    fn collected<R: Wait>(rt: &R, alloc: Global, pairs: [(u64, u64); 3]) -> Option<Self>;
 }
 
 /// A container that tells the bucket of a key.

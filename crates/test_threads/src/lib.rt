@@ -21,6 +21,8 @@ mod locks;
 #[cfg(test)]
 mod map_stripes;
 #[cfg(test)]
+mod replacing;
+#[cfg(test)]
 mod stripes;
 #[cfg(test)]
 mod trials;

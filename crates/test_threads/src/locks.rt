@@ -2,7 +2,10 @@
 // the next. So one lock round the whole container fails these tests, and so does one lock for each stripe that readers
 // don't share.
 use crate::expect::expect_eq;
-use crate::kinds::{Cache, HALF, Index, Look, Map, Set, Threaded, Visit, Way};
+use crate::kinds::{
+    Cache, HALF, Index, Look, Map, RuledCache, RuledIndex, RuledMap, RuledSet, Set, Threaded,
+    Visit, Way,
+};
 use crate::trials::{Trial, holds_in, holds_in_each};
 use std::alloc::Global;
 use std::process::Abort;
@@ -103,7 +106,7 @@ pub(crate) fn leaves_other<C: Threaded + Sync, R: Threads + Wait + Sync>(
 #[test]
 fn held_entry_other_stripe(rt: HostRuntime) {
     let right = holds_in_each(&rt, rt.alloc(), Trial::OtherStripe);
-    expect_eq(&rt, right, [true; 4]);
+    expect_eq(&rt, right, [true; 8]);
 }
 
 /// Returns whether two threads can read one key at once.
@@ -121,7 +124,7 @@ pub(crate) fn share<C: Threaded + Sync, R: Threads + Wait + Sync>(rt: &R, contai
 #[test]
 fn two_readers_one_stripe(rt: HostRuntime) {
     let right = holds_in_each(&rt, rt.alloc(), Trial::Readers);
-    expect_eq(&rt, right, [true; 4]);
+    expect_eq(&rt, right, [true; 8]);
 }
 
 /// The ways of reading.
@@ -172,11 +175,11 @@ pub(crate) fn looks_beside<C: Threaded + Sync, R: Threads + Wait + Sync>(
 
 #[test]
 fn readers_of_every_way_share_a_stripe(rt: HostRuntime) {
-    let mut found = [[false; 4]; 11];
+    let mut found = [[false; 8]; 11];
     for (look, found) in LOOKS.iter().zip(found.iter_mut()) {
         *found = holds_in_each(&rt, rt.alloc(), Trial::Beside(*look));
     }
-    expect_eq(&rt, found, [[true; 4]; 11]);
+    expect_eq(&rt, found, [[true; 8]; 11]);
 }
 
 /// Goes over all keys once the second stripe is held, and tells when it is in the first stripe.
@@ -253,6 +256,10 @@ fn every_way_lets_its_stripe_go_first(rt: HostRuntime) {
         let_go_first::<Set, _>(&rt, rt.alloc(), 6),
         let_go_first::<Index, _>(&rt, rt.alloc(), 6),
         let_go_first::<Cache, _>(&rt, rt.alloc(), 3),
+        let_go_first::<RuledMap, _>(&rt, rt.alloc(), 6),
+        let_go_first::<RuledSet, _>(&rt, rt.alloc(), 6),
+        let_go_first::<RuledIndex, _>(&rt, rt.alloc(), 6),
+        let_go_first::<RuledCache, _>(&rt, rt.alloc(), 3),
     ];
-    expect_eq(&rt, right, [true; 4]);
+    expect_eq(&rt, right, [true; 8]);
 }

@@ -1,15 +1,18 @@
-// Which stripe and which bucket a key has, the order of stripes in a walk, and the stripe that an entry tells. Under
-// `Same` the highest bits of a key name its stripe, and the bits after them its bucket.
+// Which stripe and which bucket a key has, whether a bucket has room, how a stripe grows, the order of stripes in a
+// walk, and the stripe that an entry tells. Under `SAME` the highest bits of a key name its stripe, and the bits after
+// them its bucket.
 use crate::expect::expect_eq;
-use crate::kinds::{Bucketed, Cache, Index, Map, Set, Threaded, Visit, Way};
+use crate::kinds::{
+    Bucketed, Cache, Index, Map, RuledIndex, RuledMap, RuledSet, Set, Threaded, Visit, Way,
+};
 use crate::trials::{Trial, holds_in_each};
 use scc_cache::locked::Entry as CacheEntry;
 use scc_owned::index::locked::Entry as IndexEntry;
 use scc_owned::map::locked::Entry as MapEntry;
-use scc_script::same::Same;
 use std::alloc::Global;
 use std::process::Abort;
 use std::sync::Wait;
+use test_kit::masked::SAME;
 
 /// Slots for four stripes of two buckets each.
 const SLOTS: usize = 256;
@@ -29,14 +32,17 @@ fn a_stripe_skips_the_bits_that_name_it(rt: HostRuntime) {
         buckets_of_last::<Map, _>(&rt, rt.alloc()),
         buckets_of_last::<Set, _>(&rt, rt.alloc()),
         buckets_of_last::<Index, _>(&rt, rt.alloc()),
+        buckets_of_last::<RuledMap, _>(&rt, rt.alloc()),
+        buckets_of_last::<RuledSet, _>(&rt, rt.alloc()),
+        buckets_of_last::<RuledIndex, _>(&rt, rt.alloc()),
     ];
-    expect_eq(&rt, found, [Some([0, 1]); 3]);
+    expect_eq(&rt, found, [Some([0, 1]); 6]);
 }
 
 /// Puts 64 keys into the last of four stripes, half of them into each of its two buckets. Returns how many are there
 /// then.
 fn fills_last<R: Wait>(rt: &R, alloc: Global) -> Option<usize> {
-    let Ok(cache) = Cache::with_capacity_and_hasher(alloc, SLOTS, SLOTS, Same) else {
+    let Ok(cache) = Cache::with_capacity_and_hasher(alloc, SLOTS, SLOTS, SAME) else {
         return None;
     };
     for number in 0..64u64 {
@@ -50,6 +56,85 @@ fn fills_last<R: Wait>(rt: &R, alloc: Global) -> Option<usize> {
 #[test]
 fn a_stripe_of_a_cache_uses_all_its_buckets(rt: HostRuntime) {
     expect_eq(&rt, fills_last(&rt, rt.alloc()), Some(64));
+}
+
+/// Adds a hundred keys to the first of 16 stripes without arrays, evenly to all buckets. Returns whether each was added,
+/// all are there, and the array has grown.
+pub(crate) fn grows<C: Threaded, R: Wait>(rt: &R, container: &C) -> bool {
+    let mut added = true;
+    for number in 0..100u64 {
+        added = container.add(rt, (number * 37 % 128) << 53) && added;
+    }
+    added && container.count(rt) == 100 && container.slots(rt)[0] >= 128
+}
+
+#[test]
+fn a_stripe_grows_until_it_has_room(rt: HostRuntime) {
+    let right = holds_in_each(&rt, rt.alloc(), Trial::Grows);
+    expect_eq(&rt, right, [true; 8]);
+}
+
+// A container that tells whether the bucket of a key has room.
+trait Roomy: Threaded {
+    /// Returns whether the bucket of the key has room.
+    fn room<R: Wait>(&self, rt: &R, key: u64) -> bool;
+}
+
+impl Roomy for Map {
+    fn room<R: Wait>(&self, rt: &R, key: u64) -> bool {
+        self.has_room(rt, &key)
+    }
+}
+
+impl Roomy for Set {
+    fn room<R: Wait>(&self, rt: &R, key: u64) -> bool {
+        self.has_room(rt, &key)
+    }
+}
+
+impl Roomy for RuledMap {
+    fn room<R: Wait>(&self, rt: &R, key: u64) -> bool {
+        self.has_room(rt, &key)
+    }
+}
+
+impl Roomy for RuledSet {
+    fn room<R: Wait>(&self, rt: &R, key: u64) -> bool {
+        self.has_room(rt, &key)
+    }
+}
+
+impl Roomy for RuledIndex {
+    fn room<R: Wait>(&self, rt: &R, key: u64) -> bool {
+        self.has_room(rt, &key)
+    }
+}
+
+/// Returns whether there is room before an array is made, with one pair in the bucket, and with all of its 32 slots
+/// taken.
+fn rooms<C: Roomy + Drop, R: Wait>(rt: &R, alloc: Global) -> Option<[bool; 3]> {
+    let made = C::make(alloc, 0)?;
+    let mut found = [made.room(rt, 0), false, false];
+    for number in 0..32u64 {
+        if !made.add(rt, number) {
+            return None;
+        }
+        found[1] = found[1] || (number == 0 && made.room(rt, 0));
+    }
+    found[2] = made.room(rt, 0);
+    Some(found)
+}
+
+#[test]
+fn a_full_bucket_has_no_room(rt: HostRuntime) {
+    let found = [
+        rooms::<Map, _>(&rt, rt.alloc()),
+        rooms::<Set, _>(&rt, rt.alloc()),
+        rooms::<RuledMap, _>(&rt, rt.alloc()),
+        rooms::<RuledSet, _>(&rt, rt.alloc()),
+        rooms::<RuledIndex, _>(&rt, rt.alloc()),
+    ];
+    expect_eq(&rt, found, [Some([false, true, false]); 5]);
 }
 
 // Compares each key with the least key of the next stripe.
@@ -106,7 +191,7 @@ const WAYS: [Way; 6] = [
 fn every_way_goes_from_stripe_to_stripe(rt: HostRuntime) {
     for way in WAYS {
         let right = holds_in_each(&rt, rt.alloc(), Trial::InOrder(way));
-        expect_eq(&rt, right, [true; 4]);
+        expect_eq(&rt, right, [true; 8]);
     }
 }
 

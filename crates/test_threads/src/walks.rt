@@ -1,7 +1,7 @@
 // Walks of every way beside two threads that write: each of a hundred keys that nobody touches is met once, while
 // other keys come and go, and arrays grow and shrink.
 use crate::expect::expect_eq;
-use crate::kinds::{Index, Map, Set, Threaded, Visit, Way};
+use crate::kinds::{Index, Map, RuledIndex, RuledMap, RuledSet, Set, Threaded, Visit, Way};
 use crate::trials::{Trial, holds_in, holds_in_each};
 use std::alloc::Global;
 use std::process::Abort;
@@ -151,7 +151,7 @@ pub(crate) fn walks_beside<C: Threaded + Sync, R: Threads + Wait + Sync>(
 #[test]
 fn walks_meet_untouched_keys_once(rt: HostRuntime) {
     let right = holds_in_each(&rt, rt.alloc(), Trial::Walks(100, SLOTS));
-    expect_eq(&rt, right, [true; 4]);
+    expect_eq(&rt, right, [true; 8]);
 }
 
 #[test]
@@ -161,6 +161,9 @@ fn walks_meet_untouched_keys_once_beside_growth(rt: HostRuntime) {
         holds_in::<Map, _>(&rt, rt.alloc(), growth),
         holds_in::<Set, _>(&rt, rt.alloc(), growth),
         holds_in::<Index, _>(&rt, rt.alloc(), growth),
+        holds_in::<RuledMap, _>(&rt, rt.alloc(), growth),
+        holds_in::<RuledSet, _>(&rt, rt.alloc(), growth),
+        holds_in::<RuledIndex, _>(&rt, rt.alloc(), growth),
     ];
-    expect_eq(&rt, right, [true; 3]);
+    expect_eq(&rt, right, [true; 6]);
 }

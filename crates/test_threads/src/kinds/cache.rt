@@ -1,10 +1,10 @@
 // The cache.
+use super::bodies::{enters, keeps_all, looks_in_cache, takes_none};
 use super::{Cache, Look, MOST, Passing, Threaded, Visit, Way};
 use scc_common::Verdict;
-use scc_script::same::Same;
-use scc_shared_cache::HashCache;
 use std::alloc::Global;
 use std::sync::Wait;
+use test_kit::masked::SAME;
 
 fn walk<R: Wait, V: Visit>(rt: &R, cache: &Cache, visit: &mut V) -> bool {
     cache.iter_sync(rt, |key, _| {
@@ -14,36 +14,20 @@ fn walk<R: Wait, V: Visit>(rt: &R, cache: &Cache, visit: &mut V) -> bool {
 }
 
 fn keep<R: Wait, V: Visit>(rt: &R, cache: &Cache, visit: &mut V) -> bool {
-    cache.retain_sync(rt, |key, _| {
-        visit.meet(*key);
-        true
-    });
-    true
+    keeps_all!(cache, rt, visit, _)
 }
 
 fn take<R: Wait, V: Visit>(rt: &R, alloc: Global, cache: &Cache, visit: &mut V) -> bool {
-    let mut taken: Vec<(u64, u64)> = Vec::new(alloc);
-    let ended = cache.iter_mut_sync(
-        rt,
-        |key, _| {
-            visit.meet(*key);
-            Verdict::Keep
-        },
-        &mut taken,
-    );
-    ended == Ok(true) && taken.is_empty()
+    takes_none!(cache, rt, visit, Vec::<(u64, u64)>::new(alloc), _)
 }
 
 impl Threaded for Cache {
     fn make(alloc: Global, slots: usize) -> Option<Cache> {
-        HashCache::with_capacity_and_hasher(alloc, slots, MOST, Same).ok()
+        Cache::with_capacity_and_hasher(alloc, slots, MOST, SAME).ok()
     }
 
     fn add<R: Wait>(&self, rt: &R, key: u64) -> bool {
-        match self.put_sync(rt, key, key) {
-            Ok(evicted) => evicted.is_none(),
-            Err(_) => false,
-        }
+        matches!(self.put_sync(rt, key, key), Ok(None))
     }
 
     fn rewrite<R: Wait>(&self, rt: &R, key: u64, value: u64) -> bool {
@@ -69,13 +53,7 @@ impl Threaded for Cache {
     }
 
     fn at_entry<R: Wait, V: Visit>(&self, rt: &R, key: u64, visit: &mut V) -> bool {
-        match self.get_sync(rt, &key) {
-            Some(entry) => {
-                visit.meet(*entry.key());
-                true
-            }
-            None => false,
-        }
+        enters!(self.get_sync(rt, &key), visit, key)
     }
 
     fn at_read<R: Wait, V: Visit>(&self, rt: &R, key: u64, visit: &mut V) -> bool {
@@ -84,14 +62,12 @@ impl Threaded for Cache {
     }
 
     fn look<R: Wait>(&self, rt: &R, alloc: Global, look: Look) -> bool {
-        match look {
-            Look::Contains => self.contains_sync(rt, &1),
-            Look::Walk => self.go_over(rt, alloc, Way::Walk, &mut Passing),
-            Look::Count => self.len(rt) == 2,
-            Look::Empty => !self.is_empty(rt),
-            Look::Compare => self.eq_sync(rt, self),
-            _ => self.at_read(rt, 1, &mut Passing),
-        }
+        looks_in_cache!(self, rt, alloc, look)
+    }
+
+    fn slots<R: Wait>(&self, rt: &R) -> [usize; 3] {
+        let range = self.capacity_range();
+        [self.capacity(rt), *range.start(), *range.end()]
     }
 
     fn count<R: Wait>(&self, rt: &R) -> usize {
@@ -104,5 +80,9 @@ impl Threaded for Cache {
 
     fn copied<R: Wait>(&self, _rt: &R) -> Option<Cache> {
         None
+    }
+
+    fn collected<R: Wait>(rt: &R, alloc: Global, pairs: [(u64, u64); 3]) -> Option<Cache> {
+        Cache::try_from_iter(rt, alloc, pairs).ok()
     }
 }

@@ -1,34 +1,20 @@
 // The index.
+use super::bodies::{
+    asks_all, enters, goes_over_versions, keeps_all, looks_at_versions, removes_on, snaps, steps_on,
+};
 use super::{Bucketed, Index, Look, MOST, Passing, Threaded, Visit, Way};
-use scc_script::same::Same;
-use scc_shared::index::HashIndex;
 use std::alloc::Global;
 use std::sync::Wait;
+use test_kit::masked::SAME;
 
 /// Goes from entry to entry.
 fn step_on<R: Wait, V: Visit>(rt: &R, index: &Index, visit: &mut V) -> bool {
-    let mut entry = index.begin_sync(rt);
-    for _ in 0..MOST {
-        let Some(here) = entry else {
-            return true;
-        };
-        visit.meet(*here.key());
-        entry = here.next_sync(rt);
-    }
-    false
+    steps_on!(index, rt, visit, key)
 }
 
 /// Goes from entry to entry, and removes each.
 fn remove_on<R: Wait, V: Visit>(rt: &R, index: &Index, visit: &mut V) -> bool {
-    let mut entry = index.begin_sync(rt);
-    for _ in 0..MOST {
-        let Some(here) = entry else {
-            return true;
-        };
-        visit.meet(*here.key());
-        entry = here.remove_and_sync(rt);
-    }
-    false
+    removes_on!(index, rt, visit, key)
 }
 
 fn walk<R: Wait, V: Visit>(rt: &R, index: &Index, visit: &mut V) -> bool {
@@ -39,34 +25,20 @@ fn walk<R: Wait, V: Visit>(rt: &R, index: &Index, visit: &mut V) -> bool {
 }
 
 fn keep<R: Wait, V: Visit>(rt: &R, index: &Index, visit: &mut V) -> bool {
-    index.retain_sync(rt, |key, _| {
-        visit.meet(*key);
-        true
-    });
-    true
+    keeps_all!(index, rt, visit, _)
 }
 
 fn ask<R: Wait, V: Visit>(rt: &R, index: &Index, visit: &mut V) -> bool {
-    let found = index.any_sync(rt, |key, _| {
-        visit.meet(*key);
-        false
-    });
-    found.is_none()
+    asks_all!(index, rt, visit, _)
 }
 
 fn snapshot<R: Wait, V: Visit>(rt: &R, index: &Index, visit: &mut V) -> bool {
-    let Ok(versions) = index.iter(rt) else {
-        return false;
-    };
-    for version in versions {
-        visit.meet(*version.key());
-    }
-    true
+    snaps!(index, rt, visit)
 }
 
 impl Threaded for Index {
     fn make(alloc: Global, slots: usize) -> Option<Index> {
-        HashIndex::with_capacity_and_hasher(alloc, slots, Same).ok()
+        Index::with_capacity_and_hasher(alloc, slots, SAME).ok()
     }
 
     fn add<R: Wait>(&self, rt: &R, key: u64) -> bool {
@@ -85,28 +57,11 @@ impl Threaded for Index {
     }
 
     fn go_over<R: Wait, V: Visit>(&self, rt: &R, _alloc: Global, way: Way, visit: &mut V) -> bool {
-        match way {
-            Way::Walk | Way::Take => walk(rt, self, visit),
-            Way::Keep => keep(rt, self, visit),
-            Way::Ask => ask(rt, self, visit),
-            Way::Next => step_on(rt, self, visit),
-            Way::Remove => remove_on(rt, self, visit),
-            Way::Snapshot => snapshot(rt, self, visit),
-            Way::Copy => match self.copied(rt) {
-                Some(copy) => walk(rt, &copy, visit),
-                None => false,
-            },
-        }
+        goes_over_versions!(self, rt, way, visit)
     }
 
     fn at_entry<R: Wait, V: Visit>(&self, rt: &R, key: u64, visit: &mut V) -> bool {
-        match self.get_sync(rt, &key) {
-            Some(entry) => {
-                visit.meet(*entry.key());
-                true
-            }
-            None => false,
-        }
+        enters!(self.get_sync(rt, &key), visit, key)
     }
 
     fn at_read<R: Wait, V: Visit>(&self, rt: &R, key: u64, visit: &mut V) -> bool {
@@ -115,18 +70,12 @@ impl Threaded for Index {
     }
 
     fn look<R: Wait>(&self, rt: &R, alloc: Global, look: Look) -> bool {
-        match look {
-            Look::Read | Look::Room => self.at_read(rt, 1, &mut Passing),
-            Look::Contains => self.contains(rt, &1),
-            Look::Walk => self.go_over(rt, alloc, Way::Walk, &mut Passing),
-            Look::Count => self.len(rt) == 2,
-            Look::Empty => !self.is_empty(rt),
-            Look::Compare => self.eq_sync(rt, self),
-            Look::Bucket => self.bucket_index(rt, &1) == 0,
-            Look::Peek => matches!(self.peek(rt, &1), Ok(Some(_))),
-            Look::PeekWith => self.peek_with(rt, &1, |_, v| *v) == Some(1),
-            Look::Snapshot => self.go_over(rt, alloc, Way::Snapshot, &mut Passing),
-        }
+        looks_at_versions!(self, rt, alloc, look)
+    }
+
+    fn slots<R: Wait>(&self, rt: &R) -> [usize; 3] {
+        let range = self.capacity_range();
+        [self.capacity(rt), *range.start(), *range.end()]
     }
 
     fn count<R: Wait>(&self, rt: &R) -> usize {
@@ -139,6 +88,10 @@ impl Threaded for Index {
 
     fn copied<R: Wait>(&self, rt: &R) -> Option<Index> {
         self.try_clone(rt).ok()
+    }
+
+    fn collected<R: Wait>(rt: &R, alloc: Global, pairs: [(u64, u64); 3]) -> Option<Index> {
+        Index::try_from_iter(rt, alloc, pairs).ok()
     }
 }
 

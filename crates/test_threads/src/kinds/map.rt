@@ -1,35 +1,21 @@
 // The map.
+use super::bodies::{
+    asks_all, enters, goes_over, keeps_all, looks, removes_on, steps_on, takes_none,
+};
 use super::{Bucketed, Look, MOST, Map, Passing, Threaded, Visit, Way};
 use scc_common::Verdict;
-use scc_script::same::Same;
-use scc_shared::map::HashMap;
 use std::alloc::Global;
 use std::sync::Wait;
+use test_kit::masked::SAME;
 
 /// Goes from entry to entry.
 fn step_on<R: Wait, V: Visit>(rt: &R, map: &Map, visit: &mut V) -> bool {
-    let mut entry = map.begin_sync(rt);
-    for _ in 0..MOST {
-        let Some(here) = entry else {
-            return true;
-        };
-        visit.meet(*here.key());
-        entry = here.next_sync(rt);
-    }
-    false
+    steps_on!(map, rt, visit, key)
 }
 
 /// Goes from entry to entry, and removes each.
 fn remove_on<R: Wait, V: Visit>(rt: &R, map: &Map, visit: &mut V) -> bool {
-    let mut entry = map.begin_sync(rt);
-    for _ in 0..MOST {
-        let Some(here) = entry else {
-            return true;
-        };
-        visit.meet(*here.key());
-        entry = here.remove_and_sync(rt).1;
-    }
-    false
+    removes_on!(map, rt, visit, key, 1)
 }
 
 fn walk<R: Wait, V: Visit>(rt: &R, map: &Map, visit: &mut V) -> bool {
@@ -40,37 +26,20 @@ fn walk<R: Wait, V: Visit>(rt: &R, map: &Map, visit: &mut V) -> bool {
 }
 
 fn keep<R: Wait, V: Visit>(rt: &R, map: &Map, visit: &mut V) -> bool {
-    map.retain_sync(rt, |key, _| {
-        visit.meet(*key);
-        true
-    });
-    true
+    keeps_all!(map, rt, visit, _)
 }
 
 fn take<R: Wait, V: Visit>(rt: &R, alloc: Global, map: &Map, visit: &mut V) -> bool {
-    let mut taken: Vec<(u64, u64)> = Vec::new(alloc);
-    let ended = map.iter_mut_sync(
-        rt,
-        |key, _| {
-            visit.meet(*key);
-            Verdict::Keep
-        },
-        &mut taken,
-    );
-    ended == Ok(true) && taken.is_empty()
+    takes_none!(map, rt, visit, Vec::<(u64, u64)>::new(alloc), _)
 }
 
 fn ask<R: Wait, V: Visit>(rt: &R, map: &Map, visit: &mut V) -> bool {
-    let found = map.any_sync(rt, |key, _| {
-        visit.meet(*key);
-        false
-    });
-    found.is_none()
+    asks_all!(map, rt, visit, _)
 }
 
 impl Threaded for Map {
     fn make(alloc: Global, slots: usize) -> Option<Map> {
-        HashMap::with_capacity_and_hasher(alloc, slots, Same).ok()
+        Map::with_capacity_and_hasher(alloc, slots, SAME).ok()
     }
 
     fn add<R: Wait>(&self, rt: &R, key: u64) -> bool {
@@ -86,28 +55,11 @@ impl Threaded for Map {
     }
 
     fn go_over<R: Wait, V: Visit>(&self, rt: &R, alloc: Global, way: Way, visit: &mut V) -> bool {
-        match way {
-            Way::Walk | Way::Snapshot => walk(rt, self, visit),
-            Way::Keep => keep(rt, self, visit),
-            Way::Take => take(rt, alloc, self, visit),
-            Way::Ask => ask(rt, self, visit),
-            Way::Next => step_on(rt, self, visit),
-            Way::Remove => remove_on(rt, self, visit),
-            Way::Copy => match self.copied(rt) {
-                Some(copy) => walk(rt, &copy, visit),
-                None => false,
-            },
-        }
+        goes_over!(self, rt, alloc, way, visit)
     }
 
     fn at_entry<R: Wait, V: Visit>(&self, rt: &R, key: u64, visit: &mut V) -> bool {
-        match self.get_sync(rt, &key) {
-            Some(entry) => {
-                visit.meet(*entry.key());
-                true
-            }
-            None => false,
-        }
+        enters!(self.get_sync(rt, &key), visit, key)
     }
 
     fn at_read<R: Wait, V: Visit>(&self, rt: &R, key: u64, visit: &mut V) -> bool {
@@ -116,18 +68,12 @@ impl Threaded for Map {
     }
 
     fn look<R: Wait>(&self, rt: &R, alloc: Global, look: Look) -> bool {
-        match look {
-            Look::Contains => self.contains_sync(rt, &1),
-            Look::Walk => self.go_over(rt, alloc, Way::Walk, &mut Passing),
-            Look::Count => self.len(rt) == 2,
-            Look::Empty => !self.is_empty(rt),
-            Look::Compare => self.eq_sync(rt, self),
-            Look::Bucket => self.bucket_index(rt, &1) == 0,
-            Look::Room => self.has_room(rt, &1),
-            Look::Read | Look::Peek | Look::PeekWith | Look::Snapshot => {
-                self.at_read(rt, 1, &mut Passing)
-            }
-        }
+        looks!(self, rt, alloc, look)
+    }
+
+    fn slots<R: Wait>(&self, rt: &R) -> [usize; 3] {
+        let range = self.capacity_range();
+        [self.capacity(rt), *range.start(), *range.end()]
     }
 
     fn count<R: Wait>(&self, rt: &R) -> usize {
@@ -140,6 +86,10 @@ impl Threaded for Map {
 
     fn copied<R: Wait>(&self, rt: &R) -> Option<Map> {
         self.try_clone(rt).ok()
+    }
+
+    fn collected<R: Wait>(rt: &R, alloc: Global, pairs: [(u64, u64); 3]) -> Option<Map> {
+        Map::try_from_iter(rt, alloc, pairs).ok()
     }
 }
 

@@ -1,35 +1,21 @@
 // The set.
+use super::bodies::{
+    asks_all, enters, goes_over, keeps_all, looks, removes_on, steps_on, takes_none,
+};
 use super::{Bucketed, Look, MOST, Passing, Set, Threaded, Visit, Way};
 use scc_common::Verdict;
-use scc_script::same::Same;
-use scc_shared_set::HashSet;
 use std::alloc::Global;
 use std::sync::Wait;
+use test_kit::masked::SAME;
 
 /// Goes from entry to entry.
 fn step_on<R: Wait, V: Visit>(rt: &R, set: &Set, visit: &mut V) -> bool {
-    let mut entry = set.begin_sync(rt);
-    for _ in 0..MOST {
-        let Some(here) = entry else {
-            return true;
-        };
-        visit.meet(*here.get());
-        entry = here.next_sync(rt);
-    }
-    false
+    steps_on!(set, rt, visit, get)
 }
 
 /// Goes from entry to entry, and removes each.
 fn remove_on<R: Wait, V: Visit>(rt: &R, set: &Set, visit: &mut V) -> bool {
-    let mut entry = set.begin_sync(rt);
-    for _ in 0..MOST {
-        let Some(here) = entry else {
-            return true;
-        };
-        visit.meet(*here.get());
-        entry = here.remove_and_sync(rt).1;
-    }
-    false
+    removes_on!(set, rt, visit, get, 1)
 }
 
 fn walk<R: Wait, V: Visit>(rt: &R, set: &Set, visit: &mut V) -> bool {
@@ -40,37 +26,20 @@ fn walk<R: Wait, V: Visit>(rt: &R, set: &Set, visit: &mut V) -> bool {
 }
 
 fn keep<R: Wait, V: Visit>(rt: &R, set: &Set, visit: &mut V) -> bool {
-    set.retain_sync(rt, |key| {
-        visit.meet(*key);
-        true
-    });
-    true
+    keeps_all!(set, rt, visit)
 }
 
 fn take<R: Wait, V: Visit>(rt: &R, alloc: Global, set: &Set, visit: &mut V) -> bool {
-    let mut taken: Vec<u64> = Vec::new(alloc);
-    let ended = set.iter_mut_sync(
-        rt,
-        |key| {
-            visit.meet(*key);
-            Verdict::Keep
-        },
-        &mut taken,
-    );
-    ended == Ok(true) && taken.is_empty()
+    takes_none!(set, rt, visit, Vec::<u64>::new(alloc))
 }
 
 fn ask<R: Wait, V: Visit>(rt: &R, set: &Set, visit: &mut V) -> bool {
-    let found = set.any_sync(rt, |key| {
-        visit.meet(*key);
-        false
-    });
-    found.is_none()
+    asks_all!(set, rt, visit)
 }
 
 impl Threaded for Set {
     fn make(alloc: Global, slots: usize) -> Option<Set> {
-        HashSet::with_capacity_and_hasher(alloc, slots, Same).ok()
+        Set::with_capacity_and_hasher(alloc, slots, SAME).ok()
     }
 
     fn add<R: Wait>(&self, rt: &R, key: u64) -> bool {
@@ -86,28 +55,11 @@ impl Threaded for Set {
     }
 
     fn go_over<R: Wait, V: Visit>(&self, rt: &R, alloc: Global, way: Way, visit: &mut V) -> bool {
-        match way {
-            Way::Walk | Way::Snapshot => walk(rt, self, visit),
-            Way::Keep => keep(rt, self, visit),
-            Way::Take => take(rt, alloc, self, visit),
-            Way::Ask => ask(rt, self, visit),
-            Way::Next => step_on(rt, self, visit),
-            Way::Remove => remove_on(rt, self, visit),
-            Way::Copy => match self.copied(rt) {
-                Some(copy) => walk(rt, &copy, visit),
-                None => false,
-            },
-        }
+        goes_over!(self, rt, alloc, way, visit)
     }
 
     fn at_entry<R: Wait, V: Visit>(&self, rt: &R, key: u64, visit: &mut V) -> bool {
-        match self.any_sync(rt, |other| *other == key) {
-            Some(entry) => {
-                visit.meet(*entry.get());
-                true
-            }
-            None => false,
-        }
+        enters!(self.any_sync(rt, |other| *other == key), visit, get)
     }
 
     fn at_read<R: Wait, V: Visit>(&self, rt: &R, key: u64, visit: &mut V) -> bool {
@@ -115,18 +67,12 @@ impl Threaded for Set {
     }
 
     fn look<R: Wait>(&self, rt: &R, alloc: Global, look: Look) -> bool {
-        match look {
-            Look::Contains => self.contains_sync(rt, &1),
-            Look::Walk => self.go_over(rt, alloc, Way::Walk, &mut Passing),
-            Look::Count => self.len(rt) == 2,
-            Look::Empty => !self.is_empty(rt),
-            Look::Compare => self.eq_sync(rt, self),
-            Look::Bucket => self.bucket_index(rt, &1) == 0,
-            Look::Room => self.has_room(rt, &1),
-            Look::Read | Look::Peek | Look::PeekWith | Look::Snapshot => {
-                self.at_read(rt, 1, &mut Passing)
-            }
-        }
+        looks!(self, rt, alloc, look)
+    }
+
+    fn slots<R: Wait>(&self, rt: &R) -> [usize; 3] {
+        let range = self.capacity_range();
+        [self.capacity(rt), *range.start(), *range.end()]
     }
 
     fn count<R: Wait>(&self, rt: &R) -> usize {
@@ -139,6 +85,10 @@ impl Threaded for Set {
 
     fn copied<R: Wait>(&self, rt: &R) -> Option<Set> {
         self.try_clone(rt).ok()
+    }
+
+    fn collected<R: Wait>(rt: &R, alloc: Global, pairs: [(u64, u64); 3]) -> Option<Set> {
+        Set::try_from_iter(rt, alloc, [pairs[0].0, pairs[1].0, pairs[2].0]).ok()
     }
 }
 
