@@ -24,8 +24,8 @@ use Rattle.scc_table.proofs.places.Entries.{place-prop}
 use Rattle.scc_cache.specs.CacheSteps.{ChangesLists, IsFound, IsLastAt, IsPreparedForPut, PutsNew, list_number}
 use Rattle.scc_cache.specs.Caches.{Cached}
 use Rattle.scc_common.specs.declared.errors.InsertError.{InsertError}
-use Rattle.scc_fallible.specs.declared.TryInsertError.{TryInsertError}
-use Rattle.scc_fallible.specs.declared.TryInsertError.TheVariants.{Failed, Memory as NoMemory}
+use Rattle.scc_common.specs.declared.errors.TryInsertError.{TryInsertError}
+use Rattle.scc_common.specs.declared.errors.TryInsertError.TheVariants.{Failed, Memory as NoMemory}
 use Rattle.scc_cache.specs.Entries.{Memory, Occupied, Vacant, entry_guard, entry_key, occupied_pair, FailsAtVacant, FailsOrRefuses, IsMoved, IsPut, IsRefreshed, IsReplacedBy, IsWritten, OrPuts, OrPutsSome, Refuses, RefusesSome, SetsEntry, written_cache, still_within, with_value}
 use Rattle.scc_cache.specs.Lends.{with_key_at, with_value_at}
 use Rattle.scc_cache.specs.ListSteps.{Refreshes, RefreshesAs, Rewrites}

@@ -17,8 +17,8 @@ use Rattle.scc_buckets.specs.declared.place.Place.{Place}
 use Rattle.scc_table.specs.Placed.{entry_of, IsPlace-with_write_at}
 use Rattle.scc_table.specs.Places.{IsPlace, spot_of}
 use Rattle.scc_common.specs.declared.errors.InsertError.{InsertError}
-use Rattle.scc_fallible.specs.declared.TryInsertError.{TryInsertError}
-use Rattle.scc_fallible.specs.declared.TryInsertError.TheVariants.{Failed, Memory as NoMemory}
+use Rattle.scc_common.specs.declared.errors.TryInsertError.{TryInsertError}
+use Rattle.scc_common.specs.declared.errors.TryInsertError.TheVariants.{Failed, Memory as NoMemory}
 use Rattle.scc_common.specs.declared.guard.Guard as guard
 use Rattle.scc_cache.specs.CacheSteps.{ChangesLists, IsAbsent, IsPreparedForPut, PutsNew, list_number}
 use Rattle.scc_cache.specs.Caches.{Cached}

@@ -8,12 +8,13 @@ pub mod errors;
 pub mod guard;
 pub mod hashes;
 pub mod shared;
+pub mod snapshot;
 pub mod verdict;
 pub mod version;
 pub mod writer;
 
 pub use entry::{Keyed, Lending, Made, Valued};
-pub use errors::{InsertError, KeyError, MakeError, WalkError};
+pub use errors::{InsertError, KeyError, MakeError, TryInsertError, WalkError};
 pub use guard::Guard;
 pub use hashes::Hashes;
 pub use shared::{CloneOwner, Shared};

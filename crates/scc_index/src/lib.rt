@@ -2,8 +2,7 @@
 //! their versions, snapshots, entries, reservations and errors. The entries of `Owned` are in `owned`.
 #![tactic(auto)]
 
-pub use scc_common::{InsertError, MakeError, Version};
-pub use scc_fallible::TryInsertError;
+pub use scc_common::{InsertError, MakeError, TryInsertError, Version};
 pub use scc_owned::index::locked::{Entry, OccupiedEntry, VacantEntry};
 pub use scc_owned::index::{Iter, Owned, borrowed as owned};
 pub use scc_shared::index::{HashIndex, Reserve};

@@ -12,8 +12,8 @@ use Rattle.scc_buckets.specs.declared.place.Place.{Place}
 use Rattle.scc_table.specs.Places.{IsInsertedAt}
 use Rattle.scc_table.specs.Relocations.{Relocates, RelocatesTwo}
 use Rattle.scc_common.specs.declared.errors.InsertError.{InsertError}
-use Rattle.scc_fallible.specs.declared.TryInsertError.{TryInsertError}
-use Rattle.scc_fallible.specs.declared.TryInsertError.TheVariants.{Failed, Memory as NoMemory}
+use Rattle.scc_common.specs.declared.errors.TryInsertError.{TryInsertError}
+use Rattle.scc_common.specs.declared.errors.TryInsertError.TheVariants.{Failed, Memory as NoMemory}
 use Rattle.scc_common.specs.declared.entry.Keyed as keyed
 use Rattle.scc_common.specs.declared.guard.Guard as guard
 use Rattle.scc_table.proofs.places.Entries.{put-there}

@@ -14,4 +14,4 @@ mod whole;
 pub use crate::Index as Owned;
 pub use crate::held::{HeldEntry, HeldOccupied, HeldVacant};
 pub use borrowed::{Entry, OccupiedEntry, VacantEntry};
-pub use scc_snapshot::Iter;
+pub use scc_common::snapshot::Iter;

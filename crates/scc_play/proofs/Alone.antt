@@ -15,8 +15,8 @@ use Rattle.scc_history.specs.Receipts.{calls_of}
 use Rattle.scc_history.specs.Stamps.{calls_in, receipt}
 use Rattle.scc_history.specs.declared.log.Receipt.{Receipt}
 use Rattle.scc_history.proofs.Places.{merge_of}
-use Rattle.scc_print.specs.Finished.{IsOutput}
-use Rattle.scc_print.specs.Output.{output_of}
+use Rattle.scc_play.specs.Finished.{IsOutput}
+use Rattle.scc_play.specs.Output.{output_of}
 use Rattle.scc_script.specs.declared.line.WorkerCall.{WorkerCall}
 use Rattle.scc_play.specs.Answered.{AreAnswered, IsAnsweredBy, calls_by}
 use Rattle.scc_play.specs.Endings.{all_calls}

@@ -14,7 +14,7 @@ use Rattle.scc_history.specs.Receipts.{calls_of}
 use Rattle.scc_history.specs.Stamps.{calls_in}
 use Rattle.scc_history.specs.declared.log.Receipt.{Receipt}
 use Rattle.scc_recorded.specs.Closing.{AllMatch}
-use Rattle.scc_print.specs.Output.{output_of}
+use Rattle.scc_play.specs.Output.{output_of}
 use Rattle.scc_script.specs.declared.line.WorkerCall.{WorkerCall}
 use Rattle.scc_play.specs.Answered.{AreAnswered, calls_by}
 use Rattle.scc_play.specs.Played.{IsMadeBy, IsPlayed, Machine}

@@ -1,6 +1,8 @@
 pub mod Alone
 pub mod Answering
 pub mod Assembling
+pub mod Drained
+pub mod DrainedKeys
 pub mod Ending
 pub mod Exact
 pub mod Keys

@@ -14,9 +14,9 @@ use Rattle.scc_calls.specs.Made.{IsMadeFor}
 use Rattle.scc_common.specs.Routing.{bucket_number}
 use Rattle.scc_common.specs.Sizes.{IsArraySize}
 use Rattle.scc_recorded.specs.Setups.{share_among}
-use Rattle.scc_print.specs.Finished.{IsOutput, MapOutput, SetOutput, IndexOutput, CacheOutput, script_setting, key_number, pair_cmp}
-use Rattle.scc_print.specs.Output.{reply_line, content_line}
-use Rattle.scc_print.proofs.Drained.{all-entries}
+use Rattle.scc_play.specs.Finished.{IsOutput, MapOutput, SetOutput, IndexOutput, CacheOutput, script_setting, key_number, pair_cmp}
+use Rattle.scc_play.specs.Output.{reply_line, content_line}
+use Rattle.scc_play.proofs.Drained.{all-entries}
 use Rattle.scc_script.specs.declared.line.WorkerCall.{WorkerCall}
 use Rattle.scc_script.specs.declared.same.Same.{Same}
 use Rattle.scc_play.specs.Endings.{all_calls}

@@ -3,7 +3,7 @@ use Rattle.std.specs.Prelude.{◌≡◌, ◌⊎◌, ◌<◌, ℕ, List, ◌++◌
 use Rattle.std.specs.List.{AllByRecursion}
 use Rattle.std.specs.Fmt.{decimal}
 use Rattle.std.specs.Io.KnownBytes.{Appends}
-use Rattle.scc_print.specs.Finished.{MapOutput, SetOutput, IndexOutput, CacheOutput}
+use Rattle.scc_play.specs.Finished.{MapOutput, SetOutput, IndexOutput, CacheOutput}
 use Rattle.scc_script.specs.Grammar.{Meaning, map_calls, set_calls, index_calls, cache_calls, bad_line}
 use Rattle.scc_script.specs.declared.line.WorkerCall.{WorkerCall}
 use Rattle.scc_play.specs.Kinds.{MapPlayed, SetPlayed, IndexPlayed, CachePlayed}

@@ -25,8 +25,8 @@ use Rattle.scc_calls.specs.declared.fixed.Request.{Request}
 use Rattle.scc_calls.specs.declared.replies.Reply.{Reply}
 use Rattle.scc_calls.specs.declared.replies.Reply.TheVariants.{Count}
 use Rattle.scc_recorded.specs.Setups.{request_of}
-use Rattle.scc_print.specs.Finished.{pair_cmp}
-use Rattle.scc_print.specs.Output.{reply_line, content_line, key_reply_line, key_line}
+use Rattle.scc_play.specs.Finished.{pair_cmp}
+use Rattle.scc_play.specs.Output.{reply_line, content_line, key_reply_line, key_line}
 use Rattle.scc_script.specs.Hashes.{same_write}
 use Rattle.scc_script.specs.declared.line.WorkerCall.{WorkerCall}
 use Rattle.scc_script.specs.declared.same.Same.{Same}

@@ -1,7 +1,9 @@
 pub mod Answered
 pub mod Ended
 pub mod Endings
+pub mod Finished
 pub mod Kinds
 pub mod Making
+pub mod Output
 pub mod Played
 pub mod Telling

@@ -12,7 +12,7 @@ use Rattle.scc_calls.specs.declared.steps.Step.TheVariants.{Call, Resize}
 use Rattle.scc_history.specs.Orders.{IsMergeOrder, IsStampOrder, StampsRise, steps_at}
 use Rattle.scc_history.specs.Receipts.{calls_of}
 use Rattle.scc_history.specs.Stamps.{calls_in}
-use Rattle.scc_print.specs.Output.{output_of}
+use Rattle.scc_play.specs.Output.{output_of}
 use Rattle.scc_script.specs.declared.line.WorkerCall.{WorkerCall}
 use Rattle.scc_play.specs.Answered.{AreAnswered, calls_by}
 

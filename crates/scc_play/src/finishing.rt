@@ -15,7 +15,7 @@ ghost use Rattle.scc_play.specs.Telling.{AreTold};
 use crate::ends::{Cause, End};
 use crate::receipts::{calls_of, replies_of};
 use crate::whole::whole_text;
-use scc_print::printed::Printed;
+use crate::printed::Printed;
 use scc_recorded::{Closed, FinishError, Pass, Site};
 use scc_script::line::WorkerCall;
 use std::alloc::{AllocError, Global};

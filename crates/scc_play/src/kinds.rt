@@ -18,7 +18,7 @@ use scc_recorded::{Recorded, Setup, Site};
 use scc_script::line::WorkerCall;
 use scc_script::same::Same;
 use scc_set::Owned as OwnedSet;
-use scc_workers::{Open, run};
+use scc_stripes::workers::{Open, run};
 use std::alloc::{AllocError, Global};
 use std::marker::Brand;
 use std::sync::ledger::{Blank, Ledger};

@@ -3,7 +3,7 @@ ghost use Rattle.std.specs.Prelude.{◌≡◌, ◌≢◌, ◌⊎◌, ◌<◌, If
 ghost use Rattle.std.specs.List.{AllByRecursion};
 ghost use Rattle.std.specs.String.{string_bytes};
 ghost use Rattle.std.specs.Io.KnownBytes.{Appends};
-ghost use Rattle.scc_print.specs.Finished.{MapOutput, SetOutput, IndexOutput, CacheOutput};
+ghost use Rattle.scc_play.specs.Finished.{MapOutput, SetOutput, IndexOutput, CacheOutput};
 ghost use Rattle.scc_script.specs.Grammar.{script_of, IsWorkerCount, IsStripeCount, IsCacheStripeCount};
 ghost use Rattle.scc_script.specs.Scripts.{HasCounts, meaning_of};
 ghost use Rattle.scc_play.specs.Endings.{WritesAnswer, AnswersBy, Ends, HasOwners, all_calls, bad_line_text, finish_text};

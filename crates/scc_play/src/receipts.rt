@@ -5,7 +5,7 @@ ghost use Rattle.scc_play.specs.Answered.{AreAnswered, AreInOrder, IsAnswered, I
 ghost use Rattle.scc_recorded.specs.Adds.{number_or_zero};
 
 use scc_history::Receipt;
-use scc_print::printed::Printed;
+use crate::printed::Printed;
 use scc_script::line::WorkerCall;
 use std::alloc::{AllocError, Global};
 

@@ -4,13 +4,13 @@ ghost use Rattle.std.specs.List.{AllByRecursion, flat_map, sum_by};
 ghost use Rattle.std.specs.List.Sorted.{IsPermutation, IsSorted};
 ghost use Rattle.std.specs.String.{string_bytes};
 ghost use Rattle.scc_history.specs.Stamps.{calls_in};
-ghost use Rattle.scc_print.specs.Output.{output_of};
+ghost use Rattle.scc_play.specs.Output.{output_of};
 ghost use Rattle.scc_play.specs.Played.{IsMadeBy};
 
 use scc_calls::Step;
 use scc_history::count_all_calls;
-use scc_print::printed::Printed;
-use scc_print::texts::output_text;
+use crate::printed::Printed;
+use crate::texts::output_text;
 use scc_recorded::Finished;
 use std::alloc::{AllocError, Global};
 

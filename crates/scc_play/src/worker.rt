@@ -3,9 +3,9 @@ ghost use Rattle.std.specs.Prelude.{◌≡◌, length, map, true, IfOk, IsSomeAn
 ghost use Rattle.scc_common.specs.Routing.{stripe_of};
 ghost use Rattle.scc_play.specs.Making.{AddsCall};
 
-use scc_print::printed::Printed;
+use crate::printed::Printed;
 use scc_recorded::{Pass, Recorded, Site};
-use scc_workers::Work;
+use scc_stripes::workers::Work;
 use std::alloc::{AllocError, Global};
 use std::sync::Wait;
 use std::sync::ledger::Ledger;

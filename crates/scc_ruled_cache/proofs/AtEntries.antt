@@ -11,8 +11,8 @@ use Rattle.scc_common.specs.Contents.{list_of}
 use Rattle.scc_common.specs.Pairs.{with_pair_key, with_pair_value}
 use Rattle.scc_common.specs.declared.errors.InsertError.{InsertError}
 use Rattle.scc_common.specs.declared.errors.InsertError.TheVariants.{Memory}
-use Rattle.scc_fallible.specs.declared.TryInsertError.{TryInsertError}
-use Rattle.scc_fallible.specs.declared.TryInsertError.TheVariants.{Failed, Memory as NoMemory}
+use Rattle.scc_common.specs.declared.errors.TryInsertError.{TryInsertError}
+use Rattle.scc_common.specs.declared.errors.TryInsertError.TheVariants.{Failed, Memory as NoMemory}
 use Rattle.scc_rules.specs.declared.Rule as rule
 use Rattle.scc_table.specs.Placed.{entry_of, IsPlace-with_write_at, spot-with_write_at}
 use Rattle.scc_table.specs.Places.{IsPlace, spot_of}

@@ -18,8 +18,8 @@ use Rattle.scc_table.proofs.walks.Steps.{passes-at}
 use Rattle.scc_table.proofs.places.Entries.{entry_of-is, put-there, written-there}
 use Rattle.scc_common.specs.declared.errors.InsertError.{InsertError}
 use Rattle.scc_common.specs.declared.errors.InsertError.TheVariants.{Memory}
-use Rattle.scc_fallible.specs.declared.TryInsertError.{TryInsertError}
-use Rattle.scc_fallible.specs.declared.TryInsertError.TheVariants.{Failed, Memory as NoMemory}
+use Rattle.scc_common.specs.declared.errors.TryInsertError.{TryInsertError}
+use Rattle.scc_common.specs.declared.errors.TryInsertError.TheVariants.{Failed, Memory as NoMemory}
 use Rattle.scc_ruled_map.specs.Entries.{Occupied, Vacant, entry_key, occupied_pair, FailsAtVacant, InsertsThrough, OrInserts, OrInsertsSome, RefusesSome, TriesThrough}
 use Rattle.scc_ruled_map.specs.declared.entries.Entry.{Entry}
 use Rattle.scc_ruled_map.specs.declared.entries.OccupiedEntry.{OccupiedEntry}

@@ -13,8 +13,8 @@ use Rattle.std.specs.declared.hash.BuildHasher as builder
 use Rattle.scc_common.specs.Contents.{Contents}
 use Rattle.scc_common.specs.declared.errors.InsertError.{InsertError}
 use Rattle.scc_common.specs.declared.errors.InsertError.TheVariants.{Memory}
-use Rattle.scc_fallible.specs.declared.TryInsertError.{TryInsertError}
-use Rattle.scc_fallible.specs.declared.TryInsertError.TheVariants.{Failed, Memory as NoMemory}
+use Rattle.scc_common.specs.declared.errors.TryInsertError.{TryInsertError}
+use Rattle.scc_common.specs.declared.errors.TryInsertError.TheVariants.{Failed, Memory as NoMemory}
 use Rattle.scc_rules.specs.Rules.{IsKeptAt}
 use Rattle.scc_rules.specs.declared.Rule as rule
 use Rattle.scc_stripes.specs.declared.seats.Seat.{Seat}

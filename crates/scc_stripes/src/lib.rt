@@ -10,6 +10,7 @@ ghost use Rattle.std.specs.Prelude.{◌≡◌, ◌≤◌, ◌<◌, ◌^◌, ℕ,
 pub mod parts;
 pub mod seats;
 pub mod shares;
+pub mod workers;
 
 use crate::shares::{SLOTS_OF_MOST_STRIPES, share, sizes_for};
 pub use parts::OpenStripes;

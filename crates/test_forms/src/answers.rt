@@ -3,8 +3,7 @@
 use crate::form::Way;
 use crate::numbered::{Seen, keeps, raise, seen, seen_key, value_of};
 use crate::token::Token;
-use scc_common::{InsertError, KeyError, MakeError, Verdict};
-use scc_fallible::TryInsertError;
+use scc_common::{InsertError, KeyError, MakeError, TryInsertError, Verdict};
 
 /// A kind of container.
 #[derive(Clone, Copy, Debug, PartialEq)]

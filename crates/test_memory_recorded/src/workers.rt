@@ -1,7 +1,7 @@
 // Workers whose run is refused: a worker that was started made all turns, any other made none, and the run that
 // succeeds makes all turns.
 use crate::expect::{expect, expect_eq};
-use scc_workers::{Open, RunError, Work, run};
+use scc_stripes::workers::{Open, RunError, Work, run};
 use test_kit::refusals::{Refusal, TRIES};
 
 // A worker of three turns, which all return true.

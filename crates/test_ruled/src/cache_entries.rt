@@ -1,7 +1,7 @@
 // Entries of a cache under a rule: each call of an entry does what the plain entry's call does. Which calls of such a cache
 // refresh a pair.
 use crate::expect::{expect, expect_eq};
-use scc_fallible::TryInsertError;
+use scc_common::TryInsertError;
 use scc_ruled_cache::{Entry, OccupiedEntry, ReplaceResult, RuledCache};
 use scc_rules::Anything;
 use std::alloc::Global;

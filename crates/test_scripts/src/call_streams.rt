@@ -1,7 +1,7 @@
 // Streams of calls in which each call of a kind is made with keys that are present and with missing keys, while the
 // container grows, is cleared and grows again.
 use scc_calls::Calls;
-use scc_print::printed::Printed;
+use scc_play::printed::Printed;
 use std::alloc::{AllocError, Global};
 
 /// The greatest number of slots of a cache. Its array then has 4 buckets, and the keys lie in two of them.

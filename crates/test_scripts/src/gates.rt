@@ -2,7 +2,7 @@
 // gate before it, the turn itself and a call after it, in this order. Nothing comes after a turn that returned false
 // or that the gate gave up. If both happen in a run, the run reports that a worker was given up.
 use crate::expect::expect_eq;
-use scc_workers::{Gate, RunError, Work, run};
+use scc_stripes::workers::{Gate, RunError, Work, run};
 use std::alloc::{AllocError, Global};
 use std::process::Abort;
 use std::sync::Wait;

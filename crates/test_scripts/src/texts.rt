@@ -4,7 +4,7 @@ use scc_calls::Refused;
 use scc_common::{InsertError, KeyError, MakeError, WalkError};
 use scc_history::CallError;
 use scc_recorded::FinishError;
-use scc_workers::RunError;
+use scc_stripes::workers::RunError;
 use std::fmt::Display;
 use std::process::Abort;
 

@@ -1,6 +1,6 @@
 // Workers that run at once: each meets all others at each of its turns, which one thread couldn't do.
 use crate::expect::expect_eq;
-use scc_workers::{Open, RunError, Work, run};
+use scc_stripes::workers::{Open, RunError, Work, run};
 use std::alloc::{AllocError, Global};
 use std::process::Abort;
 use std::sync::Wait;

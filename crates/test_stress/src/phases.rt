@@ -11,7 +11,7 @@ use scc_calls::{MapCall, Reply};
 use scc_common::Shared;
 use scc_recorded::{Finished, Pass, Recorded, Setup, Site};
 use scc_script::same::Same;
-use scc_workers::{Open, run};
+use scc_stripes::workers::{Open, run};
 use std::alloc::{AllocError, Global};
 use std::marker::Brand;
 use std::sync::Wait;

@@ -4,7 +4,7 @@ ghost use Rattle.scc_calls.specs.Copies.{ClonesEqual};
 use crate::plain::Plain;
 use scc_calls::Calls;
 use scc_recorded::{Pass, Recorded, Site};
-use scc_workers::Work;
+use scc_stripes::workers::Work;
 use std::alloc::{AllocError, Global};
 use std::sync::Wait;
 use std::sync::ledger::Ledger;

@@ -10,7 +10,7 @@ use scc_calls::Calls;
 use scc_common::{CloneOwner, Shared};
 use scc_recorded::{Pass, Recorded, Setup, Site};
 use scc_script::same::Same;
-use scc_workers::{Open, run};
+use scc_stripes::workers::{Open, run};
 use std::alloc::{AllocError, Global};
 use std::marker::Brand;
 use std::sync::ledger::{Blank, Ledger};

@@ -6,7 +6,7 @@ mod walk;
 use crate::Index;
 use crate::held::{HeldEntry, HeldOccupied, HeldVacant};
 use scc_common::SharedVersion;
-pub use scc_snapshot::Iter;
+pub use scc_common::snapshot::Iter;
 use std::hash::{BuildHasherDefault, FoldHasher};
 
 /// The entry of a key. It borrows the index.

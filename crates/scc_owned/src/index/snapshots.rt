@@ -6,7 +6,7 @@ ghost use Rattle.std.specs.Prelude.{◌≡◌, ◌++◌, ℕ, IfOk, OnOk, OnErr,
 
 use crate::Index;
 use scc_common::{MakeError, Version};
-use scc_snapshot::Iter;
+use scc_common::snapshot::Iter;
 use std::hash::{BuildHasher, Hash};
 use std::sync::Arc;
 

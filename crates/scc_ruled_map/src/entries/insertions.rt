@@ -5,8 +5,7 @@ ghost use Rattle.std.specs.Fn.{FnOnceTakesAt, FnOnceReturnsAt};
 ghost use Rattle.std.specs.Prelude.{◌≡◌, Ok, Err};
 
 use super::{Entry, OccupiedEntry};
-use scc_common::InsertError;
-use scc_fallible::TryInsertError;
+use scc_common::{InsertError, TryInsertError};
 use scc_rules::Rule;
 use std::alloc::Global;
 use std::default::MadeWith;

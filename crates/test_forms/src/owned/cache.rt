@@ -8,8 +8,7 @@ use crate::numbered::{Seen, note_pairs, raise_to_even, seen, seen_pair, value_of
 use crate::token::Token;
 use scc_cache::borrowed::{Entry, OccupiedEntry, ReplaceResult};
 use scc_cache::{EvictedEntry, Owned};
-use scc_common::InsertError;
-use scc_fallible::TryInsertError;
+use scc_common::{InsertError, TryInsertError};
 use std::alloc::Global;
 use test_kit::masked::Masked;
 

@@ -6,8 +6,7 @@ use crate::answers::{
 use crate::form::{Act, At, Form, Sizes, Way};
 use crate::numbered::{Seen, note_pairs, number_of, raise_to_even, seen, seen_pair, value_of};
 use crate::token::Token;
-use scc_common::InsertError;
-use scc_fallible::TryInsertError;
+use scc_common::{InsertError, TryInsertError};
 use scc_owned::map::Owned;
 use scc_owned::map::borrowed::{Entry, OccupiedEntry, ReplaceResult};
 use scc_table::Reservation;

@@ -3,8 +3,7 @@
 use crate::held::Held;
 use scc_cache::EvictedEntry;
 use scc_cache::locked::{Entry, OccupiedEntry, ReplaceResult};
-use scc_common::InsertError;
-use scc_fallible::TryInsertError;
+use scc_common::{InsertError, TryInsertError};
 use scc_shared_cache::HashCache;
 use std::alloc::Global;
 use std::sync::Wait;

@@ -1,8 +1,7 @@
 //! `Form` for the shared index.
 
 use crate::held::{Held, walked};
-use scc_common::InsertError;
-use scc_fallible::TryInsertError;
+use scc_common::{InsertError, TryInsertError};
 use scc_owned::index::locked::{Entry, OccupiedEntry};
 use scc_shared::index::HashIndex;
 use std::sync::Wait;

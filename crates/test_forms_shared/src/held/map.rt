@@ -1,8 +1,7 @@
 //! `Form` for the shared map.
 
 use crate::held::{Held, walked};
-use scc_common::InsertError;
-use scc_fallible::TryInsertError;
+use scc_common::{InsertError, TryInsertError};
 use scc_owned::map::locked::{Entry, OccupiedEntry, ReplaceResult};
 use scc_shared::map::HashMap;
 use std::alloc::Global;

@@ -1,0 +1,64 @@
+//! What is printed of a map.
+
+use crate::printed::Printed;
+use crate::texts::add_reply_line;
+use scc_calls::{MapCall, Reply};
+use scc_common::Verdict;
+use scc_owned::map::Owned;
+use std::alloc::AllocError;
+use std::fmt::Write;
+use std::hash::BuildHasher;
+
+impl<H: BuildHasher> Printed for Owned<u64, u64, H> {
+    type Item = (u64, u64);
+
+    ghost use Rattle.std.proofs.Common.{rules};
+    ghost use Rattle.scc_play.specs.Output.{content_line, reply_line};
+    ghost use Rattle.scc_common.specs.Contents.{entries};
+    ghost use Rattle.scc_calls.specs.declared.replies.Reply.TheVariants.{Count};
+
+    ghost shown = { entries };
+
+    ghost reply_line = { reply_line };
+
+    ghost item_line = { content_line };
+
+    ghost count_reply = { Count };
+
+    ghost equal_calls = { λ a b h. Prim.search rules };
+
+    ghost equal_replies = { λ a b h. Prim.search rules };
+
+    ghost exact_calls = { λ a b h. Prim.search rules };
+
+    ghost exact_replies = { λ a b h. Prim.search rules };
+
+    fn take_items(&mut self, items: &mut Vec<(u64, u64)>) -> Result<(), AllocError> {
+        items.reserve(self.len())?;
+        if self.iter_mut_sync(|_, _| Verdict::Take, items).is_err() {
+            return Err(AllocError);
+        }
+        Ok(())
+    }
+
+    fn add_reply(output: &mut String, reply: Reply<u64, u64>) -> Result<(), AllocError> {
+        add_reply_line(output, reply)
+    }
+
+    fn add_item(output: &mut String, item: (u64, u64)) -> Result<(), AllocError> {
+        let (key, value) = item;
+        writeln!(output, "{key} {value}")
+    }
+
+    fn count_reply(count: usize) -> Reply<u64, u64> {
+        Reply::Count(count)
+    }
+
+    fn same_call(call: &MapCall<u64, u64>) -> MapCall<u64, u64> {
+        *call
+    }
+
+    fn same_reply(reply: &Reply<u64, u64>) -> Reply<u64, u64> {
+        *reply
+    }
+}
