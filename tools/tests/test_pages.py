@@ -25,7 +25,7 @@ class Counts(unittest.TestCase):
 
 
 class Copied(unittest.TestCase):
-    PAGE = "```rust crates/scc_map/src/lib.rt\n#![tactic(auto)]\n\npub use scc_fallible::TryInsertError;\n```\n"
+    PAGE = "```rust crates/scc_map/src/lib.rt\n#![tactic(auto)]\n\npub use scc_table::Reservation;\n```\n"
 
     def test_lines_in_their_order(self):
         self.assertEqual(list(pages.wrong_copies(self.PAGE)), [])

@@ -54,13 +54,13 @@ class Refused(unittest.TestCase):
         self.check(verdict(said, 1, function), "returns-clause-first of route")
 
     def test_by_what_a_call_requires_and_by_arithmetic(self):
-        function = "scc_cache::Owned::put_sync"
+        function = "scc_owned_cache::Owned::put_sync"
         said = NO_PROOF.format(function, "Owned/put_sync", "`overflow_add-pending`, `remove_at-requires`, `loop-stripe-preserved`") + LAST.format(1)
         self.check(verdict(said, 1, function), "what a call requires: remove_at-requires; the invariant of its loop: loop-stripe-preserved; arithmetic within its type: overflow_add-pending")
 
     def test_by_an_open_goal_although_an_answer_of_another_kind_is_lost(self):
-        function = "scc_cache::Owned::remove_if_sync"
-        lost = "./proofs/Owned/remove_if_sync/Answers.antt:24:34: error: `returns-then-f-clause-step`: module `Rattle.scc_cache.proofs.Owned.remove_if_sync.Goals` has no `returns-then-f-clause-step` that can be named from here\n"
+        function = "scc_owned_cache::Owned::remove_if_sync"
+        lost = "./proofs/Owned/remove_if_sync/Answers.antt:24:34: error: `returns-then-f-clause-step`: module `Rattle.scc_owned_cache.proofs.Owned.remove_if_sync.Goals` has no `returns-then-f-clause-step` that can be named from here\n"
         said = lost + NO_PROOF.format(function, "Owned/remove_if_sync", "`remove_at-requires`, `returns-after-first-clause-step`") + LAST.format(1)
         self.check(verdict(said, 1, function, answers("returns-then-f-clause-step")), "what a call requires: remove_at-requires")
 
@@ -91,12 +91,12 @@ class NameAlone(unittest.TestCase):
 
     def test_a_declaration_depends_on_one_that_is_not_admitted(self):
         said = (
-            "./proofs/Owned/prepare/Answers.antt:12:50: error: module `Rattle.scc_cache.proofs.Owned.prepare.Goals` has no `in-Ok` that can be named from here\n"
+            "./proofs/Owned/prepare/Answers.antt:12:50: error: module `Rattle.scc_owned_cache.proofs.Owned.prepare.Goals` has no `in-Ok` that can be named from here\n"
             "./proofs/Owned/prepare/Answers.antt:14:5: error: 1 declaration that depends on `in-Ok`, which was not admitted, was not checked: invariant_of-self\n"
             + OPEN_NOTE.format("prepare.rt:34:58", "prepare_within-requires-clause-listed")
-            + "fn scc_cache::Owned::prepare: not proved\n"
+            + "fn scc_owned_cache::Owned::prepare: not proved\n"
         ) + LAST.format(1)
-        found = verdict(said, 1, "scc_cache::Owned::prepare", answers("invariant_of-self"))
+        found = verdict(said, 1, "scc_owned_cache::Owned::prepare", answers("invariant_of-self"))
         self.check(found, "has no `in-Ok`", "prepare_within-requires-clause-listed")
 
     def test_a_lemma_beside_the_answers_is_refused(self):
@@ -105,13 +105,13 @@ class NameAlone(unittest.TestCase):
 
 
 class NotRefused(unittest.TestCase):
-    function = "scc_set::Owned::insert_all"
+    function = "scc_owned_set::Owned::insert_all"
 
     def check(self, found, words):
         self.assertEqual((found.kind, found.words), (refusals.NOT_REFUSED, words))
 
     def test_all_is_proved(self):
-        said = f"fn scc_set::Owned::len: proved\nfn {self.function}: proved\n" + LAST.format(2)
+        said = f"fn scc_owned_set::Owned::len: proved\nfn {self.function}: proved\n" + LAST.format(2)
         self.check(verdict(said, 0, self.function), "")
 
     def test_all_is_proved_where_a_function_may_wait(self):
@@ -119,12 +119,12 @@ class NotRefused(unittest.TestCase):
         self.check(verdict(said, 0, self.function), "")
 
     def test_another_function_is_refused(self):
-        said = f"fn scc_set::Owned::len: no proof: expected answers in ./proofs/Owned/len/Answers.antt; `search` did not prove `returns`\nfn {self.function}: proved\n" + LAST.format(1)
-        self.check(verdict(said, 1, self.function), "by its function; refused by scc_set::Owned::len")
+        said = f"fn scc_owned_set::Owned::len: no proof: expected answers in ./proofs/Owned/len/Answers.antt; `search` did not prove `returns`\nfn {self.function}: proved\n" + LAST.format(1)
+        self.check(verdict(said, 1, self.function), "by its function; refused by scc_owned_set::Owned::len")
 
     def test_another_function_is_refused_and_this_one_may_wait(self):
-        said = f"fn scc_set::Owned::len: not proved\nfn {self.function}: proved, may wait\n" + LAST.format(1)
-        self.check(verdict(said, 1, self.function), "by its function; refused by scc_set::Owned::len")
+        said = f"fn scc_owned_set::Owned::len: not proved\nfn {self.function}: proved, may wait\n" + LAST.format(1)
+        self.check(verdict(said, 1, self.function), "by its function; refused by scc_owned_set::Owned::len")
 
     def test_the_check_could_not_tell(self):
         said = f"fn {self.function}: not proved\n" + LAST.format(1)
@@ -132,7 +132,7 @@ class NotRefused(unittest.TestCase):
 
 
 class Bad(unittest.TestCase):
-    function = "scc_cache::Owned::remove_sync"
+    function = "scc_owned_cache::Owned::remove_sync"
 
     def check(self, found, begin):
         self.assertEqual(found.kind, refusals.BAD)
@@ -143,7 +143,7 @@ class Bad(unittest.TestCase):
         self.check(verdict(said, 1, self.function), "./src/lib.rt:190:54: error[type]")
 
     def test_the_check_ended_before_its_last_line(self):
-        self.check(verdict(f"fn {self.function}: proved\n", 1, self.function), "fn scc_cache::Owned::remove_sync")
+        self.check(verdict(f"fn {self.function}: proved\n", 1, self.function), "fn scc_owned_cache::Owned::remove_sync")
         self.check(verdict("", 1, self.function), "the check said nothing")
 
     def test_rt_judged_nothing(self):

@@ -3,7 +3,7 @@
 use bench_kit::arguments::out_of_memory;
 use bench_kit::report::{check, line, nanos};
 use bench_kit::streams::{Streams, value};
-use scc_cache::Owned;
+use scc_owned_cache::Owned;
 use std::alloc::{AllocError, Global};
 use std::io;
 use std::rt::Clock;

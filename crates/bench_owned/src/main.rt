@@ -70,7 +70,7 @@ fn measure_peer(rt: &HostRuntime, request: Request) -> io::Result<()> {
     match request.peer {
         PeerName::Owned => measure::<Owned<u64, u64>, _>(rt, alloc, request),
         PeerName::Kit => measure::<HashMap<u64, u64>, _>(rt, alloc, request),
-        PeerName::Set => measure::<scc_set::Owned<u64>, _>(rt, alloc, request),
+        PeerName::Set => measure::<scc_owned_set::Owned<u64>, _>(rt, alloc, request),
         PeerName::Index => measure::<scc_owned::index::Owned<u64, u64>, _>(rt, alloc, request),
         PeerName::Cache => measure_cache(rt, alloc, request),
     }

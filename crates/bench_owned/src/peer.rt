@@ -108,9 +108,9 @@ impl Peer for HashMap<u64, u64> {
 }
 
 /// A set stands for a map in which each key has the value of the streams. A write replaces the key.
-impl Peer for scc_set::Owned<u64> {
+impl Peer for scc_owned_set::Owned<u64> {
     fn make(alloc: Global) -> Self {
-        scc_set::Owned::new(alloc)
+        scc_owned_set::Owned::new(alloc)
     }
 
     #[inline(always)]

@@ -2,7 +2,8 @@
 
 pub mod ruled;
 
-pub use scc_cache::locked::{Entry, OccupiedEntry, ReplaceResult, VacantEntry};
-pub use scc_cache::{DEFAULT_MAXIMUM_CAPACITY, EvictedEntry, Owned, borrowed as owned};
+pub use scc_cache::{
+    DEFAULT_MAXIMUM_CAPACITY, Entry, EvictedEntry, HashCache, OccupiedEntry, Owned, ReplaceResult,
+    VacantEntry, owned,
+};
 pub use scc_ruled_cache::RuledCache;
-pub use scc_shared_cache::HashCache;

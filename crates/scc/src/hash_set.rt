@@ -3,5 +3,4 @@
 pub mod ruled;
 
 pub use scc_ruled_set::RuledSet;
-pub use scc_set::{Owned, entry as owned};
-pub use scc_shared_set::{HashSet, OccupiedEntry, Reserve};
+pub use scc_set::{HashSet, OccupiedEntry, Owned, Reserve, owned};

@@ -6,14 +6,14 @@ use Rattle.scc_common.specs.Routing.{bucket_number}
 use Rattle.scc_buckets.specs.Bounded.{IsResized, HasListsOf, stays_wide, denied_narrow, narrows}
 use Rattle.scc_table.specs.Bounded.{makes, has_room, is_full, stays, denied, doubles}
 use Rattle.scc_common.specs.Contents.{Contents, Settings, entries, bucket_count, settings_of, minimum_of, list_of, lists_of}
-use Rattle.scc_cache.specs.CacheSteps.{AnswersOn, GrowsForPut, IsAbsent, IsPresent, IsPresentAt, ShrinksTo, Puts, Removes, TakesThen, Clears, list_number}
-use Rattle.scc_cache.specs.Caches.{Cached}
-use Rattle.scc_cache.specs.CacheSteps as steps
-use Rattle.scc_cache.specs.ListSteps.{IsThere, PutsPair, Refreshes, RefreshesAs, TakesOut}
+use Rattle.scc_owned_cache.specs.CacheSteps.{AnswersOn, GrowsForPut, IsAbsent, IsPresent, IsPresentAt, ShrinksTo, Puts, Removes, TakesThen, Clears, list_number}
+use Rattle.scc_owned_cache.specs.Caches.{Cached}
+use Rattle.scc_owned_cache.specs.CacheSteps as steps
+use Rattle.scc_owned_cache.specs.ListSteps.{IsThere, PutsPair, Refreshes, RefreshesAs, TakesOut}
 use Rattle.std.specs.Prelude.{IsTrue, MatchOption}
 use Rattle.std.specs.Borrow.{Bor}
 use Rattle.std.specs.Fn.{Once}
-use Rattle.scc_cache.proofs.Caching.{shrunk-within}
+use Rattle.scc_owned_cache.proofs.Caching.{shrunk-within}
 use Rattle.scc_calls.specs.CacheCalls.{cache_setting, CacheMayRefuse, CacheMoves, CacheResizes}
 use Rattle.scc_calls.specs.Resized.{MovesResized, Stays}
 use Rattle.scc_calls.specs.declared.calls_as_values.CacheCall.TheVariants.{Put, Get, Write, Replace, Remove, Read, Contains, Clear, Len}

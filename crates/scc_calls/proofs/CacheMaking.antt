@@ -5,7 +5,7 @@ use Rattle.std.specs.List.{flat_map}
 use Rattle.std.proofs.lemmas.List.{nil_from_length}
 use Rattle.scc_common.specs.Contents.{entries, bucket_count, settings_of, lists_of}
 use Rattle.scc_common.specs.Sizes.{IsArraySize}
-use Rattle.scc_cache.specs.Caches.{Cached}
+use Rattle.scc_owned_cache.specs.Caches.{Cached}
 use Rattle.scc_calls.specs.CacheCalls.{cache_setting}
 use Rattle.scc_calls.specs.Made.{IsMadeFor}
 

@@ -7,12 +7,12 @@ use Rattle.std.specs.Option.{option_map}
 use Rattle.std.proofs.lemmas.List.{length-map}
 use Rattle.scc_common.specs.Contents.{Contents, bucket_count, entries, list_of, lists_of}
 use Rattle.scc_buckets.proofs.Lookups.{find-position}
-use Rattle.scc_cache.specs.CacheSteps as steps
-use Rattle.scc_cache.specs.CacheSteps.{Clears, DrivesNoneOut, DrivesOut, IsAbsent, IsPresent, IsPreparedForPut, Puts, Removes, list_number, pair_of}
-use Rattle.scc_cache.specs.Caches.{Cached}
-use Rattle.scc_cache.specs.ListSteps.{list_for, pair_for, IsMissing, IsThere, PutsPair, RefreshesAs}
-use Rattle.scc_cache.proofs.Caching.{list-is, shrunk-within}
-use Rattle.scc_cache.proofs.Found.{missing-found, there-found}
+use Rattle.scc_owned_cache.specs.CacheSteps as steps
+use Rattle.scc_owned_cache.specs.CacheSteps.{Clears, DrivesNoneOut, DrivesOut, IsAbsent, IsPresent, IsPreparedForPut, Puts, Removes, list_number, pair_of}
+use Rattle.scc_owned_cache.specs.Caches.{Cached}
+use Rattle.scc_owned_cache.specs.ListSteps.{list_for, pair_for, IsMissing, IsThere, PutsPair, RefreshesAs}
+use Rattle.scc_owned_cache.proofs.Caching.{list-is, shrunk-within}
+use Rattle.scc_owned_cache.proofs.Found.{missing-found, there-found}
 use Rattle.scc_calls.specs.CacheCalls.{cache_answer, cache_setting, first_of_full, CacheIsMade, CacheMoves, CacheResizes}
 use Rattle.scc_calls.specs.Resized.{MovesResized}
 use Rattle.scc_calls.specs.Copies.{Answers, ClonesEqual}

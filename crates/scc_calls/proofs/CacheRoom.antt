@@ -2,8 +2,8 @@
 use Rattle.std.proofs.Common.{◌≡◌, ◌==◌, ℕ, ◌*◌, ◌<◌, ◌≤◌, inl, inr, Bool, false, List, length, refl, ap, arith}
 use Rattle.std.proofs.lemmas.Bool.Decides.{nat_tests}
 use Rattle.scc_common.specs.Contents.{bucket_count, lists_of}
-use Rattle.scc_cache.specs.CacheSteps.{PreparesPut, list_number}
-use Rattle.scc_cache.specs.Caches.{Cached}
+use Rattle.scc_owned_cache.specs.CacheSteps.{PreparesPut, list_number}
+use Rattle.scc_owned_cache.specs.Caches.{Cached}
 use Rattle.scc_calls.specs.CacheCalls.{cache_setting, CacheMayRefuse, CacheResizes}
 use Rattle.scc_calls.specs.Resized.{Stays}
 use Rattle.scc_calls.specs.declared.calls_as_values.CacheCall.TheVariants.{Put}

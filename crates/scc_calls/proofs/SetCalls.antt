@@ -11,8 +11,8 @@ use Rattle.scc_buckets.proofs.PairSplits.{by_answer, cond-true, cond-false}
 use Rattle.scc_common.specs.Contents.{Contents, entries, settings_of}
 use Rattle.scc_common.specs.Steps.{Holds}
 use Rattle.scc_table.specs.Places.{IsFoundAt, index_of}
-use Rattle.scc_set.specs.Keys.{find, with_key, without}
-use Rattle.scc_set.specs.SetSteps.{Inserts, Removes, Replaces}
+use Rattle.scc_owned_set.specs.Keys.{find, with_key, without}
+use Rattle.scc_owned_set.specs.SetSteps.{Inserts, Removes, Replaces}
 use Rattle.scc_calls.specs.Resized.{MovesResized}
 use Rattle.scc_calls.specs.States.{ResizesTo, state_of, run_setting}
 use Rattle.scc_calls.specs.SetCalls.{SetMoves}

@@ -8,9 +8,9 @@ use Rattle.scc_buckets.specs.declared.place.Place.{Place}
 use Rattle.scc_common.specs.Contents.{lists_of, settings_of}
 use Rattle.scc_common.specs.Routing.{bucket_number}
 use Rattle.scc_common.specs.Sizes.{IsBucketCount}
-use Rattle.scc_cache.specs.CacheSteps.{list_number, IsAbsent, IsFound, IsPresent, IsPreparedForPut}
-use Rattle.scc_cache.specs.Caches.{Cached}
-use Rattle.scc_cache.specs.ListSteps.{list_for, pair_for, IsMissing, IsThere, PutsPair, Refreshes, RefreshesAs, TakesOut}
+use Rattle.scc_owned_cache.specs.CacheSteps.{list_number, IsAbsent, IsFound, IsPresent, IsPreparedForPut}
+use Rattle.scc_owned_cache.specs.Caches.{Cached}
+use Rattle.scc_owned_cache.specs.ListSteps.{list_for, pair_for, IsMissing, IsThere, PutsPair, Refreshes, RefreshesAs, TakesOut}
 use Rattle.scc_calls.specs.declared.fixed.Setting.{Setting}
 use Rattle.scc_calls.specs.declared.calls_as_values.CacheCall.{CacheCall}
 use Rattle.scc_calls.specs.declared.calls_as_values.CacheCall.TheVariants.{Put, Get, Write, Replace, Remove, Read, Contains, Clear, Len}

@@ -4,7 +4,7 @@ use Rattle.std.specs.Prelude.{◌==◌, replicate, remove}
 use Rattle.std.specs.List.{AllByRecursion, filter, flat_map, slice_get, slice_index_or, slice_set}
 use Rattle.std.specs.Map.{keys_of}
 use Rattle.scc_common.specs.Sizes.{IsArraySize}
-use Rattle.scc_cache.specs.ListSteps.{list_for, PutsPair, RefreshesAs, TakesOut}
+use Rattle.scc_owned_cache.specs.ListSteps.{list_for, PutsPair, RefreshesAs, TakesOut}
 use Rattle.scc_calls.specs.CacheCalls.{cache_key, keys_in, CacheMoves, CacheResizes}
 use Rattle.scc_calls.specs.Parts.{Routed, KeyRouted}
 use Rattle.scc_calls.specs.declared.fixed.Setting.{Setting}

@@ -4,7 +4,7 @@ use Rattle.std.specs.Result.{OnOk, OnErr}
 use Rattle.scc_buckets.specs.declared.place.Place.{Place}
 use Rattle.scc_common.specs.Contents.{Contents, lists_of, settings_of, IsMarked}
 use Rattle.scc_common.specs.Pairs.{find}
-use Rattle.scc_cache.specs.Caches.{Cached}
+use Rattle.scc_owned_cache.specs.Caches.{Cached}
 use Rattle.scc_calls.specs.CacheCalls.{cache_adds, cache_setting, number_by, CacheIsMade, CacheKnows, CacheMayRefuse, CacheResizes}
 use Rattle.scc_calls.specs.Resized.{Stays}
 use Rattle.scc_calls.specs.IndexCalls.{index_adds, IndexIsMade, IndexIsMadeFor, IndexKnows, IndexMayRefuse}

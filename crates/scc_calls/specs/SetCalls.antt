@@ -5,7 +5,7 @@ use Rattle.scc_buckets.specs.declared.place.Place.{Place}
 use Rattle.scc_common.specs.Contents.{Contents, entries}
 use Rattle.scc_common.specs.Routing.{bucket_number}
 use Rattle.scc_common.specs.Steps.{IsPreparedFor}
-use Rattle.scc_set.specs.Keys.{find, without, with_key}
+use Rattle.scc_owned_set.specs.Keys.{find, without, with_key}
 use Rattle.scc_table.specs.Places.{IsFoundAt}
 use Rattle.scc_calls.specs.States.{State}
 use Rattle.scc_calls.specs.declared.fixed.Setting.{Setting}

@@ -9,7 +9,7 @@ use Rattle.std.proofs.lemmas.List.Elements.{filter-append, recursion_from_All, A
 use Rattle.std.proofs.lemmas.List.Sums.{sum_by-append, sum_by-cons}
 use Rattle.std.proofs.lemmas.List.Sorted.{IsPermutation-sym, IsPermutation-trans, IsPermutation-append_left, IsPermutation-append_right, IsPermutation-middle, All-permutation}
 use Rattle.std.proofs.lemmas.Bool.Decides.{nat_tests}
-use Rattle.scc_set.specs.Keys.{find, without}
+use Rattle.scc_owned_set.specs.Keys.{find, without}
 use Rattle.scc_calls.specs.MapWhole.{joined}
 use Rattle.scc_calls.specs.Parts.{Routed, KeyRouted, RoutedFrom}
 use Rattle.scc_calls.specs.SetCalls.{SetMoves, key_of_set}

@@ -1,7 +1,7 @@
 //! The calls of the owned cache as values.
 ghost use Rattle.std.specs.Prelude.{◌≡◌, true, IfOk, OnErr};
 ghost use Rattle.scc_common.specs.Contents.{bucket_count, list_of, hash_in, mark_of};
-ghost use Rattle.scc_cache.specs.CacheSteps.{list_number, IsAbsent};
+ghost use Rattle.scc_owned_cache.specs.CacheSteps.{list_number, IsAbsent};
 ghost use Rattle.scc_calls.specs.CacheCalls.{first_of_full};
 ghost use Rattle.scc_calls.specs.Copies.{ClonesEqual, MayNotClone};
 ghost use Rattle.scc_calls.specs.Preparations.{CachePreparesCall};
@@ -10,9 +10,9 @@ ghost use Rattle.scc_calls.specs.declared.replies.Reply.TheVariants.{Evicted};
 use crate::replies::{CopiesReply, clone_pair, copies, equals};
 use crate::{CacheCall, Calls, Refused, Reply};
 use scc_buckets::Place;
-use scc_cache::Owned;
-use scc_cache::borrowed::{Entry, ReplaceResult};
 use scc_common::{Hashes, InsertError, MakeError};
+use scc_owned_cache::Owned;
+use scc_owned_cache::borrowed::{Entry, ReplaceResult};
 use std::alloc::Global;
 use std::hash::{BuildHasher, Hash};
 
@@ -226,7 +226,7 @@ impl<K: Eq + Hash + Clone, V: Clone + PartialEq, H: BuildHasher> CopiesReply for
 
     ghost use Rattle.std.specs.Prelude.{IsSome};
     ghost use Rattle.scc_common.specs.Contents.{hash_in, lists_of};
-    ghost use Rattle.scc_cache.specs.CacheSteps.{list_number};
+    ghost use Rattle.scc_owned_cache.specs.CacheSteps.{list_number};
     ghost use Rattle.scc_calls.specs.CacheCalls.{cache_answer, cache_key, CacheKnows};
 
     ghost next_reply = { λ c. cache_answer K.eq (list_number (hash_in ⟦<H as Hashes<K>>⟧.hash_of c.contents) c.contents)

@@ -1,7 +1,7 @@
 //! The calls of the owned set as values.
 ghost use Rattle.std.specs.Prelude.{◌≡◌, true, IfOk, OnErr};
 ghost use Rattle.scc_common.specs.Contents.{entries, mark_of};
-ghost use Rattle.scc_set.specs.Keys.{find};
+ghost use Rattle.scc_owned_set.specs.Keys.{find};
 ghost use Rattle.scc_calls.specs.Copies.{ClonesEqual, MayNotClone};
 ghost use Rattle.scc_calls.specs.Preparations.{SetPreparesCall, SetPreparesKey};
 ghost use Rattle.scc_calls.specs.declared.replies.Reply.TheVariants.{Key};
@@ -10,7 +10,7 @@ use crate::replies::{CopiesReply, copies, equals};
 use crate::{Calls, Refused, Reply, SetCall};
 use scc_buckets::Place;
 use scc_common::{Hashes, KeyError, MakeError};
-use scc_set::Owned;
+use scc_owned_set::Owned;
 use std::alloc::Global;
 use std::hash::{BuildHasher, Hash};
 

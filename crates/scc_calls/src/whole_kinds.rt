@@ -5,7 +5,7 @@ use crate::{CacheCall, IndexCall, Reply, SetCall, WholeCalls};
 use scc_common::Hashes;
 use std::hash::{BuildHasher, Hash};
 
-impl<K: Eq + Hash + Clone, H: BuildHasher> WholeCalls for scc_set::Owned<K, H> {
+impl<K: Eq + Hash + Clone, H: BuildHasher> WholeCalls for scc_owned_set::Owned<K, H> {
     ghost use Rattle.std.proofs.Common.{refl, rules, ◌∙◌};
     ghost use Rattle.scc_calls.specs.Means.{means_of, told_alike};
     ghost use Rattle.scc_calls.specs.SetCalls.{SetMoves};
@@ -92,7 +92,7 @@ impl<K: Eq + Hash + Clone, V: Clone + PartialEq, H: BuildHasher> WholeCalls
 }
 
 impl<K: Eq + Hash + Clone, V: Clone + PartialEq, H: BuildHasher> WholeCalls
-    for scc_cache::Owned<K, V, H> {
+    for scc_owned_cache::Owned<K, V, H> {
     ghost use Rattle.std.proofs.Common.{refl, rules, ◌∙◌};
     ghost use Rattle.scc_calls.specs.Means.{means_of, told_alike};
     ghost use Rattle.scc_calls.specs.CacheCalls.{number_by, CacheMoves};

@@ -1,2 +1,2 @@
-pub mod Making
-pub mod Memos
+pub use Rattle.scc_owned_memo.specs.Making
+pub use Rattle.scc_owned_memo.specs.Memos

@@ -4,8 +4,8 @@ use Rattle.std.specs.Result.{is_err}
 use Rattle.scc_common.specs.declared.errors.WalkError.{WalkError}
 use Rattle.scc_common.specs.declared.verdict.Verdict.{Verdict}
 use Rattle.scc_common.specs.declared.verdict.Verdict.TheVariants.{Keep, Take, KeepStop, TakeStop}
-use Rattle.scc_set.specs.SetWalks.{Takes}
-use Rattle.scc_set.specs.SetWalks as walks
+use Rattle.scc_owned_set.specs.SetWalks.{Takes}
+use Rattle.scc_owned_set.specs.SetWalks as walks
 
 module _ {F K : Type 0} (T : F → K → Verdict → F → Type 0) (says : (f : F) (k : K) (v : Verdict) (f' : F) → T f k v f' → v ≡ Take) where
   taken : {f last : F} {ks stay more : List K} {r : Result Bool WalkError} → is_err r ≡ false → Takes T f ks stay more r last → more ≡ ks

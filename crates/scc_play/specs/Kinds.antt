@@ -5,7 +5,7 @@ use Rattle.std.specs.List.Sorted.{IsPermutation}
 use Rattle.std.specs.Ordering.{nat_cmp}
 use Rattle.scc_common.specs.Contents.{Contents, entries, lists_of}
 use Rattle.scc_common.specs.Sizes.{IsArraySize}
-use Rattle.scc_cache.specs.Caches.{Cached}
+use Rattle.scc_owned_cache.specs.Caches.{Cached}
 use Rattle.scc_calls.specs.CacheCalls.{cache_key, number_by, CacheMoves, CacheResizes}
 use Rattle.scc_calls.specs.IndexCalls.{index_key, IndexMoves}
 use Rattle.scc_calls.specs.IndexWhole.{IndexWholeMoves}

@@ -9,15 +9,15 @@ ghost use Rattle.scc_play.specs.Kinds.{MapPlayed, SetPlayed, IndexPlayed, CacheP
 use crate::ends::End;
 use crate::finishing::{calls_of_workers, finish_run};
 use crate::worker::{passes_of, workers_of};
-use scc_cache::Owned as OwnedCache;
 use scc_calls::{CacheCall, IndexCall, MapCall, SetCall};
 use scc_common::Shared;
 use scc_owned::index::Owned as OwnedIndex;
 use scc_owned::map::Owned as OwnedMap;
+use scc_owned_cache::Owned as OwnedCache;
+use scc_owned_set::Owned as OwnedSet;
 use scc_recorded::{Recorded, Setup, Site};
 use scc_script::line::WorkerCall;
 use scc_script::same::Same;
-use scc_set::Owned as OwnedSet;
 use scc_stripes::workers::{Open, run};
 use std::alloc::{AllocError, Global};
 use std::marker::Brand;

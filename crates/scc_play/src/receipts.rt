@@ -4,8 +4,8 @@ ghost use Rattle.std.specs.List.{AllByRecursion, sum_by};
 ghost use Rattle.scc_play.specs.Answered.{AreAnswered, AreInOrder, IsAnswered, IsJoint, calls_by};
 ghost use Rattle.scc_recorded.specs.Adds.{number_or_zero};
 
-use scc_history::Receipt;
 use crate::printed::Printed;
+use scc_history::Receipt;
 use scc_script::line::WorkerCall;
 use std::alloc::{AllocError, Global};
 

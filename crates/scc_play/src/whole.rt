@@ -7,10 +7,10 @@ ghost use Rattle.scc_history.specs.Stamps.{calls_in};
 ghost use Rattle.scc_play.specs.Output.{output_of};
 ghost use Rattle.scc_play.specs.Played.{IsMadeBy};
 
-use scc_calls::Step;
-use scc_history::count_all_calls;
 use crate::printed::Printed;
 use crate::texts::output_text;
+use scc_calls::Step;
+use scc_history::count_all_calls;
 use scc_recorded::Finished;
 use std::alloc::{AllocError, Global};
 

@@ -16,10 +16,10 @@ use Rattle.scc_common.specs.declared.errors.TryInsertError.TheVariants.{Failed, 
 use Rattle.scc_rules.specs.declared.Rule as rule
 use Rattle.scc_table.specs.Placed.{entry_of, IsPlace-with_write_at, spot-with_write_at}
 use Rattle.scc_table.specs.Places.{IsPlace, spot_of}
-use Rattle.scc_cache.specs.Caches.{Cached}
-use Rattle.scc_cache.specs.Lends.{with_key_at, with_value_at}
-use Rattle.scc_cache.proofs.Entries.{entry-listed, pair-written}
-use Rattle.scc_cache.proofs.Writing.{write-set, written-list}
+use Rattle.scc_owned_cache.specs.Caches.{Cached}
+use Rattle.scc_owned_cache.specs.Lends.{with_key_at, with_value_at}
+use Rattle.scc_owned_cache.proofs.Entries.{entry-listed, pair-written}
+use Rattle.scc_owned_cache.proofs.Writing.{write-set, written-list}
 use Rattle.scc_ruled_cache.specs.Entries.{Occupied, Vacant, entry_key, occupied_pair, FailsOrRefuses, OrPuts, OrPutsSome, Refuses, RefusesSome}
 use Rattle.scc_ruled_cache.specs.Places.{IsPairAt}
 use Rattle.scc_ruled_cache.specs.declared.entries.Entry.{Entry}

@@ -10,11 +10,11 @@ use Rattle.scc_common.specs.Contents.{entries, lists_of}
 use Rattle.scc_common.specs.Replies.{HasKey}
 use Rattle.scc_common.specs.declared.errors.InsertError.{InsertError}
 use Rattle.scc_common.specs.declared.errors.InsertError.TheVariants.{Exists, Memory}
-use Rattle.scc_cache.specs.CacheSteps.{AnswersOn, ChangesLists, IsAbsent, Puts, PutsNew, Removes, list_number}
-use Rattle.scc_cache.specs.CacheWalks.{RemovesIf, missing, declined, removed}
-use Rattle.scc_cache.specs.Caches.{Cached}
-use Rattle.scc_cache.specs.ListSteps.{IsThere, PutsPair, Refreshes, Rewrites, list_for}
-use Rattle.scc_cache.proofs.EachPair.{each-list, each-new, each-refreshed, each-taken, each-there}
+use Rattle.scc_owned_cache.specs.CacheSteps.{AnswersOn, ChangesLists, IsAbsent, Puts, PutsNew, Removes, list_number}
+use Rattle.scc_owned_cache.specs.CacheWalks.{RemovesIf, missing, declined, removed}
+use Rattle.scc_owned_cache.specs.Caches.{Cached}
+use Rattle.scc_owned_cache.specs.ListSteps.{IsThere, PutsPair, Refreshes, Rewrites, list_for}
+use Rattle.scc_owned_cache.proofs.EachPair.{each-list, each-new, each-refreshed, each-taken, each-there}
 use Rattle.scc_rules.specs.Rules.{IsKeptAt, KeepsAll, ReadsKept, RemovesKept}
 use Rattle.scc_rules.proofs.Lists.{all-set}
 use Rattle.scc_ruled_cache.specs.Evictions.{IsEvictedFor}

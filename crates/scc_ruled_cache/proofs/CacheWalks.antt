@@ -3,9 +3,9 @@ use Rattle.std.proofs.Common.{ℕ, List, [], ◌∷◌, sym, subst}
 use Rattle.std.specs.List.Sorted.{IsPermutation}
 use Rattle.std.proofs.lemmas.List.Sorted.{IsPermutation-sym}
 use Rattle.scc_common.specs.Contents.{entries}
-use Rattle.scc_cache.specs.CacheSteps.{ShrinksTo}
-use Rattle.scc_cache.specs.CacheWalks.{LeavesPairs, ShrinksIfTaken}
-use Rattle.scc_cache.specs.Caches.{Cached}
+use Rattle.scc_owned_cache.specs.CacheSteps.{ShrinksTo}
+use Rattle.scc_owned_cache.specs.CacheWalks.{LeavesPairs, ShrinksIfTaken}
+use Rattle.scc_owned_cache.specs.Caches.{Cached}
 use Rattle.scc_rules.specs.Rules.{AllKeep, KeepsAll}
 use Rattle.scc_rules.proofs.Lists.{all-moved}
 use Rattle.scc_ruled_cache.proofs.Resized.{all-shrunk}

@@ -7,10 +7,10 @@ use Rattle.scc_common.specs.Contents.{Contents, bucket_count, entries, lists_of}
 use Rattle.scc_table.specs.Placed.{entry_of, front_of, back_of, IsPlace-with_write_at}
 use Rattle.scc_table.specs.Places.{IsPlace, index_of, spot_of, with_write_at}
 use Rattle.scc_table.proofs.places.Entries.{entry_of-get, entry_of-is, splits-there, written-there}
-use Rattle.scc_cache.specs.CacheSteps.{IsLacking, IsLastAt, PutsNew, TakesAt, list_number}
-use Rattle.scc_cache.specs.Caches.{Cached}
-use Rattle.scc_cache.proofs.EachPair.{each-list, each-new}
-use Rattle.scc_cache.proofs.Entries.{entry-listed, listed-entry}
+use Rattle.scc_owned_cache.specs.CacheSteps.{IsLacking, IsLastAt, PutsNew, TakesAt, list_number}
+use Rattle.scc_owned_cache.specs.Caches.{Cached}
+use Rattle.scc_owned_cache.proofs.EachPair.{each-list, each-new}
+use Rattle.scc_owned_cache.proofs.Entries.{entry-listed, listed-entry}
 use Rattle.scc_rules.specs.Rules.{IsKept, IsKeptAt, KeepsAll}
 use Rattle.scc_rules.proofs.Lists.{all-append, all-got, all-parts, all-set}
 use Rattle.scc_ruled_cache.specs.Evictions.{IsEvictedFor}

@@ -9,9 +9,9 @@ use Rattle.std.specs.declared.cmp.PartialEq as eq
 use Rattle.std.specs.declared.hash.Hash as hash
 use Rattle.std.specs.declared.hash.Hasher as hasher
 use Rattle.std.specs.declared.hash.BuildHasher as builder
-use Rattle.scc_cache.specs.CacheSteps.{PutsNew}
-use Rattle.scc_cache.specs.Caches.{Cached}
-use Rattle.scc_cache.specs.Lends.{with_value_at}
+use Rattle.scc_owned_cache.specs.CacheSteps.{PutsNew}
+use Rattle.scc_owned_cache.specs.Caches.{Cached}
+use Rattle.scc_owned_cache.specs.Lends.{with_value_at}
 use Rattle.scc_common.specs.Contents.{bucket_count, key_hash, list_of}
 use Rattle.scc_common.specs.declared.errors.InsertError.{InsertError}
 use Rattle.scc_common.specs.declared.errors.InsertError.TheVariants.{Memory}

@@ -1,7 +1,7 @@
 //! The calls on one key. A contract states what the arguments and the rule decide; the call does to the stripe what the
 //! owned call of its name does.
 ghost use Rattle.std.specs.Prelude.{◌≡◌, ◌⊎◌, IfErr, IfOk, IfSome};
-ghost use Rattle.scc_cache.specs.Entries.{Exists, Memory};
+ghost use Rattle.scc_owned_cache.specs.Entries.{Exists, Memory};
 ghost use Rattle.scc_common.specs.Replies.{HasKey};
 ghost use Rattle.scc_ruled_cache.specs.Evictions.{IsEvictedFor};
 ghost use Rattle.scc_rules.specs.Rules.{IsCalledOn, KeepsRefused, IsTested, ReadsKept, RemovesKept};

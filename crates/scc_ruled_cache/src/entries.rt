@@ -1,6 +1,6 @@
 //! The entries of a locked stripe. An entry holds the lock of its stripe as long as the entry lives. It lends its value
 //! to read alone: what writes to it is a call, which has to keep the rule.
-ghost use Rattle.scc_cache.specs.CacheSteps.{IsLacking};
+ghost use Rattle.scc_owned_cache.specs.CacheSteps.{IsLacking};
 ghost use Rattle.scc_common.specs.Contents.{key_hash};
 ghost use Rattle.scc_table.specs.Places.{IsPlace};
 ghost use Rattle.std.specs.Prelude.{◌≡◌};

@@ -1,5 +1,5 @@
 //! `Kept`: an owned cache each of whose pairs keeps a rule, which is what a stripe holds.
-ghost use Rattle.scc_cache.specs.Entries.{Exists, Memory};
+ghost use Rattle.scc_owned_cache.specs.Entries.{Exists, Memory};
 ghost use Rattle.scc_common.specs.Replies.{HasKey};
 ghost use Rattle.scc_ruled_cache.specs.Evictions.{IsEvictedFor};
 ghost use Rattle.scc_rules.specs.Rules.{IsCalledOn, KeepsAll, KeepsRefused, IsTested, ReadsKept, RemovesKept};
@@ -10,8 +10,8 @@ mod parts;
 mod places;
 mod walks;
 
-use scc_cache::{EvictedEntry, Owned};
 use scc_common::{InsertError, Shared};
+use scc_owned_cache::{EvictedEntry, Owned};
 use scc_rules::Rule;
 use std::hash::{BuildHasher, Hash};
 use std::marker::{Model, PhantomData};
@@ -26,7 +26,7 @@ pub struct Kept<K: Eq + Hash, V, R: Rule<K, V>, H: BuildHasher> {
 
 impl<K: Eq + Hash, V, R: Rule<K, V>, H: BuildHasher> Model for Kept<K, V, R, H> {
     ghost use Rattle.std.specs.Coded.{coded×};
-    ghost use Rattle.scc_cache.specs.Caches.{Cached, cached_code};
+    ghost use Rattle.scc_owned_cache.specs.Caches.{Cached, cached_code};
     ghost use Rattle.scc_rules.specs.Rules.{KeepsAll};
 
     ghost Value = { Cached (K × V) H };

@@ -10,7 +10,7 @@ use Rattle.scc_common.specs.Walks.{CalledOn}
 use Rattle.scc_common.specs.PairWalks as pairs
 use Rattle.scc_rules.specs.Rules as rules
 use Rattle.scc_stripes.specs.Walks.{AreOfStripes}
-use Rattle.scc_set.specs.SetWalks.{Declines, PassesAt, declined_none, declined}
+use Rattle.scc_owned_set.specs.SetWalks.{Declines, PassesAt, declined_none, declined}
 use Rattle.scc_ruled_set.specs.KeyRules.{AllKeep, ReadsKept}
 
 -- the keys of pairs that keep the rule keep it

@@ -2,7 +2,7 @@
 ghost use Rattle.scc_ruled_set.specs.KeyRules.{AllKeep, TakesEach};
 ghost use Rattle.scc_ruled_set.specs.SetEntries.{occupied_front, occupied_key, occupied_seat, HasUniqueKeys, IsFirstOfStripe, IsLastOfStripe, IsNext, IsNextPastRemoved};
 ghost use Rattle.scc_ruled_set.specs.Stripes.{stripes_of};
-ghost use Rattle.scc_set.specs.SetWalks.{Declines, PassesAt};
+ghost use Rattle.scc_owned_set.specs.SetWalks.{Declines, PassesAt};
 ghost use Rattle.scc_stripes.specs.Seats.{IsLaterSeat, IsSeatIn, seat_stripe};
 ghost use Rattle.scc_stripes.specs.Walks.{AreOfStripes};
 ghost use Rattle.std.specs.Fn.{CalledAt, TakesAt};

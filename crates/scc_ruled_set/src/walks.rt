@@ -1,7 +1,7 @@
 //! Walks over all stripes of a set under a rule, one after another.
 ghost use Rattle.scc_ruled_set.specs.KeyRules.{AllKeep, TakesEach};
 ghost use Rattle.scc_ruled_set.specs.Stripes.{stripes_of};
-ghost use Rattle.scc_set.specs.SetWalks.{Retains, Takes, Walks};
+ghost use Rattle.scc_owned_set.specs.SetWalks.{Retains, Takes, Walks};
 ghost use Rattle.scc_stripes.specs.Stripes.{stripe_count};
 ghost use Rattle.scc_stripes.specs.Walks.{AreOfStripes};
 ghost use Rattle.std.specs.Fn.{CalledAt, TakesAt};

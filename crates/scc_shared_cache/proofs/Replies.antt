@@ -6,11 +6,11 @@ use Rattle.std.specs.declared.hash.Hasher as hasher
 use Rattle.std.specs.declared.hash.BuildHasher as builder
 use Rattle.scc_common.specs.Contents.{lists_of}
 use Rattle.scc_common.specs.declared.guard.Guard as guard
-use Rattle.scc_cache.specs.Caches.{Cached}
-use Rattle.scc_cache.specs.Entries.{Replaces}
-use Rattle.scc_cache.specs.declared.held.HeldReplace.{HeldReplace}
-use Rattle.scc_cache.specs.declared.held.HeldReplace.TheVariants.{Replaced, NotReplaced}
-use Rattle.scc_cache.proofs.Replies.{there-equal}
+use Rattle.scc_owned_cache.specs.Caches.{Cached}
+use Rattle.scc_owned_cache.specs.Entries.{Replaces}
+use Rattle.scc_owned_cache.specs.declared.held.HeldReplace.{HeldReplace}
+use Rattle.scc_owned_cache.specs.declared.held.HeldReplace.TheVariants.{Replaced, NotReplaced}
+use Rattle.scc_owned_cache.proofs.Replies.{there-equal}
 use Rattle.scc_shared_cache.specs.Replies.{ReplacesEqual}
 
 module _ {G N K V S T : Type 0} {d : guard.Ghosts G (Cached (K × V) S)} {g : eq.Ghosts K} {h : hash.Ghosts K} {b : builder.Ghosts S T} {w : hasher.Ghosts T} where

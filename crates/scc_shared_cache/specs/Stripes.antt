@@ -1,5 +1,5 @@
 -- The stripes of a cache, and its hasher.
-use Rattle.scc_cache.specs.Caches.{Cached}
+use Rattle.scc_owned_cache.specs.Caches.{Cached}
 use Rattle.scc_stripes.specs.declared.Striped.{Striped}
 use Rattle.scc_stripes.specs.Stripes.{stripes_hasher}
 use Rattle.scc_shared_cache.specs.declared.HashCache.{HashCache}

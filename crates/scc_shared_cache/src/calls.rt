@@ -1,7 +1,7 @@
 //! The calls on one key. A contract states what the arguments decide; the call does to the stripe what the owned call
 //! of its name does.
 ghost use Rattle.std.specs.Prelude.{◌≡◌, ◌⊎◌, IfErr, IfSome};
-ghost use Rattle.scc_cache.specs.Entries.{Exists, Memory};
+ghost use Rattle.scc_owned_cache.specs.Entries.{Exists, Memory};
 ghost use Rattle.scc_common.specs.Replies.{HasKey, ReadsEqual, PassesWith};
 
 use super::{EvictedEntry, HashCache};

@@ -3,17 +3,17 @@
 ghost use Rattle.std.specs.Prelude.{◌≡◌, true, IfSome};
 ghost use Rattle.std.specs.Sync.RwLock.{write_guard_value};
 ghost use Rattle.scc_common.specs.Contents.{hash_in};
-ghost use Rattle.scc_cache.specs.Caches.{Cached, IsCacheState};
-ghost use Rattle.scc_cache.specs.Entries.{entry_guard, entry_key, occupied_cache, occupied_pair, IsEntryOf, IsRefreshed, replaced_guard, Replaces};
-ghost use Rattle.scc_cache.specs.Seats.{entry_rest, occupied_rest, replaced_rest};
+ghost use Rattle.scc_owned_cache.specs.Caches.{Cached, IsCacheState};
+ghost use Rattle.scc_owned_cache.specs.Entries.{entry_guard, entry_key, occupied_cache, occupied_pair, IsEntryOf, IsRefreshed, replaced_guard, Replaces};
+ghost use Rattle.scc_owned_cache.specs.Seats.{entry_rest, occupied_rest, replaced_rest};
 ghost use Rattle.scc_stripes.specs.Seats.{IsSeatOfKey};
 ghost use Rattle.scc_shared_cache.specs.Stripes.{stripes_of};
 ghost use Rattle.scc_common.specs.Replies.{HasKey};
 ghost use Rattle.scc_shared_cache.specs.Replies.{ReplacesEqual};
 
 use super::{Entry, HashCache, OccupiedEntry, ReplaceResult};
-use scc_cache::held::{HeldEntry, HeldOccupied, HeldReplace};
 use scc_common::Hashes;
+use scc_owned_cache::held::{HeldEntry, HeldOccupied, HeldReplace};
 use std::hash::{BuildHasher, Hash};
 use std::sync::Wait;
 

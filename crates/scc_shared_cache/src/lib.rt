@@ -11,9 +11,9 @@ mod walks;
 mod whole;
 
 use scc_buckets::sizes::slots_for;
-use scc_cache::locked::{Entry, OccupiedEntry, ReplaceResult, VacantEntry};
-use scc_cache::{DEFAULT_MAXIMUM_CAPACITY, EvictedEntry, Owned};
 use scc_common::{MakeError, Shared};
+use scc_owned_cache::locked::{Entry, OccupiedEntry, ReplaceResult, VacantEntry};
+use scc_owned_cache::{DEFAULT_MAXIMUM_CAPACITY, EvictedEntry, Owned};
 use scc_stripes::Striped;
 use scc_stripes::shares::sizes_for;
 use std::alloc::Global;

@@ -12,7 +12,7 @@ use Rattle.scc_common.specs.PairWalks as writes
 use Rattle.scc_common.specs.Replies as replies
 use Rattle.scc_stripes.specs.Walks.{AreOfStripes}
 use Rattle.scc_shared_set.specs.Answers.{ReadsEqual}
-use Rattle.scc_set.specs.SetWalks.{Declines, declined_none, declined, PassesAt}
+use Rattle.scc_owned_set.specs.SetWalks.{Declines, declined_none, declined, PassesAt}
 
 -- a closure that may always be called may be called at a key
 pub always-takes : {F K R : Type 0} (g : Mut F (Bor K × Unit {0}) R) (f : F) (k : K) → always_mut g f → TakesAt g f k

@@ -1,7 +1,7 @@
 //! The entries of a set. An entry holds the lock of its stripe.
 ghost use Rattle.std.specs.Prelude.{◌≡◌, List, IfSome, IsSomeAnd};
 ghost use Rattle.std.specs.Fn.{CalledAt, TakesAt};
-ghost use Rattle.scc_set.specs.SetWalks.{Declines, PassesAt};
+ghost use Rattle.scc_owned_set.specs.SetWalks.{Declines, PassesAt};
 ghost use Rattle.scc_shared_set.specs.SetEntries.{occupied_key, occupied_front, occupied_stripe, HasLaterSeat, HasSeatIn, HasUniqueKeys, IsFirstOfStripe, IsLastOfStripe, IsNext, IsNextPastRemoved, HasSameRest};
 ghost use Rattle.scc_shared_set.specs.Stripes.{stripes_of};
 ghost use Rattle.scc_stripes.specs.Walks.{AreOfStripes};

@@ -5,7 +5,7 @@ ghost use Rattle.std.specs.Fn.{CalledAt, TakesAt};
 ghost use Rattle.scc_shared_set.specs.Stripes.{stripes_of};
 ghost use Rattle.scc_stripes.specs.Stripes.{stripe_count};
 ghost use Rattle.scc_stripes.specs.Walks.{AreOfStripes};
-ghost use Rattle.scc_set.specs.SetWalks.{Retains, Takes, Walks};
+ghost use Rattle.scc_owned_set.specs.SetWalks.{Retains, Takes, Walks};
 
 use super::HashSet;
 use scc_common::{Verdict, WalkError};

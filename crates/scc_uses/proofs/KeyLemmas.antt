@@ -12,8 +12,8 @@ use Rattle.std.proofs.lemmas.Map.Steps.{list_any_congr}
 use Rattle.scc_common.specs.Contents.{Contents, entries}
 use Rattle.scc_common.specs.Steps.{Holds}
 use Rattle.scc_owned.specs.Sinks.{with_units}
-use Rattle.scc_set.specs.Keys.{find, FindsInstead, IsUnique}
-use Rattle.scc_set.specs.SetWalks.{Retains, retained, stayed, went}
+use Rattle.scc_owned_set.specs.Keys.{find, FindsInstead, IsUnique}
+use Rattle.scc_owned_set.specs.SetWalks.{Retains, retained, stayed, went}
 use Rattle.scc_buckets.proofs.Lookups.{find-IsPermutation}
 use Rattle.scc_buckets.proofs.PairSplits.{by_answer, cond-true, cond-false}
 

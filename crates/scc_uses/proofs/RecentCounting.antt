@@ -8,14 +8,14 @@ use Rattle.std.specs.declared.hash.Hasher as hasher
 use Rattle.std.specs.declared.hash.BuildHasher as builder
 use Rattle.scc_common.specs.Contents.{key_hash, lists_of}
 use Rattle.scc_common.specs.declared.guard.Guard as guard
-use Rattle.scc_cache.specs.CacheSteps.{ChangesLists, IsAbsent, IsPresent, PutsNew, list_number}
-use Rattle.scc_cache.specs.Caches.{Cached}
-use Rattle.scc_cache.specs.Entries.{occupied_pair, IsEntryOf, IsPut, Modifies, OrPuts}
-use Rattle.scc_cache.specs.ListSteps.{IsThere, RefreshesAs, list_for}
-use Rattle.scc_cache.specs.declared.held.HeldOccupied.{HeldOccupied}
-use Rattle.scc_cache.specs.declared.held.HeldEntry.TheVariants.{Occupied, Vacant}
-use Rattle.scc_cache.specs.declared.held.HeldEntry.{HeldEntry}
-use Rattle.scc_cache.proofs.Entries.{moved-written}
+use Rattle.scc_owned_cache.specs.CacheSteps.{ChangesLists, IsAbsent, IsPresent, PutsNew, list_number}
+use Rattle.scc_owned_cache.specs.Caches.{Cached}
+use Rattle.scc_owned_cache.specs.Entries.{occupied_pair, IsEntryOf, IsPut, Modifies, OrPuts}
+use Rattle.scc_owned_cache.specs.ListSteps.{IsThere, RefreshesAs, list_for}
+use Rattle.scc_owned_cache.specs.declared.held.HeldOccupied.{HeldOccupied}
+use Rattle.scc_owned_cache.specs.declared.held.HeldEntry.TheVariants.{Occupied, Vacant}
+use Rattle.scc_owned_cache.specs.declared.held.HeldEntry.{HeldEntry}
+use Rattle.scc_owned_cache.proofs.Entries.{moved-written}
 use Rattle.scc_uses.specs.Counts.{one_more}
 
 -- a key has one pair

@@ -7,7 +7,7 @@ use Rattle.std.specs.Map.{lookup, lookup_entry}
 use Rattle.std.specs.Option.{is_some}
 use Rattle.std.proofs.lemmas.Map.Keys.{IsDistinct-IsPermutation}
 use Rattle.scc_owned.specs.Sinks.{with_units}
-use Rattle.scc_set.specs.Keys.{find, without}
+use Rattle.scc_owned_set.specs.Keys.{find, without}
 use Rattle.scc_buckets.proofs.Lookups.{find-without}
 use Rattle.scc_calls.specs.Copies.{Alike, Means}
 use Rattle.scc_calls.specs.SetCalls.{SetMoves}

@@ -9,7 +9,7 @@ use Rattle.std.specs.Set.{swap_key}
 use Rattle.std.proofs.lemmas.List.Sorted.{IsPermutation-refl, IsPermutation-sym, IsPermutation-cons, IsPermutation-trans, IsPermutation-middle, length_permutation}
 use Rattle.std.proofs.lemmas.Map.Keys.{IsDistinct-head, IsDistinct-tail, IsDistinct-cons, IsDistinct-IsPermutation}
 use Rattle.scc_owned.specs.Sinks.{with_units}
-use Rattle.scc_set.specs.Keys.{find, without, with_key}
+use Rattle.scc_owned_set.specs.Keys.{find, without, with_key}
 use Rattle.scc_buckets.proofs.Lookups.{along}
 use Rattle.scc_buckets.proofs.PairSplits.{by_answer, cond-true, cond-false, distinct-added}
 use Rattle.scc_calls.specs.SetCalls.{SetMoves, key_of_set}

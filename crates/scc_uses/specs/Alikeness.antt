@@ -2,7 +2,7 @@
 -- the same.
 use Rattle.std.specs.Prelude.{◌≡◌, Bool, true, List, [], ◌∷◌, Option, None, Some, is_some}
 use Rattle.std.specs.Map.{lookup}
-use Rattle.scc_set.specs.Keys.{find}
+use Rattle.scc_owned_set.specs.Keys.{find}
 use Rattle.scc_calls.specs.Copies.{Alike, AreSame}
 use Rattle.scc_calls.specs.declared.calls_as_values.MapCall.{MapCall}
 use Rattle.scc_calls.specs.declared.calls_as_values.MapCall.TheVariants.{Insert, Upsert, Replace, Read, Contains, Remove, Clear, Len}

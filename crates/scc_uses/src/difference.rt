@@ -1,9 +1,9 @@
 //! The difference of two sets.
 ghost use Rattle.std.specs.Prelude.{◌≡◌, cond, None, is_some};
 ghost use Rattle.scc_common.specs.Contents.{entries};
-ghost use Rattle.scc_set.specs.Keys.{find};
+ghost use Rattle.scc_owned_set.specs.Keys.{find};
 
-use scc_set::Owned;
+use scc_owned_set::Owned;
 use std::hash::{BuildHasher, Hash};
 
 /// Removes from `first` the keys that `second` has.

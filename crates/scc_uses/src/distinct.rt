@@ -4,7 +4,7 @@ ghost use Rattle.std.specs.List.{IsDistinct};
 ghost use Rattle.std.specs.Set.{is_member};
 
 use scc_common::{KeyError, MakeError};
-use scc_set::Owned;
+use scc_owned_set::Owned;
 use std::alloc::Global;
 
 /// Returns the words of `words`, each once. Fails if memory is refused.

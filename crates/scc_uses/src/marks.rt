@@ -1,10 +1,10 @@
 //! Keys that were seen, marked in a set.
 ghost use Rattle.std.specs.Prelude.{◌≡◌, ◌↔◌, nat_eq, None, IfOk, OnOk, IsSome, IsTrue};
 ghost use Rattle.scc_common.specs.Contents.{entries};
-ghost use Rattle.scc_set.specs.Keys.{find};
+ghost use Rattle.scc_owned_set.specs.Keys.{find};
 
 use scc_common::KeyError;
-use scc_set::Owned;
+use scc_owned_set::Owned;
 
 /// Inserts `key` into `seen` if it is new, and returns whether it was new.
 pub fn mark(seen: &mut Owned<u64>, key: u64) -> Result<bool, KeyError<u64>>

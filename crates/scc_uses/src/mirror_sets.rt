@@ -9,7 +9,7 @@ ghost use Rattle.scc_uses.specs.Mirrored.{RunsOnBoth};
 
 use crate::alike::{equal_key_replies, equal_set_calls};
 use scc_calls::{Refused, Reply, SetCall, run, runs_mean};
-use scc_set::Owned;
+use scc_owned_set::Owned;
 use std::hash::{BuildHasher, Hash};
 
 /// Makes the same calls on two sets that have equal keys. Each set has its own hasher, capacity and minimum. The

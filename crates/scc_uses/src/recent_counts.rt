@@ -2,12 +2,12 @@
 ghost use Rattle.std.specs.Prelude.{◌≡◌, ℕ, nat_eq, None, Some, Ok, OnErr, IfOk};
 ghost use Rattle.std.specs.Hash as fed;
 ghost use Rattle.scc_common.specs.Contents.{hash_in};
-ghost use Rattle.scc_cache.specs.CacheSteps.{ChangesLists, IsAbsent, IsPresent, PutsNew, list_number};
-ghost use Rattle.scc_cache.specs.ListSteps.{RefreshesAs};
+ghost use Rattle.scc_owned_cache.specs.CacheSteps.{ChangesLists, IsAbsent, IsPresent, PutsNew, list_number};
+ghost use Rattle.scc_owned_cache.specs.ListSteps.{RefreshesAs};
 ghost use Rattle.scc_uses.specs.Counts.{one_more};
 
-use scc_cache::Owned;
 use scc_common::{Hashes, InsertError};
+use scc_owned_cache::Owned;
 use std::hash::BuildHasher;
 
 /// Counts a word once more, and makes its pair the most recent of its bucket. A count stays at the greatest number

@@ -3,10 +3,10 @@ ghost use Rattle.std.specs.Prelude.{◌≡◌, ℕ, ◌≤◌, [], nat_eq, lengt
 ghost use Rattle.std.specs.Hash as fed;
 ghost use Rattle.scc_common.specs.Contents.{entries, hash_in};
 ghost use Rattle.scc_common.specs.Sizes.{IsArraySize};
-ghost use Rattle.scc_cache.specs.CacheSteps.{IsAbsent, IsPresent};
+ghost use Rattle.scc_owned_cache.specs.CacheSteps.{IsAbsent, IsPresent};
 
-use scc_cache::Owned;
 use scc_common::{Hashes, MakeError};
+use scc_owned_cache::Owned;
 use std::alloc::Global;
 use std::hash::BuildHasher;
 

@@ -56,7 +56,9 @@ fn in_owned_map<C: Case>(alloc: Global, case: &C, hasher: Masked) -> Result<bool
 }
 
 fn in_owned_set<C: Case>(alloc: Global, case: &C, hasher: Masked) -> Result<bool, AllocError> {
-    let mut set: scc_set::Owned<Token, Masked> = scc_set::Owned::with_hasher(alloc, hasher);
+    let mut set: scc_owned_set::Owned<Token, Masked> = scc_owned_set::Owned::with_hasher(
+        alloc, hasher,
+    );
     case.check(alloc, &mut set)
 }
 
@@ -67,9 +69,8 @@ fn in_owned_index<C: Case>(alloc: Global, case: &C, hasher: Masked) -> Result<bo
 }
 
 fn in_owned_cache<C: Case>(alloc: Global, case: &C, hasher: Masked) -> Result<bool, AllocError> {
-    let mut cache: scc_cache::Owned<Token, Token, Masked> = scc_cache::Owned::with_hasher(
-        alloc, hasher,
-    );
+    let mut cache: scc_owned_cache::Owned<Token, Token, Masked> =
+        scc_owned_cache::Owned::with_hasher(alloc, hasher);
     case.check(alloc, &mut cache)
 }
 

@@ -61,7 +61,7 @@ fn a_clone_of_a_map_is_whole(rt: HostRuntime) {
 fn expect_set<R: AllocGlobal + Abort + Print>(
     rt: &R,
     refusal: &mut Refusal,
-    set: &scc_set::Owned<Token, Masked>,
+    set: &scc_owned_set::Owned<Token, Masked>,
 ) {
     for _ in 0..TRIES {
         match set.try_clone() {
@@ -75,7 +75,10 @@ fn expect_set<R: AllocGlobal + Abort + Print>(
 
 #[test]
 fn a_clone_of_a_set_is_whole(rt: HostRuntime) {
-    let mut set: scc_set::Owned<Token, Masked> = scc_set::Owned::with_hasher(rt.alloc(), ZERO);
+    let mut set: scc_owned_set::Owned<Token, Masked> = scc_owned_set::Owned::with_hasher(
+        rt.alloc(),
+        ZERO,
+    );
     let mut refusal = Refusal::new();
     fill(&rt, &mut refusal, &mut set, Way::Insert, 3);
     expect_set(&rt, &mut refusal, &set);

@@ -132,9 +132,9 @@ fn map_with_capacity_is_made_whole_or_not(rt: HostRuntime) {
     outlast::<scc_owned::map::Owned<u64, u64>, _>(&rt, "a map of the common hasher");
 }
 
-impl Sizing for scc_set::Owned<u64> {
+impl Sizing for scc_owned_set::Owned<u64> {
     fn make(alloc: Global, asked: usize) -> Option<Self> {
-        scc_set::Owned::with_capacity(alloc, asked).ok()
+        scc_owned_set::Owned::with_capacity(alloc, asked).ok()
     }
 
     fn sizes<R: Wait>(&self, _rt: &R) -> (usize, usize) {
@@ -144,7 +144,7 @@ impl Sizing for scc_set::Owned<u64> {
 
 #[test]
 fn set_with_capacity_is_made_whole_or_not(rt: HostRuntime) {
-    outlast::<scc_set::Owned<u64>, _>(&rt, "a set of the common hasher");
+    outlast::<scc_owned_set::Owned<u64>, _>(&rt, "a set of the common hasher");
 }
 
 impl Sizing for scc_owned::index::Owned<u64, u64> {
@@ -162,9 +162,9 @@ fn index_with_capacity_is_made_whole_or_not(rt: HostRuntime) {
     outlast::<scc_owned::index::Owned<u64, u64>, _>(&rt, "an index of the common hasher");
 }
 
-impl Sizing for scc_cache::Owned<u64, u64> {
+impl Sizing for scc_owned_cache::Owned<u64, u64> {
     fn make(alloc: Global, asked: usize) -> Option<Self> {
-        scc_cache::Owned::with_capacity(alloc, asked, asked.max(128)).ok()
+        scc_owned_cache::Owned::with_capacity(alloc, asked, asked.max(128)).ok()
     }
 
     fn sizes<R: Wait>(&self, _rt: &R) -> (usize, usize) {
@@ -174,7 +174,7 @@ impl Sizing for scc_cache::Owned<u64, u64> {
 
 #[test]
 fn cache_with_capacity_is_made_whole_or_not(rt: HostRuntime) {
-    outlast::<scc_cache::Owned<u64, u64>, _>(&rt, "a cache of the common hasher");
+    outlast::<scc_owned_cache::Owned<u64, u64>, _>(&rt, "a cache of the common hasher");
 }
 
 impl Sizing for HashMap<u64, u64> {

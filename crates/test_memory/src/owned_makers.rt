@@ -11,11 +11,11 @@ use test_kit::refusals::Refusal;
 
 pub(crate) type Map = scc_owned::map::Owned<Token, Token, Masked>;
 
-pub(crate) type Set = scc_set::Owned<Token, Masked>;
+pub(crate) type Set = scc_owned_set::Owned<Token, Masked>;
 
 pub(crate) type Index = scc_owned::index::Owned<Token, Token, Masked>;
 
-pub(crate) type Cache = scc_cache::Owned<Token, Token, Masked>;
+pub(crate) type Cache = scc_owned_cache::Owned<Token, Token, Masked>;
 
 impl Made for Map {
     fn make<R: Wait>(_rt: &R, alloc: Global, slots: Option<usize>) -> Option<Self> {
@@ -29,8 +29,8 @@ impl Made for Map {
 impl Made for Set {
     fn make<R: Wait>(_rt: &R, alloc: Global, slots: Option<usize>) -> Option<Self> {
         match slots {
-            Some(slots) => scc_set::Owned::with_capacity_and_hasher(alloc, slots, ZERO).ok(),
-            None => scc_set::Owned::try_from_iter(alloc, (0..34).map(Token::of)).ok(),
+            Some(slots) => scc_owned_set::Owned::with_capacity_and_hasher(alloc, slots, ZERO).ok(),
+            None => scc_owned_set::Owned::try_from_iter(alloc, (0..34).map(Token::of)).ok(),
         }
     }
 }
@@ -49,8 +49,10 @@ impl Made for Index {
 impl Made for Cache {
     fn make<R: Wait>(_rt: &R, alloc: Global, slots: Option<usize>) -> Option<Self> {
         match slots {
-            Some(slots) => scc_cache::Owned::with_capacity_and_hasher(alloc, slots, 128, ZERO).ok(),
-            None => scc_cache::Owned::try_from_iter(alloc, (0..34).map(item)).ok(),
+            Some(slots) => scc_owned_cache::Owned::with_capacity_and_hasher(
+                alloc, slots, 128, ZERO,
+            ).ok(),
+            None => scc_owned_cache::Owned::try_from_iter(alloc, (0..34).map(item)).ok(),
         }
     }
 }

@@ -52,7 +52,10 @@ fn map_without_an_array_that_no_memory_has(rt: HostRuntime) {
 
 #[test]
 fn set_without_an_array_that_no_memory_has(rt: HostRuntime) {
-    let mut set: scc_set::Owned<Token, Masked> = scc_set::Owned::with_hasher(rt.alloc(), ZERO);
+    let mut set: scc_owned_set::Owned<Token, Masked> = scc_owned_set::Owned::with_hasher(
+        rt.alloc(),
+        ZERO,
+    );
     expect_no_array(&rt, &mut set);
 }
 

@@ -12,11 +12,11 @@ use test_kit::zero::Zero;
 
 pub(crate) type Map = scc_owned::map::Owned<u64, u64, Shared<Zero>>;
 
-pub(crate) type Set = scc_set::Owned<u64, Shared<Zero>>;
+pub(crate) type Set = scc_owned_set::Owned<u64, Shared<Zero>>;
 
 pub(crate) type Index = scc_owned::index::Owned<u64, u64, Shared<Zero>>;
 
-pub(crate) type Cache = scc_cache::Owned<u64, u64, Shared<Zero>>;
+pub(crate) type Cache = scc_owned_cache::Owned<u64, u64, Shared<Zero>>;
 
 // What was refused.
 #[derive(Clone, Copy)]
@@ -203,7 +203,7 @@ impl Tried for Set {
     }
 
     fn made(alloc: Global, hasher: Shared<Zero>) -> Set {
-        scc_set::Owned::with_hasher(alloc, hasher)
+        scc_owned_set::Owned::with_hasher(alloc, hasher)
     }
 
     fn hasher(hasher: Shared<Zero>) -> Shared<Zero> {
@@ -340,7 +340,7 @@ impl Tried for Cache {
     }
 
     fn made(alloc: Global, hasher: Shared<Zero>) -> Cache {
-        scc_cache::Owned::with_hasher(alloc, hasher)
+        scc_owned_cache::Owned::with_hasher(alloc, hasher)
     }
 
     fn hasher(hasher: Shared<Zero>) -> Shared<Zero> {

@@ -75,7 +75,9 @@ fn of_maps(alloc: Global) -> bool {
 fn of_sets(alloc: Global) -> bool {
     let mut holds = true;
     for pairs in CROWDS {
-        let mut set: scc_set::Owned<Token, Masked> = scc_set::Owned::with_hasher(alloc, ZERO);
+        let mut set: scc_owned_set::Owned<Token, Masked> = scc_owned_set::Owned::with_hasher(
+            alloc, ZERO,
+        );
         holds &= crowds(&mut set, Kind::Set, pairs);
     }
     holds

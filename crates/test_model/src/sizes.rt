@@ -108,8 +108,12 @@ fn of_maps(alloc: Global) -> Result<bool, AllocError> {
 }
 
 fn of_sets(alloc: Global) -> Result<bool, AllocError> {
-    let mut large: scc_set::Owned<Token, Masked> = scc_set::Owned::with_hasher(alloc, SAME);
-    let mut small: scc_set::Owned<Token, Masked> = scc_set::Owned::with_hasher(alloc, SAME);
+    let mut large: scc_owned_set::Owned<Token, Masked> = scc_owned_set::Owned::with_hasher(
+        alloc, SAME,
+    );
+    let mut small: scc_owned_set::Owned<Token, Masked> = scc_owned_set::Owned::with_hasher(
+        alloc, SAME,
+    );
     Ok(grows(&mut large, Kind::Set) && reserves(&mut small, Kind::Set))
 }
 
@@ -138,7 +142,7 @@ fn evicts<F: Form>(form: &mut F, from: u64, to: u64) -> bool {
 /// Shows that a cache takes as many pairs as its maximum without an eviction, and then evicts one pair for each put.
 fn of_caches(alloc: Global) -> Result<bool, AllocError> {
     let maximum = MAXIMUM as usize;
-    let Ok(mut cache) = scc_cache::Owned::<Token, Token, Masked>::with_capacity_and_hasher(
+    let Ok(mut cache) = scc_owned_cache::Owned::<Token, Token, Masked>::with_capacity_and_hasher(
         alloc, 0, maximum, SAME,
     ) else {
         return Err(AllocError);

@@ -40,8 +40,12 @@ fn of_maps(alloc: Global) -> bool {
 }
 
 fn of_sets(alloc: Global) -> bool {
-    let mut first: scc_set::Owned<Token, Masked> = scc_set::Owned::with_hasher(alloc, SAME);
-    let mut second: scc_set::Owned<Token, Masked> = scc_set::Owned::with_hasher(alloc, SAME);
+    let mut first: scc_owned_set::Owned<Token, Masked> = scc_owned_set::Owned::with_hasher(
+        alloc, SAME,
+    );
+    let mut second: scc_owned_set::Owned<Token, Masked> = scc_owned_set::Owned::with_hasher(
+        alloc, SAME,
+    );
     judges(&mut first, &mut second)
 }
 

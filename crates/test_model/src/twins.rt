@@ -116,7 +116,7 @@ fn of_sets<R: Wait + AllocGlobal>(rt: &R) -> Result<bool, AllocError> {
     let alloc = rt.alloc();
     let (Ok(shared), Ok(mut owned)) = (
         HashSet::<Token, Masked>::with_capacity_and_hasher(alloc, SLOTS, SAME),
-        scc_set::Owned::<Token, Masked>::with_capacity_and_hasher(alloc, SLOTS, SAME),
+        scc_owned_set::Owned::<Token, Masked>::with_capacity_and_hasher(alloc, SLOTS, SAME),
     ) else {
         return Err(AllocError);
     };
@@ -140,7 +140,7 @@ fn of_caches<R: Wait + AllocGlobal>(rt: &R) -> Result<bool, AllocError> {
     let alloc = rt.alloc();
     let (Ok(shared), Ok(mut owned)) = (
         HashCache::<Token, Token, Masked>::with_capacity_and_hasher(alloc, SLOTS, MAXIMUM, SAME),
-        scc_cache::Owned::<Token, Token, Masked>::with_capacity_and_hasher(
+        scc_owned_cache::Owned::<Token, Token, Masked>::with_capacity_and_hasher(
             alloc, SLOTS, MAXIMUM, SAME,
         ),
     ) else {

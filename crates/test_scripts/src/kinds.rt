@@ -6,11 +6,11 @@ use scc_script::same::Same;
 
 pub type Map = scc_owned::map::Owned<u64, u64, Shared<Same>>;
 
-pub type Set = scc_set::Owned<u64, Shared<Same>>;
+pub type Set = scc_owned_set::Owned<u64, Shared<Same>>;
 
 pub type Index = scc_owned::index::Owned<u64, u64, Shared<Same>>;
 
-pub type Cache = scc_cache::Owned<u64, u64, Shared<Same>>;
+pub type Cache = scc_owned_cache::Owned<u64, u64, Shared<Same>>;
 
 impl Streamed for Map {
     const KEYED: u64 = 6;

@@ -2,8 +2,8 @@
 
 use crate::counted::{Counted, Counts};
 use crate::tally::Tally;
-use scc_cache::EvictedEntry;
 use scc_common::{InsertError, KeyError};
+use scc_owned_cache::EvictedEntry;
 use scc_shared::index::HashIndex;
 use scc_shared::map::HashMap;
 use scc_shared_cache::HashCache;
@@ -229,7 +229,7 @@ fn put_vacant<'a, R: Wait>(
     key: u64,
     tally: &mut Tally,
 ) {
-    if let scc_cache::locked::Entry::Vacant(entry) = cache.entry_sync(rt, key) {
+    if let scc_owned_cache::locked::Entry::Vacant(entry) = cache.entry_sync(rt, key) {
         match entry.put_entry(counts.make()) {
             Ok((evicted, _entry)) => note_put(evicted, key, tally),
             Err(_) => tally.refuse(),

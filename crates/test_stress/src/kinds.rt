@@ -10,11 +10,11 @@ use std::alloc::{AllocError, Global};
 
 pub(crate) type Map = scc_owned::map::Owned<u64, u64, Shared<Same>>;
 
-pub(crate) type Set = scc_set::Owned<u64, Shared<Same>>;
+pub(crate) type Set = scc_owned_set::Owned<u64, Shared<Same>>;
 
 pub(crate) type Index = scc_owned::index::Owned<u64, u64, Shared<Same>>;
 
-pub(crate) type Cache = scc_cache::Owned<u64, u64, Shared<Same>>;
+pub(crate) type Cache = scc_owned_cache::Owned<u64, u64, Shared<Same>>;
 
 /// Inserts the pair into the list, and returns the reply.
 fn insert(plain: &mut Plain, key: u64, value: u64) -> Result<Reply<u64, u64>, AllocError> {

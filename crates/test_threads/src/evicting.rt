@@ -1,7 +1,7 @@
 // Eviction from a shared cache: stripe by stripe, after calls that refresh, and under four threads.
 use crate::expect::{expect, expect_eq};
-use scc_cache::DEFAULT_MAXIMUM_CAPACITY;
 use scc_common::InsertError;
+use scc_owned_cache::DEFAULT_MAXIMUM_CAPACITY;
 use scc_script::same::Same;
 use scc_shared_cache::HashCache;
 use std::alloc::Global;

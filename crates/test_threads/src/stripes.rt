@@ -6,9 +6,9 @@ use crate::kinds::{
     Bucketed, Cache, Index, Map, RuledIndex, RuledMap, RuledSet, Set, Threaded, Visit, Way,
 };
 use crate::trials::{Trial, holds_in_each};
-use scc_cache::locked::Entry as CacheEntry;
 use scc_owned::index::locked::Entry as IndexEntry;
 use scc_owned::map::locked::Entry as MapEntry;
+use scc_owned_cache::locked::Entry as CacheEntry;
 use std::alloc::Global;
 use std::process::Abort;
 use std::sync::Wait;

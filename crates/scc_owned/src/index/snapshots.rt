@@ -5,8 +5,8 @@ ghost use Rattle.std.specs.Arc.{arc_value};
 ghost use Rattle.std.specs.Prelude.{◌≡◌, ◌++◌, ℕ, IfOk, OnOk, OnErr, map, take};
 
 use crate::Index;
-use scc_common::{MakeError, Version};
 use scc_common::snapshot::Iter;
+use scc_common::{MakeError, Version};
 use std::hash::{BuildHasher, Hash};
 use std::sync::Arc;
 

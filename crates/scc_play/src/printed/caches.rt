@@ -2,9 +2,9 @@
 
 use crate::printed::Printed;
 use crate::texts::add_reply_line;
-use scc_cache::Owned;
 use scc_calls::{CacheCall, Reply};
 use scc_common::Verdict;
+use scc_owned_cache::Owned;
 use std::alloc::AllocError;
 use std::fmt::Write;
 use std::hash::BuildHasher;

@@ -4,7 +4,7 @@ use crate::printed::Printed;
 use crate::texts::add_key_reply_line;
 use scc_calls::{Reply, SetCall};
 use scc_common::Verdict;
-use scc_set::Owned;
+use scc_owned_set::Owned;
 use std::alloc::AllocError;
 use std::fmt::Write;
 use std::hash::BuildHasher;

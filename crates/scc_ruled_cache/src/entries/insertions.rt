@@ -4,8 +4,8 @@ ghost use Rattle.std.specs.Fn.{FnOnceTakesAt, FnOnceReturnsAt};
 ghost use Rattle.std.specs.Prelude.{◌≡◌, Ok, Err, IfErr, IfOk};
 
 use super::{Entry, OccupiedEntry, VacantEntry};
-use scc_cache::EvictedEntry;
 use scc_common::{InsertError, TryInsertError};
+use scc_owned_cache::EvictedEntry;
 use scc_rules::Rule;
 use std::alloc::Global;
 use std::default::MadeWith;

@@ -1,5 +1,5 @@
 //! How an entry is made from the guard of its stripe. The pair of the key first becomes the most recent of its bucket.
-ghost use Rattle.scc_cache.specs.CacheSteps.{IsAbsent};
+ghost use Rattle.scc_owned_cache.specs.CacheSteps.{IsAbsent};
 ghost use Rattle.scc_common.specs.Contents.{hash_in};
 ghost use Rattle.scc_ruled_cache.specs.Entries.{entry_seat, occupied_pair, occupied_seat, replaced_seat, IsEntryOf, IsMostRecent, Replaces};
 ghost use Rattle.scc_rules.specs.Rules.{IsKeptAt};

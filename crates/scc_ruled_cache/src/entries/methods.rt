@@ -1,5 +1,5 @@
 //! The calls of an entry, but for the puts of one that may be occupied.
-ghost use Rattle.scc_cache.specs.Entries.{Memory};
+ghost use Rattle.scc_owned_cache.specs.Entries.{Memory};
 ghost use Rattle.scc_common.specs.Closures.{WritesAt};
 ghost use Rattle.scc_common.specs.Contents.{bucket_count};
 ghost use Rattle.scc_ruled_cache.specs.Entries.{entry_key, occupied_pair, occupied_seat, vacant_cache, vacant_key, vacant_seat, IsPut, IsWritten, KeepsEntry, Modifies, TakesEntry};
@@ -10,8 +10,8 @@ ghost use Rattle.std.specs.Fn.{FnOnceReturnsAtMut, FnOnceTakesAtMut};
 ghost use Rattle.std.specs.Prelude.{◌≡◌, IfErr, IfOk};
 
 use super::{Entry, OccupiedEntry, VacantEntry};
-use scc_cache::EvictedEntry;
 use scc_common::InsertError;
+use scc_owned_cache::EvictedEntry;
 use scc_rules::Rule;
 use std::alloc::Global;
 use std::hash::{BuildHasher, Hash};

@@ -5,9 +5,9 @@ ghost use Rattle.std.specs.Fn.{FnOnceReturnsAt, FnOnceTakesAt};
 ghost use Rattle.std.specs.Prelude.{Ok, Err, IfErr, IfOk, IfSome};
 
 use super::Kept;
-use scc_cache::Owned;
-use scc_cache::borrowed::Entry;
 use scc_common::Shared;
+use scc_owned_cache::Owned;
+use scc_owned_cache::borrowed::Entry;
 use scc_rules::Rule;
 use std::hash::{BuildHasher, Hash};
 

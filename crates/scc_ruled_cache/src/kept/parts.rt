@@ -1,11 +1,11 @@
 //! How a stripe of a cache under a rule is made. Its minimum is what was asked for at making.
-ghost use Rattle.scc_cache.specs.Making.{MakesEmptyCache};
+ghost use Rattle.scc_owned_cache.specs.Making.{MakesEmptyCache};
 ghost use Rattle.std.specs.Arc.{arc_value};
 ghost use Rattle.std.specs.Prelude.{◌≤◌, IfOk, Ok};
 
 use super::Kept;
-use scc_cache::Owned;
 use scc_common::MakeError;
+use scc_owned_cache::Owned;
 use scc_rules::Rule;
 use scc_stripes::{Follow, Part};
 use std::alloc::Global;

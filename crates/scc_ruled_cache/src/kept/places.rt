@@ -1,6 +1,6 @@
 //! The calls at a place of a cache under a rule.
-ghost use Rattle.scc_cache.specs.CacheSteps.{IsLacking, IsLastAt, PutsNew};
-ghost use Rattle.scc_cache.specs.Lends.{with_key_at, with_value_at};
+ghost use Rattle.scc_owned_cache.specs.CacheSteps.{IsLacking, IsLastAt, PutsNew};
+ghost use Rattle.scc_owned_cache.specs.Lends.{with_key_at, with_value_at};
 ghost use Rattle.scc_common.specs.Closures.{WritesAt};
 ghost use Rattle.scc_common.specs.Contents.{bucket_count, entries, hash_in};
 ghost use Rattle.scc_ruled_cache.specs.Evictions.{IsEvictedFor};
@@ -13,8 +13,8 @@ ghost use Rattle.std.specs.Prelude.{◌≡◌, Some, true, IfErr, IfOk, IfSome, 
 
 use super::Kept;
 use scc_buckets::Place;
-use scc_cache::{EvictedEntry, Owned};
 use scc_common::Hashes;
+use scc_owned_cache::{EvictedEntry, Owned};
 use scc_rules::Rule;
 use std::hash::{BuildHasher, Hash};
 

@@ -6,9 +6,9 @@ use crate::answers::{
 use crate::form::{Act, At, Form, Sizes, Way};
 use crate::numbered::{Seen, note_pairs, raise_to_even, seen, seen_pair, value_of};
 use crate::token::Token;
-use scc_cache::borrowed::{Entry, OccupiedEntry, ReplaceResult};
-use scc_cache::{EvictedEntry, Owned};
 use scc_common::{InsertError, TryInsertError};
+use scc_owned_cache::borrowed::{Entry, OccupiedEntry, ReplaceResult};
+use scc_owned_cache::{EvictedEntry, Owned};
 use std::alloc::Global;
 use test_kit::masked::Masked;
 

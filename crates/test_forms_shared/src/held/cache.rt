@@ -1,9 +1,9 @@
 //! `Form` for the shared cache.
 
 use crate::held::Held;
-use scc_cache::EvictedEntry;
-use scc_cache::locked::{Entry, OccupiedEntry, ReplaceResult};
 use scc_common::{InsertError, TryInsertError};
+use scc_owned_cache::EvictedEntry;
+use scc_owned_cache::locked::{Entry, OccupiedEntry, ReplaceResult};
 use scc_shared_cache::HashCache;
 use std::alloc::Global;
 use std::sync::Wait;

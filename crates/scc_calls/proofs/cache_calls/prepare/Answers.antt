@@ -2,7 +2,7 @@ use Rattle.std.proofs.Common.{◌≤◌, ◌*◌, ℕ, List, length, inl, inr, s
 use Rattle.scc_common.specs.Hashing.{hash_of}
 use Rattle.scc_common.specs.Contents.{bucket_count, key_hash, lists_of}
 use Rattle.scc_table.proofs.arrays.SameParts.{hash-same}
-use Rattle.scc_cache.specs.CacheSteps.{IsPreparedForPut, list_number}
+use Rattle.scc_owned_cache.specs.CacheSteps.{IsPreparedForPut, list_number}
 use Rattle.scc_calls.specs.CacheCalls.{cache_setting, CacheResizes}
 use Rattle.scc_calls.proofs.CacheCalls.{stays-same}
 use Rattle.scc_calls.proofs.CacheReplies.{by_place}

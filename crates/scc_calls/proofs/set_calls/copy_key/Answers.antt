@@ -1,6 +1,6 @@
 use Rattle.std.proofs.Common.{refl}
 use Rattle.scc_common.specs.Contents.{entries}
-use Rattle.scc_set.specs.Keys.{find}
+use Rattle.scc_owned_set.specs.Keys.{find}
 use Rattle.scc_calls.specs.declared.replies.Reply.TheVariants.{Key}
 use Rattle.scc_calls.proofs.Copying.{copied_whole}
 use Rattle.scc_calls.proofs.set_calls.copy_key.Goals as goal

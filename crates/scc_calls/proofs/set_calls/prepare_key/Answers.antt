@@ -1,7 +1,7 @@
 use Rattle.std.proofs.Common.{◌≡◌, ℕ, None, refl, sym, inl, inr, subst, rules}
 use Rattle.scc_common.specs.Hashing.{hash_of}
 use Rattle.scc_common.specs.Contents.{entries}
-use Rattle.scc_set.specs.Keys.{find}
+use Rattle.scc_owned_set.specs.Keys.{find}
 use Rattle.scc_common.specs.Steps.{IsPreparedAt}
 use Rattle.scc_table.proofs.arrays.SameParts.{hash-same}
 use Rattle.scc_calls.proofs.MapCalls.{by-find, refuses-still}

@@ -1,4 +1,4 @@
-use Rattle.scc_cache.proofs.Entries.{map-ok}
+use Rattle.scc_owned_cache.proofs.Entries.{map-ok}
 use Rattle.scc_ruled_cache.proofs.SizesLemmas.{default-size}
 use Rattle.scc_ruled_cache.proofs.RuledCache.with_hasher.Goals as goal
 

@@ -1,5 +1,5 @@
 use Rattle.std.proofs.Common.{refl, rules}
-use Rattle.scc_cache.specs.Entries.{occupied_pair}
+use Rattle.scc_owned_cache.specs.Entries.{occupied_pair}
 use Rattle.scc_rules.specs.Rules.{KeepsAll}
 use Rattle.scc_ruled_cache.proofs.CachePairs.{kept-refreshed, kept-there}
 use Rattle.scc_ruled_cache.proofs.kept.refresh.Goals as goal

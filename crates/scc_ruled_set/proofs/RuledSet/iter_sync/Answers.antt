@@ -1,4 +1,4 @@
-use Rattle.scc_set.proofs.Walks.{Walks-keys}
+use Rattle.scc_owned_set.proofs.Walks.{Walks-keys}
 use Rattle.scc_ruled_set.proofs.Keys.{AreOfStripes-keys, keys-keep}
 use Rattle.scc_ruled_set.proofs.RuledSet.iter_sync.Goals as goal
 

@@ -1,4 +1,4 @@
-use Rattle.scc_cache.proofs.Replies.{entry-key}
+use Rattle.scc_owned_cache.proofs.Replies.{entry-key}
 use Rattle.scc_shared_cache.proofs.HashCache.entry_sync.Goals as goal
 
 pub returns-clause-key : goal.returns-clause-key

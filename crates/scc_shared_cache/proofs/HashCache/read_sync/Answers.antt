@@ -1,5 +1,5 @@
 use Rattle.scc_common.specs.Contents.{key_hash}
-use Rattle.scc_cache.proofs.Replies.{reads-equal}
+use Rattle.scc_owned_cache.proofs.Replies.{reads-equal}
 use Rattle.scc_shared_cache.proofs.HashCache.read_sync.Goals as goal
 
 pub returns : goal.returns

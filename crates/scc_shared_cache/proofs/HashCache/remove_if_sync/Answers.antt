@@ -1,5 +1,5 @@
 use Rattle.scc_table.proofs.places.Replies.{if-map}
-use Rattle.scc_cache.proofs.Replies.{removes-passed}
+use Rattle.scc_owned_cache.proofs.Replies.{removes-passed}
 use Rattle.scc_shared_cache.proofs.HashCache.remove_if_sync.Goals as goal
 
 pub returns-clause-key : goal.returns-clause-key

@@ -1,4 +1,4 @@
-use Rattle.scc_cache.proofs.Entries.{map-ok}
+use Rattle.scc_owned_cache.proofs.Entries.{map-ok}
 use Rattle.scc_shared_cache.proofs.SizesLemmas.{default-size}
 use Rattle.scc_shared_cache.proofs.HashCache.with_hasher.Goals as goal
 

@@ -1,5 +1,5 @@
 use denote.Param.Always.{always_mut, mut_by}
-use Rattle.scc_set.proofs.Walks.{to-key, Takes-keys, taken-keys}
+use Rattle.scc_owned_set.proofs.Walks.{to-key, Takes-keys, taken-keys}
 use Rattle.scc_shared_set.proofs.Keys.{always-takes, always-after, AreOfStripes-keys}
 use Rattle.scc_shared_set.proofs.HashSet.iter_mut_sync.Goals as goal
 

@@ -1,9 +1,9 @@
 use Rattle.std.proofs.Common.{ℕ, nat_eq, Some, Ok, ap, sym, subst, rules}
 use Rattle.std.specs.Hash as fed
 use Rattle.scc_common.specs.Contents.{key_hash}
-use Rattle.scc_cache.specs.Caches.{Cached}
-use Rattle.scc_cache.specs.CacheSteps.{ChangesLists, PutsNew, list_number}
-use Rattle.scc_cache.specs.ListSteps.{RefreshesAs}
+use Rattle.scc_owned_cache.specs.Caches.{Cached}
+use Rattle.scc_owned_cache.specs.CacheSteps.{ChangesLists, PutsNew, list_number}
+use Rattle.scc_owned_cache.specs.ListSteps.{RefreshesAs}
 use Rattle.scc_uses.specs.Counts.{one_more}
 use Rattle.scc_uses.proofs.RecentCounting.{counted-again, counted-first}
 use Rattle.scc_uses.proofs.recent_counts.count_recent.Goals as goal

@@ -2,9 +2,9 @@ use Rattle.std.proofs.Common.{◌≤◌, ℕ, length, None, Some, Err, inl, inr,
 use Rattle.std.specs.Option.{option_map}
 use Rattle.scc_common.specs.Contents.{key_hash, lists_of}
 use Rattle.scc_common.specs.declared.errors.InsertError.{InsertError}
-use Rattle.scc_cache.specs.CacheSteps.{list_number, pair_of, Puts}
-use Rattle.scc_cache.specs.Entries.{occupied_pair}
-use Rattle.scc_cache.proofs.Entries.{moved-written}
+use Rattle.scc_owned_cache.specs.CacheSteps.{list_number, pair_of, Puts}
+use Rattle.scc_owned_cache.specs.Entries.{occupied_pair}
+use Rattle.scc_owned_cache.proofs.Entries.{moved-written}
 use Rattle.scc_calls.specs.CacheCalls.{cache_setting, CacheMoves, CacheResizes}
 use Rattle.scc_calls.specs.Resized.{MovesResized}
 use Rattle.scc_calls.specs.declared.calls_as_values.CacheCall.TheVariants.{Put, Get, Write, Replace, Remove, Read, Contains, Clear, Len}

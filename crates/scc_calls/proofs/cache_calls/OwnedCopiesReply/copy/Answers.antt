@@ -3,7 +3,7 @@ use Rattle.std.proofs.lemmas.Result.{on_err_weaker}
 use Rattle.std.proofs.lemmas.Bool.Decides.{nat_tests}
 use Rattle.scc_common.specs.Contents.{key_hash}
 use Rattle.scc_buckets.proofs.PairSplits.{by_answer}
-use Rattle.scc_cache.specs.CacheSteps.{pair_of}
+use Rattle.scc_owned_cache.specs.CacheSteps.{pair_of}
 use Rattle.scc_calls.specs.declared.replies.Reply.TheVariants.{Exists, Old, Key, Pair, Value}
 use Rattle.scc_calls.proofs.CacheReplies.{count-lists, put-new, put-there, told-there}
 use Rattle.scc_calls.proofs.Runs.{when_err}

@@ -1,7 +1,7 @@
 use Rattle.std.proofs.Common.{◌∙◌, inl, inr, refl, rules}
 use Rattle.scc_common.specs.Contents.{entries}
 use Rattle.scc_common.specs.Hashing.{hash_of}
-use Rattle.scc_set.specs.Keys.{find}
+use Rattle.scc_owned_set.specs.Keys.{find}
 use Rattle.scc_calls.specs.Resized.{MovesResized}
 use Rattle.scc_calls.specs.Means.{answered}
 use Rattle.scc_calls.specs.Stems.{SetStems}

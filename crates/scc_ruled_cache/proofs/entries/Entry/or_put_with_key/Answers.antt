@@ -1,4 +1,4 @@
-use Rattle.scc_cache.proofs.Entries.{map-ok, map-err}
+use Rattle.scc_owned_cache.proofs.Entries.{map-ok, map-err}
 use Rattle.scc_ruled_cache.proofs.entries.Entry.or_put_with_key.Goals as goal
 
 pub put_entry-requires : goal.put_entry-requires

@@ -1,6 +1,6 @@
 use Rattle.std.proofs.Common.{ap, refl, sym}
 use Rattle.scc_common.specs.declared.errors.InsertError.TheVariants.{Memory}
-use Rattle.scc_cache.proofs.Entries.{entry-listed}
+use Rattle.scc_owned_cache.proofs.Entries.{entry-listed}
 use Rattle.scc_ruled_cache.proofs.entries.Entry.or_try_put_with_key.Goals as goal
 
 pub put_new-requires-clause-hashed : goal.put_new-requires-clause-hashed

@@ -1,5 +1,5 @@
 use Rattle.std.proofs.Common.{◌∙◌}
-use Rattle.scc_cache.proofs.Entries.{listed-entry}
+use Rattle.scc_owned_cache.proofs.Entries.{listed-entry}
 use Rattle.scc_ruled_cache.proofs.entries.OccupiedEntry.of.Goals as goal
 
 pub refresh-requires : goal.refresh-requires

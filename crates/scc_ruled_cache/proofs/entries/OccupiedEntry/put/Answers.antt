@@ -1,6 +1,6 @@
 use Rattle.std.proofs.Common.{◌∙◌, ap, refl, sym, subst}
 use Rattle.std.specs.Sync.RwLock.{write_guard_value}
-use Rattle.scc_cache.specs.Lends.{with_value_at}
+use Rattle.scc_owned_cache.specs.Lends.{with_value_at}
 use Rattle.scc_ruled_cache.specs.Entries.{occupied_pair}
 use Rattle.scc_ruled_cache.proofs.AtEntries.{pair-is, still-place, written-is}
 use Rattle.scc_ruled_cache.proofs.entries.OccupiedEntry.put.Goals as goal

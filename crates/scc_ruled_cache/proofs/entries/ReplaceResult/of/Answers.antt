@@ -1,6 +1,6 @@
 use Rattle.std.proofs.Common.{◌≡◌, ◌∙◌, ap, sym, subst, true}
-use Rattle.scc_cache.specs.Lends.{with_key_at}
-use Rattle.scc_cache.proofs.Entries.{pair-keyed}
+use Rattle.scc_owned_cache.specs.Lends.{with_key_at}
+use Rattle.scc_owned_cache.proofs.Entries.{pair-keyed}
 use Rattle.scc_ruled_cache.specs.Places.{IsPairAt}
 use Rattle.scc_ruled_cache.proofs.AtEntries.{still-last}
 use Rattle.scc_ruled_cache.proofs.entries.ReplaceResult.of.Goals as goal

@@ -1,4 +1,4 @@
-use Rattle.scc_cache.proofs.Entries.{entry-listed}
+use Rattle.scc_owned_cache.proofs.Entries.{entry-listed}
 use Rattle.std.proofs.Common.{refl, sym}
 use Rattle.scc_ruled_cache.proofs.entries.VacantEntry.put_entry.Goals as goal
 

@@ -1,5 +1,5 @@
 use Rattle.scc_common.specs.Contents.{key_hash}
-use Rattle.scc_cache.proofs.Replies.{puts-back}
+use Rattle.scc_owned_cache.proofs.Replies.{puts-back}
 use Rattle.scc_ruled_cache.proofs.CachePairs.{evicts-kept, kept-put}
 use Rattle.scc_ruled_cache.proofs.kept.Kept.put_sync.Goals as goal
 

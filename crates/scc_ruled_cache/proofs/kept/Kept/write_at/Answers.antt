@@ -1,5 +1,5 @@
 use Rattle.std.proofs.Common.{ap, sym, subst}
-use Rattle.scc_cache.proofs.Entries.{listed-entry}
+use Rattle.scc_owned_cache.proofs.Entries.{listed-entry}
 use Rattle.scc_common.specs.Pairs.{with_pair_value}
 use Rattle.scc_table.specs.Placed.{entry_of}
 use Rattle.scc_table.specs.Places.{IsPlace}

@@ -1,6 +1,6 @@
 use Rattle.std.proofs.Common.{◌∙◌, rules, subst, sym}
 use Rattle.scc_common.specs.Contents.{key_hash}
-use Rattle.scc_cache.specs.Entries.{occupied_pair}
+use Rattle.scc_owned_cache.specs.Entries.{occupied_pair}
 use Rattle.scc_rules.specs.Rules.{KeepsAll}
 use Rattle.scc_ruled_cache.proofs.CachePairs.{kept-put, kept-refreshed, kept-there}
 use Rattle.scc_ruled_cache.proofs.kept.making.try_recall.Goals as goal

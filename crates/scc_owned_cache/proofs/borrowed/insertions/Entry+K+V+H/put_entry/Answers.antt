@@ -1,0 +1,19 @@
+use Rattle.std.proofs.Common.{refl}
+use Rattle.scc_owned_cache.proofs.Entries.{refused-through, or-refused, sets-put, within-after, written-after}
+use Rattle.scc_owned_cache.proofs.borrowed.insertions.Entry+K+V+H.put_entry.Goals as goal
+
+pub invariant_of-self : goal.invariant_of-self
+invariant_of-self g c = record { within = within-after c.in-Occupied.entry c.in-Occupied.entry.guard.now c.write_at-old.new.self c.args.value refl c.write_at-old.ensures.new }
+
+pub returns-in-Occupied : goal.returns-in-Occupied
+returns-in-Occupied g c =
+    ((refl, λ w. refl, tt), record { entry = rw c.in-Occupied.is (refl, written-after c.in-Occupied.entry c.in-Occupied.entry.guard.now c.write_at-old.new.self c.args.value refl c.write_at-old.ensures.new _); refused = tt; kept = tt })
+
+pub returns-in-Vacant : goal.returns-in-Vacant
+returns-in-Vacant g c =
+    let self = c.args.self in
+    let x = c.in-Vacant.entry in
+    let r = c.put_entry.result in
+    let is = c.in-Vacant.is in
+    let p = c.put_entry.ensures in
+    ((refl, c.put_entry.follows.holds, refused-through self x r _ is c.put_entry.follows.holds-at-none), record { entry = sets-put self x r is g.K.PartialEq.eq c.args.value p.put; refused = or-refused self x r is c.args.value p.refused; kept = tt })

@@ -1,0 +1,56 @@
+-- What the calls by key that change a cache do to it, in one word a call. `hash_of` gives the hash of a key under a
+-- hasher.
+use Rattle.std.specs.Prelude.{◌≡◌, ℕ, ◌<◌, Bool, Option, None, Result, IsOk, IfOk, OnOk, OnSome}
+use Rattle.std.specs.Borrow.{MutBor}
+use Rattle.std.specs.Fn.{Once}
+use Rattle.scc_common.specs.Contents.{entries, bucket_count, hash_in, waiting_of, IsUnmarked}
+use Rattle.scc_common.specs.Pairs.{find, FindsInstead}
+use Rattle.scc_common.specs.declared.errors.InsertError.{InsertError}
+use Rattle.scc_owned_cache.specs.CacheSteps.{IsAbsent, IsPreparedForPut, Puts, Removes}
+use Rattle.scc_owned_cache.specs.CacheWalks.{RemovesIf}
+use Rattle.scc_owned_cache.specs.Caches.{Cached, IsCacheState}
+use Rattle.scc_owned_cache.specs.LookUps.{FindsAfterPut, FindsAfterTest}
+use Rattle.scc_owned_cache.specs.Relocations.{RelocatesNoneWithin, RelocatesTwoWithin}
+
+module _ {K V S : Type 0} (eq : K → K → Bool) (hash_of : S → K → ℕ) where
+  -- the contract of a put of the pair p: it returns `result`, and turns c into d
+  pub record PutsByRule (c : Cached (K × V) S) (p : K × V) (result : Result (Option (K × V)) (InsertError K V)) (d : Cached (K × V) S) : Type 0 where
+    -- what becomes of the lists, of the array and of the note
+    pub step : Puts (hash_in hash_of c.contents) eq c p result d
+    -- what look-ups find
+    pub finds : IfOk result (λ out. FindsAfterPut eq (entries c.contents) p out (entries d.contents))
+    -- it succeeds if the key is new and there is an array
+    pub succeeds : IsAbsent (hash_in hash_of c.contents) eq c.contents p.0 → 0 < bucket_count c.contents → IsOk result
+    -- d is the state of a cache
+    pub state : IsCacheState eq (hash_in hash_of d.contents) d
+    -- it relocates the key's bucket and the first ones that wait, two in all
+    pub relocates : OnOk result (RelocatesTwoWithin (hash_in hash_of c.contents p.0) c.contents d.contents)
+    -- if it was prepared, the number of buckets stays
+    pub once : IsPreparedForPut (hash_in hash_of c.contents) c p.0 → bucket_count d.contents ≡ bucket_count c.contents
+    -- it takes the mark of a refused doubling away
+    pub unmarked : OnOk result (IsUnmarked d.contents)
+
+  -- the contract of a removal of k: it returns `result`, and turns c into d
+  pub record RemovesByRule (c : Cached (K × V) S) (k : K) (result : Option (K × V)) (d : Cached (K × V) S) : Type 0 where
+    -- what becomes of the lists and of the array
+    pub step : Removes (hash_in hash_of c.contents) eq c k result d
+    -- what look-ups find
+    pub finds : OnSome result (FindsInstead eq (entries c.contents) k None (entries d.contents))
+    -- d is the state of a cache
+    pub state : IsCacheState eq (hash_in hash_of d.contents) d
+    -- it relocates no bucket
+    pub relocates : RelocatesNoneWithin (λ p. hash_in hash_of c.contents p.0) c.contents d.contents
+
+  module _ {F : Type 0} (g : Once F (MutBor V × Unit {0}) (Bool × (MutBor V × Unit {0}))) (f : F) where
+    -- the contract of a removal of k if f returns true: it returns `result`, and turns c into d
+    pub record RemovesIfByRule (c : Cached (K × V) S) (k : K) (result : Option (K × V)) (d : Cached (K × V) S) : Type 0 where
+      -- what becomes of the lists and of the array
+      pub step : RemovesIf (hash_in hash_of c.contents) eq g f c k result d
+      -- what look-ups find
+      pub finds : FindsAfterTest eq g f (entries c.contents) k (find eq (entries c.contents) k) result (entries d.contents)
+      -- d is the state of a cache
+      pub state : IsCacheState eq (hash_in hash_of d.contents) d
+      -- it relocates no bucket
+      pub relocates : RelocatesNoneWithin (λ p. hash_in hash_of c.contents p.0) c.contents d.contents
+      -- if no pair was removed, the same buckets wait as before
+      pub rests : result ≡ None → waiting_of d.contents ≡ waiting_of c.contents

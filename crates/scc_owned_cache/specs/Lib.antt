@@ -1,0 +1,13 @@
+pub mod CacheSteps
+pub mod CacheWalks
+pub mod Caches
+pub mod Collections
+pub mod Entries
+pub mod KeyCalls
+pub mod Lends
+pub mod ListSteps
+pub mod LookUps
+pub mod Making
+pub mod Relocations
+pub mod Seats
+pub mod TakingWalks

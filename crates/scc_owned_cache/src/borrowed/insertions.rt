@@ -1,0 +1,236 @@
+//! The puts through an entry of a borrowed cache. Each goes on from the search that made the entry.
+ghost use Rattle.scc_owned_cache.specs.Entries.{entry_guard, entry_key, FailsOrRefuses, IsVacant, OrPuts, OrPutsSome, Refuses, RefusesSome, SetsEntry, rests_if_refused, occupied_guard};
+ghost use Rattle.std.specs.Borrow.{sem};
+ghost use Rattle.std.specs.Fn.{FnOnceTakesAt, FnOnceReturnsAt};
+ghost use Rattle.std.specs.Prelude.{◌≡◌, None, Ok, Err, IfOk, IfErr};
+
+use crate::EvictedEntry;
+use crate::borrowed::{Entry, OccupiedEntry};
+use crate::held::{HeldEntry, HeldOccupied, HeldVacant};
+use scc_common::{InsertError, TryInsertError};
+use std::alloc::Global;
+use std::default::MadeWith;
+use std::hash::{BuildHasher, Hash};
+
+impl<'a, K: Eq + Hash, V, H: BuildHasher> Entry<'a, K, V, H> {
+    /// Puts in `default` if the entry is vacant, by the rules of `put_sync`, and returns the evicted pair, if any, and
+    /// the occupied entry. An occupied entry stays as it is, and never fails.
+    pub fn or_put(
+        self,
+        default: V,
+    ) -> Result<(EvictedEntry<K, V>, OccupiedEntry<'a, K, V, H>), InsertError<K, V>>
+    where
+        V: Drop,
+        ensures entry { IfOk result (λ r. OrPuts K.eq self.entry default r.0 r.1) }
+        ensures refused { IfErr result (Refuses self.entry default) }
+        ensures* kept { sem 𝓛 (rests_if_refused K.row V.row H.row H.Hasher.row K.Hash H.BuildHasher H.Hasher.Hasher
+            (entry_guard self.entry) result) }
+    {
+        match self {
+            HeldEntry::Occupied(entry) => {
+                drop(default);
+                entry.as_it_is()
+            }
+            HeldEntry::Vacant(entry) => entry.put_entry(default),
+        }
+    }
+
+    /// Puts in the result of `f` if the entry is vacant, as `or_put` does. `f` isn't called on an occupied entry.
+    pub fn or_put_with<F: FnOnce() -> V>(
+        self,
+        f: F,
+    ) -> Result<(EvictedEntry<K, V>, OccupiedEntry<'a, K, V, H>), InsertError<K, V>>
+        requires { IsVacant self → F.pre f }
+        ensures entry { IfOk result (λ r. OrPutsSome K.eq self.entry (λ k v. F.post f v) r.0 r.1) }
+        ensures refused { IfErr result (RefusesSome self.entry (λ k v. F.post f v)) }
+        ensures* kept { sem 𝓛 (rests_if_refused K.row V.row H.row H.Hasher.row K.Hash H.BuildHasher H.Hasher.Hasher
+            (entry_guard self.entry) result) }
+    {
+        match self {
+            HeldEntry::Occupied(entry) => entry.as_it_is(),
+            HeldEntry::Vacant(entry) => {
+                let value = f();
+                entry.put_entry(value)
+            }
+        }
+    }
+
+    /// Puts in the result of `f` on the key if the entry is vacant, as `or_put` does. `f` isn't called on an occupied
+    /// entry.
+    pub fn or_put_with_key<F: FnOnce(&K) -> V>(
+        self,
+        f: F,
+    ) -> Result<(EvictedEntry<K, V>, OccupiedEntry<'a, K, V, H>), InsertError<K, V>>
+        requires { IsVacant self → FnOnceTakesAt F.FnOnce f (entry_key self) }
+        ensures entry { IfOk result (λ r. OrPutsSome K.eq self.entry (FnOnceReturnsAt F.FnOnce f) r.0 r.1) }
+        ensures refused { IfErr result (RefusesSome self.entry (FnOnceReturnsAt F.FnOnce f)) }
+        ensures* kept { sem 𝓛 (rests_if_refused K.row V.row H.row H.Hasher.row K.Hash H.BuildHasher H.Hasher.Hasher
+            (entry_guard self.entry) result) }
+    {
+        match self {
+            HeldEntry::Occupied(entry) => entry.as_it_is(),
+            HeldEntry::Vacant(entry) => {
+                let value = f(entry.key());
+                entry.put_entry(value)
+            }
+        }
+    }
+
+    /// Puts in the value that `f` makes if the entry is vacant, as `or_put` does. If `f` fails, its error comes back, the
+    /// key is dropped and the cache stays as it is. `f` isn't called on an occupied entry.
+    pub fn or_try_put_with<E, F: FnOnce() -> Result<V, E>>(
+        self,
+        f: F,
+    ) -> Result<(EvictedEntry<K, V>, OccupiedEntry<'a, K, V, H>), TryInsertError<K, V, E>>
+    where
+        K: Drop,
+        requires { IsVacant self → F.pre f }
+        ensures entry { IfOk result (λ r. OrPutsSome K.eq self.entry (λ k v. F.post f (Ok v)) r.0 r.1) }
+        ensures refused { IfErr result (FailsOrRefuses self.entry (λ k v. F.post f (Ok v)) (λ k e. F.post f (Err e))) }
+        ensures* kept { sem 𝓛 (rests_if_refused K.row V.row H.row H.Hasher.row K.Hash H.BuildHasher H.Hasher.Hasher
+            (entry_guard self.entry) result) }
+    {
+        self.or_try_put_with_key(
+            move |_key: &K| -> Result<V, E>
+                requires { F.pre f }
+                ensures { F.post f result }
+            { f() },
+        )
+    }
+
+    /// Puts in the value that `f` makes of the key if the entry is vacant, as `or_put` does. If `f` fails, its error
+    /// comes back, the key is dropped and the cache stays as it is. `f` isn't called on an occupied entry.
+    pub fn or_try_put_with_key<E, F: FnOnce(&K) -> Result<V, E>>(
+        self,
+        f: F,
+    ) -> Result<(EvictedEntry<K, V>, OccupiedEntry<'a, K, V, H>), TryInsertError<K, V, E>>
+    where
+        K: Drop,
+        requires { IsVacant self → FnOnceTakesAt F.FnOnce f (entry_key self) }
+        ensures entry { IfOk result (λ r. OrPutsSome K.eq self.entry (λ k v. FnOnceReturnsAt F.FnOnce f k (Ok v))
+            r.0 r.1) }
+        ensures refused { IfErr result (FailsOrRefuses self.entry (λ k v. FnOnceReturnsAt F.FnOnce f k (Ok v))
+            (λ k e. FnOnceReturnsAt F.FnOnce f k (Err e))) }
+        ensures* kept { sem 𝓛 (rests_if_refused K.row V.row H.row H.Hasher.row K.Hash H.BuildHasher H.Hasher.Hasher
+            (entry_guard self.entry) result) }
+    {
+        match self {
+            HeldEntry::Occupied(entry) => {
+                let HeldOccupied {
+                    guard,
+                    place,
+                    rest,
+                    of,
+                } = entry;
+                Ok((
+                    None,
+                    HeldOccupied {
+                        guard,
+                        place,
+                        rest,
+                        of,
+                    },
+                ))
+            }
+            HeldEntry::Vacant(entry) => {
+                let HeldVacant {
+                    guard,
+                    key,
+                    hash,
+                    rest,
+                    of: _,
+                } = entry;
+                match f(&key) {
+                    Ok(value) => match guard.put_new(hash, key, value) {
+                        Ok((evicted, place)) => {
+                            Ok((evicted, HeldOccupied::at(guard, place, rest)))
+                        }
+                        Err(pair) => Err(TryInsertError::Memory(pair)),
+                    },
+                    Err(error) => Err(TryInsertError::Failed(error)),
+                }
+            }
+        }
+    }
+
+    /// Puts in the default value if the entry is vacant, as `or_put` does.
+    pub fn or_default(
+        self,
+    ) -> Result<(EvictedEntry<K, V>, OccupiedEntry<'a, K, V, H>), InsertError<K, V>>
+    where
+        V: MadeWith<Global>,
+        ensures entry { IfOk result (λ r. OrPutsSome K.eq self.entry (λ k v. V.is_made_with v) r.0 r.1) }
+        ensures refused { IfErr result (RefusesSome self.entry (λ k v. V.is_made_with v)) }
+        ensures* kept { sem 𝓛 (rests_if_refused K.row V.row H.row H.Hasher.row K.Hash H.BuildHasher H.Hasher.Hasher
+            (entry_guard self.entry) result) }
+    {
+        match self {
+            HeldEntry::Occupied(entry) => entry.as_it_is(),
+            HeldEntry::Vacant(entry) => {
+                let value = V::made_with(entry.allocator());
+                entry.put_entry(value)
+            }
+        }
+    }
+
+    /// Sets the value of an occupied entry, which keeps its key and its place, or puts in `value` at a vacant entry,
+    /// as `or_put` does.
+    pub fn put_entry(
+        self,
+        value: V,
+    ) -> Result<(EvictedEntry<K, V>, OccupiedEntry<'a, K, V, H>), InsertError<K, V>>
+    where
+        V: Drop,
+        ensures entry { IfOk result (λ r. SetsEntry K.eq self.entry value r.0 r.1) }
+        ensures refused { IfErr result (Refuses self.entry value) }
+        ensures* kept { sem 𝓛 (rests_if_refused K.row V.row H.row H.Hasher.row K.Hash H.BuildHasher H.Hasher.Hasher
+            (entry_guard self.entry) result) }
+    {
+        match self {
+            HeldEntry::Occupied(entry) => {
+                let HeldOccupied {
+                    guard,
+                    place,
+                    rest,
+                    of,
+                } = entry;
+                let _old = guard.write_at(place, value);
+                Ok((
+                    None,
+                    HeldOccupied {
+                        guard,
+                        place,
+                        rest,
+                        of,
+                    },
+                ))
+            }
+            HeldEntry::Vacant(entry) => entry.put_entry(value),
+        }
+    }
+}
+
+impl<'a, K: Eq + Hash, V, H: BuildHasher> OccupiedEntry<'a, K, V, H> {
+    /// Returns the entry as it is, as the result of a put that evicts nothing.
+    fn as_it_is(self) -> Result<(EvictedEntry<K, V>, OccupiedEntry<'a, K, V, H>), InsertError<K, V>>
+        ensures same { result ≡ Ok (None, self.entry) }
+        ensures* kept { sem 𝓛 (rests_if_refused K.row V.row H.row H.Hasher.row K.Hash H.BuildHasher H.Hasher.Hasher
+            (occupied_guard self.entry) result) }
+    {
+        let HeldOccupied {
+            guard,
+            place,
+            rest,
+            of,
+        } = self;
+        Ok((
+            None,
+            HeldOccupied {
+                guard,
+                place,
+                rest,
+                of,
+            },
+        ))
+    }
+}
