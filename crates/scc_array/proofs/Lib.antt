@@ -24,6 +24,7 @@ pub mod Swapping
 pub mod Swaps
 pub mod TakenFirst
 pub mod Totals
+pub mod WholeWrites
 pub mod Windows
 pub mod Writing
 pub mod WritingOver

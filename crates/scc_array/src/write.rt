@@ -127,13 +127,7 @@ impl<E: Valued> Array<E> {
             × (self.new ≡ slice_set self.old bucket (shelf_write_at E.with_value (shelf_of self.old bucket) slot v))
             × E.allows (E.Keyed.key_of e) (E.value_of e) }
     {
-        let count = self.slots_before_overflow(bucket, slot);
-        if slot < count {
-            let entry = self.columns.entry_mut(bucket, slot);
-            return entry.write(w);
-        }
-        let list = &mut self.overflow[bucket];
-        let entry = &mut list[slot - count];
+        let entry = self.entry_mut_at(bucket, slot);
         entry.write(w)
     }
 
@@ -160,13 +154,7 @@ impl<E: Valued> Array<E> {
             × (self.new ≡ slice_set self.old bucket (shelf_write_at E.with_value (shelf_of self.old bucket) slot v))
             × E.allows (E.Keyed.key_of e) (E.value_of e) }
     {
-        let count = self.slots_before_overflow(bucket, slot);
-        if slot < count {
-            let entry = self.columns.entry_mut(bucket, slot);
-            return entry.visit(f);
-        }
-        let list = &mut self.overflow[bucket];
-        let entry = &mut list[slot - count];
+        let entry = self.entry_mut_at(bucket, slot);
         entry.visit(f)
     }
 }
@@ -182,15 +170,8 @@ impl<E: Lending> Array<E> {
         ensures parts { (e : E) × (slice_get (shelf_entries (shelf_of self.old bucket)) slot ≡ Some e)
             × (result.0.now ≡ E.Keyed.key_of e) × (result.1.now ≡ E.Valued.value_of e) }
     {
-        let count = self.slots_before_overflow(bucket, slot);
-        if slot < count {
-            let entry = self.columns.entry_mut(bucket, slot);
-            entry.parts_mut()
-        } else {
-            let list = &mut self.overflow[bucket];
-            let entry = &mut list[slot - count];
-            entry.parts_mut()
-        }
+        let entry = self.entry_mut_at(bucket, slot);
+        entry.parts_mut()
     }
 }
 
@@ -206,18 +187,29 @@ impl<E: Valued> Array<E> {
         ensures new { self.new ≡ slice_set self.old bucket
             (shelf_write_at E.with_key (shelf_of self.old bucket) slot key) }
     {
-        let count = self.slots_before_overflow(bucket, slot);
-        if slot < count {
-            let entry = self.columns.entry_mut(bucket, slot);
-            return entry.replace_key(key);
-        }
-        let list = &mut self.overflow[bucket];
-        let entry = &mut list[slot - count];
+        let entry = self.entry_mut_at(bucket, slot);
         entry.replace_key(key)
     }
 }
 
 impl<E> Array<E> {
+    /// Returns the entry at `slot`, to write to.
+    #[inline(always)]
+    fn entry_mut_at(&mut self, bucket: usize, slot: usize) -> &mut E
+        requires bucket { bucket < length self.old }
+        requires slot { slot < length (shelf_entries (shelf_of self.old bucket)) }
+        ensures* writes_back { sem 𝓛 (lends_array_value E.row E.row put_whole self.entry bucket slot result) }
+        ensures entry { slice_get (shelf_entries (shelf_of self.old bucket)) slot ≡ Some result.now }
+    {
+        let count = self.slots_before_overflow(bucket, slot);
+        if slot < count {
+            self.columns.entry_mut(bucket, slot)
+        } else {
+            let list = &mut self.overflow[bucket];
+            &mut list[slot - count]
+        }
+    }
+
     /// Replaces the entry at `slot` by `entry`, and returns the old entry. The tag stays.
     pub fn replace_at(&mut self, bucket: usize, slot: usize, entry: E) -> E
         requires bucket { bucket < length self.old }
@@ -226,13 +218,7 @@ impl<E> Array<E> {
         ensures new { self.new ≡ slice_set self.old bucket
             (shelf_write_at put_whole (shelf_of self.old bucket) slot entry) }
     {
-        let count = self.slots_before_overflow(bucket, slot);
-        if slot < count {
-            let there = self.columns.entry_mut(bucket, slot);
-            return mem::replace(there, entry);
-        }
-        let list = &mut self.overflow[bucket];
-        let there = &mut list[slot - count];
+        let there = self.entry_mut_at(bucket, slot);
         mem::replace(there, entry)
     }
 }

@@ -1,50 +1,10 @@
-use Rattle.std.proofs.Common.{◌≤◌, ◌<◌, ◌-◌, arith, length, refl, sym, ap, ◌∙◌}
-use Rattle.std.specs.Vec.{with_item}
-use Rattle.scc_array.proofs.ArrayWriting.{slot-got, slot-written, list-there, list-long, list-got, list-written}
-use Rattle.scc_array.proofs.Shelves.{slots-are, window-within, list-read}
-use Rattle.scc_array.specs.Windows.{window_of}
-use Rattle.scc_array.specs.Shelves.{shelves}
+use Rattle.std.proofs.Common.{set, refl, ap}
+use Rattle.scc_array.proofs.WholeWrites.{whole-written}
+use Rattle.scc_array.specs.Shelves.{shelf_of}
 use Rattle.scc_array.proofs.Array.parts_mut_at.Goals as goal
 
-pub entry_mut-entry-requires-clause-bucket : goal.entry_mut-entry-requires-clause-bucket
-entry_mut-entry-requires-clause-bucket g c = window-within c.self.inside.columns c.self.inside.overflow.items c.args.self.now c.self.view_is c.args.bucket c.requires.bucket
-
-pub entry_mut-entry-requires-clause-slot : goal.entry_mut-entry-requires-clause-slot
-entry_mut-entry-requires-clause-slot g c = omega (arith, c.slots_before_overflow-count.ensures.within c.if-slot-count.true, ap length (slots-are c.self.inside.columns c.self.inside.overflow.items (shelves c.self.inside.columns c.self.inside.overflow.items) refl c.args.bucket (omega (arith, ap length c.self.view_is, c.requires.bucket))))
-
-pub returns-then-slot-count : goal.returns-then-slot-count
-returns-then-slot-count g c =
-    let ws = c.self.inside.columns in let os = c.self.inside.overflow.items in let bs = c.args.self.now in let b = c.args.bucket in
-    let view = c.self.view_is in let kept = c.self.invariant.0 in let put = g.E.Valued.with_value in let i = c.args.slot in
-    let e = c.entry_mut-entry.result.now in let l : i < length (window_of ws b).slots = omega (arith, c.slots_before_overflow-count.ensures.within c.if-slot-count.true, ap length (slots-are ws os (shelves ws os) refl b (omega (arith, ap length view, c.requires.bucket)))) in
-    let got = slot-got put ws os bs view kept b c.requires.bucket i e l c.entry_mut-entry.ensures.entry in
-    ((refl, λ w. slot-written put ws os bs view kept b c.requires.bucket i e l c.entry_mut-entry.ensures.entry w), record { writes_back = tt; parts = (e, got, c.parts_mut.ensures.key, c.parts_mut.ensures.value) })
-
-pub index_mut-list-requires : goal.index_mut-list-requires
-index_mut-list-requires g c =
-    let ws = c.self.inside.columns in let os = c.self.inside.overflow.items in let bs = c.args.self.now in let b = c.args.bucket in
-    let view = c.self.view_is in let kept = c.self.invariant.0 in let put = g.E.Valued.with_value in let i = c.args.slot in
-    let k = c.slots_before_overflow-count.result in let far : k ≤ i = omega (arith, c.if-slot-count.false) in
-    let there = list-there put ws os bs view kept b c.requires.bucket i c.requires.slot k (c.slots_before_overflow-count.ensures.past (omega (arith, c.if-slot-count.false)) ∙ sym (ap length (slots-are ws os (shelves ws os) refl b (omega (arith, ap length view, c.requires.bucket))))) far in
-    omega (arith, c.self.inside.overflow.ok.0)
-
-pub index_mut-entry-requires : goal.index_mut-entry-requires
-index_mut-entry-requires g c =
-    let ws = c.self.inside.columns in let os = c.self.inside.overflow.items in let bs = c.args.self.now in let b = c.args.bucket in
-    let view = c.self.view_is in let kept = c.self.invariant.0 in let put = g.E.Valued.with_value in let i = c.args.slot in
-    let k = c.slots_before_overflow-count.result in let far : k ≤ i = omega (arith, c.if-slot-count.false) in
-    let there = list-there put ws os bs view kept b c.requires.bucket i c.requires.slot k (c.slots_before_overflow-count.ensures.past (omega (arith, c.if-slot-count.false)) ∙ sym (ap length (slots-are ws os (shelves ws os) refl b (omega (arith, ap length view, c.requires.bucket))))) far in
-    let v = c.index_mut-list.result.now in let entry_count = list-read os b v there c.index_mut-list.ensures.value in
-    let l = list-long put ws os bs view kept b c.requires.bucket i c.requires.slot k (c.slots_before_overflow-count.ensures.past (omega (arith, c.if-slot-count.false)) ∙ sym (ap length (slots-are ws os (shelves ws os) refl b (omega (arith, ap length view, c.requires.bucket))))) far v entry_count in
-    omega (arith, v.ok.0)
-
-pub returns-else-slot-count : goal.returns-else-slot-count
-returns-else-slot-count g c =
-    let ws = c.self.inside.columns in let os = c.self.inside.overflow.items in let bs = c.args.self.now in let b = c.args.bucket in
-    let view = c.self.view_is in let kept = c.self.invariant.0 in let put = g.E.Valued.with_value in let i = c.args.slot in
-    let k = c.slots_before_overflow-count.result in let far : k ≤ i = omega (arith, c.if-slot-count.false) in
-    let there = list-there put ws os bs view kept b c.requires.bucket i c.requires.slot k (c.slots_before_overflow-count.ensures.past (omega (arith, c.if-slot-count.false)) ∙ sym (ap length (slots-are ws os (shelves ws os) refl b (omega (arith, ap length view, c.requires.bucket))))) far in
-    let v = c.index_mut-list.result.now in let entry_count = list-read os b v there c.index_mut-list.ensures.value in
-    let e = c.index_mut-entry.result.now in
-    let got = list-got put ws os bs view kept b c.requires.bucket i c.requires.slot k (c.slots_before_overflow-count.ensures.past (omega (arith, c.if-slot-count.false)) ∙ sym (ap length (slots-are ws os (shelves ws os) refl b (omega (arith, ap length view, c.requires.bucket))))) far v entry_count e c.index_mut-entry.ensures.value in
-    ((refl, λ w. list-written put ws os bs view kept b c.requires.bucket i c.requires.slot k (c.slots_before_overflow-count.ensures.past (omega (arith, c.if-slot-count.false)) ∙ sym (ap length (slots-are ws os (shelves ws os) refl b (omega (arith, ap length view, c.requires.bucket))))) far v entry_count e c.index_mut-entry.ensures.value (with_item v (i - k) (put e w)) w refl refl), record { writes_back = tt; parts = (e, got, c.parts_mut-else-slot-count.ensures.key, c.parts_mut-else-slot-count.ensures.value) })
+pub returns : goal.returns
+returns g c =
+    let bs = c.args.self.now in let b = c.args.bucket in let i = c.args.slot in
+    let e = c.entry_mut_at-entry.result.now in let got = c.entry_mut_at-entry.ensures.entry in
+    ((refl, λ w. ap (set bs b) (whole-written g.E.Valued.with_value (shelf_of bs b) i e w got)), record { writes_back = tt; parts = (e, got, c.parts_mut.ensures.key, c.parts_mut.ensures.value) })

@@ -1,103 +1,18 @@
-use Rattle.std.proofs.Common.{◌≤◌, ◌<◌, ◌-◌, arith, length, set, refl, ap, ◌∙◌, sym}
-use Rattle.std.specs.Vec.{with_item}
-use Rattle.scc_array.proofs.ArrayWriting.{slot-got, slot-written, list-there, list-long, list-got, list-written, in-list}
-use Rattle.scc_array.proofs.Listed.{listed-both}
-use Rattle.scc_array.proofs.Shelves.{slots-are, window-within, list-read}
-use Rattle.scc_array.specs.Shelves.{shelves}
-use Rattle.scc_array.specs.Windows.{window_of, written_over}
+use Rattle.std.proofs.Common.{set, ap, ◌∙◌}
+use Rattle.scc_array.proofs.WholeWrites.{whole-written}
+use Rattle.scc_array.specs.Shelves.{shelf_of}
+use Rattle.scc_array.specs.ShelfWrites.{shelf_write_at, put_whole}
 use Rattle.scc_array.proofs.Array.visit_at.Goals as goal
 
-pub entry_mut-entry-requires-clause-bucket : goal.entry_mut-entry-requires-clause-bucket
-entry_mut-entry-requires-clause-bucket g c = window-within c.self.inside.columns c.self.inside.overflow.items c.args.self.now c.self.view_is c.args.bucket c.requires.bucket
-
-pub entry_mut-entry-requires-clause-slot : goal.entry_mut-entry-requires-clause-slot
-entry_mut-entry-requires-clause-slot g c = omega (arith, c.slots_before_overflow-count.ensures.within c.if-slot-count.true, ap length (slots-are c.self.inside.columns c.self.inside.overflow.items c.args.self.now c.self.view_is c.args.bucket c.requires.bucket))
-
-pub index_mut-list-requires : goal.index_mut-list-requires
-index_mut-list-requires g c =
-    let ws = c.self.inside.columns in let os = c.self.inside.overflow.items in let bs = c.args.self.now in let b = c.args.bucket in
-    let view = c.self.view_is in let kept = c.self.invariant.0 in let i = c.args.slot in
-    let k = c.slots_before_overflow-count.result in let far : k ≤ i = omega (arith, c.if-slot-count.false) in
-    let there = list-there g.E.Valued.with_value ws os bs view kept b c.requires.bucket i c.requires.slot k (c.slots_before_overflow-count.ensures.past (omega (arith, c.if-slot-count.false)) ∙ sym (ap length (slots-are ws os bs view b c.requires.bucket))) far in
-    omega (arith, c.self.inside.overflow.ok.0)
-
-pub index_mut-entry-requires : goal.index_mut-entry-requires
-index_mut-entry-requires g c =
-    let ws = c.self.inside.columns in let os = c.self.inside.overflow.items in let bs = c.args.self.now in let b = c.args.bucket in
-    let view = c.self.view_is in let kept = c.self.invariant.0 in let i = c.args.slot in
-    let k = c.slots_before_overflow-count.result in let far : k ≤ i = omega (arith, c.if-slot-count.false) in
-    let there = list-there g.E.Valued.with_value ws os bs view kept b c.requires.bucket i c.requires.slot k (c.slots_before_overflow-count.ensures.past (omega (arith, c.if-slot-count.false)) ∙ sym (ap length (slots-are ws os bs view b c.requires.bucket))) far in
-    let v = c.index_mut-list.result.now in let entry_count = list-read os b v there c.index_mut-list.ensures.value in
-    let l = list-long g.E.Valued.with_value ws os bs view kept b c.requires.bucket i c.requires.slot k (c.slots_before_overflow-count.ensures.past (omega (arith, c.if-slot-count.false)) ∙ sym (ap length (slots-are ws os bs view b c.requires.bucket))) far v entry_count in
-    omega (arith, v.ok.0)
-
 pub visit-requires-clause-takes : goal.visit-requires-clause-takes
-visit-requires-clause-takes g c =
-    let ws = c.self.inside.columns in let os = c.self.inside.overflow.items in let bs = c.args.self.now in let b = c.args.bucket in
-    let view = c.self.view_is in let kept = c.self.invariant.0 in let i = c.args.slot in
-    let e = c.entry_mut-entry.result.now in let l : i < length (window_of ws b).slots = omega (arith, c.slots_before_overflow-count.ensures.within c.if-slot-count.true, ap length (slots-are ws os bs view b c.requires.bucket)) in
-    let got = slot-got g.E.Valued.with_value ws os bs view kept b c.requires.bucket i e l c.entry_mut-entry.ensures.entry in
-    λ allowed. c.requires.takes e got allowed
+visit-requires-clause-takes g c = λ allowed. c.requires.takes _ c.entry_mut_at-entry.ensures.entry allowed
 
 pub visit-requires-clause-keeps : goal.visit-requires-clause-keeps
-visit-requires-clause-keeps g c =
-    let ws = c.self.inside.columns in let os = c.self.inside.overflow.items in let bs = c.args.self.now in let b = c.args.bucket in
-    let view = c.self.view_is in let kept = c.self.invariant.0 in let i = c.args.slot in
-    let e = c.entry_mut-entry.result.now in let l : i < length (window_of ws b).slots = omega (arith, c.slots_before_overflow-count.ensures.within c.if-slot-count.true, ap length (slots-are ws os bs view b c.requires.bucket)) in
-    let got = slot-got g.E.Valued.with_value ws os bs view kept b c.requires.bucket i e l c.entry_mut-entry.ensures.entry in
-    λ r w f' allowed written. c.requires.keeps e r w f' got allowed written
-
-pub visit-requires-2-clause-takes : goal.visit-requires-2-clause-takes
-visit-requires-2-clause-takes g c =
-    let ws = c.self.inside.columns in let os = c.self.inside.overflow.items in let bs = c.args.self.now in let b = c.args.bucket in
-    let view = c.self.view_is in let kept = c.self.invariant.0 in let i = c.args.slot in
-    let k = c.slots_before_overflow-count.result in let far : k ≤ i = omega (arith, c.if-slot-count.false) in
-    let counted = c.slots_before_overflow-count.ensures.past (omega (arith, c.if-slot-count.false)) ∙ sym (ap length (slots-are ws os bs view b c.requires.bucket)) in
-    let there = list-there g.E.Valued.with_value ws os bs view kept b c.requires.bucket i c.requires.slot k counted far in
-    let v = c.index_mut-list.result.now in let entry_count = list-read os b v there c.index_mut-list.ensures.value in
-    let e = c.index_mut-entry.result.now in
-    let got = list-got g.E.Valued.with_value ws os bs view kept b c.requires.bucket i c.requires.slot k counted far v entry_count e c.index_mut-entry.ensures.value in
-    λ allowed. c.requires.takes e got allowed
-
-pub visit-requires-2-clause-keeps : goal.visit-requires-2-clause-keeps
-visit-requires-2-clause-keeps g c =
-    let ws = c.self.inside.columns in let os = c.self.inside.overflow.items in let bs = c.args.self.now in let b = c.args.bucket in
-    let view = c.self.view_is in let kept = c.self.invariant.0 in let i = c.args.slot in
-    let k = c.slots_before_overflow-count.result in let far : k ≤ i = omega (arith, c.if-slot-count.false) in
-    let counted = c.slots_before_overflow-count.ensures.past (omega (arith, c.if-slot-count.false)) ∙ sym (ap length (slots-are ws os bs view b c.requires.bucket)) in
-    let there = list-there g.E.Valued.with_value ws os bs view kept b c.requires.bucket i c.requires.slot k counted far in
-    let v = c.index_mut-list.result.now in let entry_count = list-read os b v there c.index_mut-list.ensures.value in
-    let e = c.index_mut-entry.result.now in
-    let got = list-got g.E.Valued.with_value ws os bs view kept b c.requires.bucket i c.requires.slot k counted far v entry_count e c.index_mut-entry.ensures.value in
-    λ r w f' allowed written. c.requires.keeps e r w f' got allowed written
-
-pub returns-then-slot-count : goal.returns-then-slot-count
-returns-then-slot-count g c =
-    let ws = c.self.inside.columns in let os = c.self.inside.overflow.items in let bs = c.args.self.now in let b = c.args.bucket in
-    let view = c.self.view_is in let kept = c.self.invariant.0 in let i = c.args.slot in
-    let e = c.entry_mut-entry.result.now in let l : i < length (window_of ws b).slots = omega (arith, c.slots_before_overflow-count.ensures.within c.if-slot-count.true, ap length (slots-are ws os bs view b c.requires.bucket)) in
-    let got = slot-got g.E.Valued.with_value ws os bs view kept b c.requires.bucket i e l c.entry_mut-entry.ensures.entry in
-    let w = c.visit.ensures.written in
-    (e, w.0, got, w.1, ap (λ x. shelves (set ws b (written_over (window_of ws b) i x)) os) w.2 ∙ slot-written g.E.Valued.with_value ws os bs view kept b c.requires.bucket i e l c.entry_mut-entry.ensures.entry w.0, c.visit.ensures.allowed)
+visit-requires-clause-keeps g c = λ r w s allowed written. c.requires.keeps _ r w s c.entry_mut_at-entry.ensures.entry allowed written
 
 pub returns : goal.returns
 returns g c =
-    let ws = c.self.inside.columns in let os = c.self.inside.overflow.items in let bs = c.args.self.now in let b = c.args.bucket in
-    let view = c.self.view_is in let kept = c.self.invariant.0 in let i = c.args.slot in
-    let k = c.slots_before_overflow-count.result in let far : k ≤ i = omega (arith, c.if-slot-count.false) in
-    let counted = c.slots_before_overflow-count.ensures.past (omega (arith, c.if-slot-count.false)) ∙ sym (ap length (slots-are ws os bs view b c.requires.bucket)) in
-    let there = list-there g.E.Valued.with_value ws os bs view kept b c.requires.bucket i c.requires.slot k counted far in
-    let v = c.index_mut-list.result.now in let entry_count = list-read os b v there c.index_mut-list.ensures.value in
-    let e = c.index_mut-entry.result.now in
-    let got = list-got g.E.Valued.with_value ws os bs view kept b c.requires.bucket i c.requires.slot k counted far v entry_count e c.index_mut-entry.ensures.value in
-    let w = c.visit-2.ensures.written in
-    (e, w.0, got, w.1, list-written g.E.Valued.with_value ws os bs view kept b c.requires.bucket i c.requires.slot k counted far v entry_count e c.index_mut-entry.ensures.value (with_item v (i - k) c.visit-2.new.self) w.0 (ap (λ x. set v.items (i - k) x) w.2) refl, c.visit-2.ensures.allowed)
-
-pub invariant_of-self-2 : goal.invariant_of-self-2
-invariant_of-self-2 g c =
-    let ws = c.self.inside.columns in let os = c.self.inside.overflow.items in let bs = c.args.self.now in let b = c.args.bucket in
-    let view = c.self.view_is in let kept = c.self.invariant.0 in let i = c.args.slot in
-    let k = c.slots_before_overflow-count.result in let far : k ≤ i = omega (arith, c.if-slot-count.false) in
-    let counted = c.slots_before_overflow-count.ensures.past (omega (arith, c.if-slot-count.false)) ∙ sym (ap length (slots-are ws os bs view b c.requires.bucket)) in
-    let here = in-list g.E.Valued.with_value ws os bs view kept b c.requires.bucket i c.requires.slot k counted far in
-    listed-both ws os c.self.inside.crowded.items bs view kept c.self.invariant.1 b c.requires.bucket (i - k) here _
+    let bs = c.args.self.now in let b = c.args.bucket in let i = c.args.slot in
+    let e = c.entry_mut_at-entry.result.now in let got = c.entry_mut_at-entry.ensures.entry in
+    let w = c.visit.ensures.written in
+    (e, w.0, got, w.1, ap (λ x. set bs b (shelf_write_at put_whole (shelf_of bs b) i x)) w.2 ∙ ap (set bs b) (whole-written g.E.Valued.with_value (shelf_of bs b) i e w.0 got), c.visit.ensures.allowed)

@@ -1,4 +1,4 @@
-use Rattle.std.proofs.Common.{◌<◌, length, set, refl, sym, ap, subst, ◌∙◌}
+use Rattle.std.proofs.Common.{◌<◌, length, set, sym, ap, subst, ◌∙◌}
 use Rattle.scc_array.proofs.ArrayWriting.{slot-got, slot-written}
 use Rattle.scc_array.proofs.Shelves.{slots-are, window-within}
 use Rattle.scc_array.specs.Shelves.{shelves}
