@@ -3,7 +3,7 @@ pub mod Collecting
 pub mod EachPair
 pub mod Entries
 pub mod FirstOfAll
-mod Found
+pub mod Found
 pub mod LookUps
 pub mod Relocations
 pub mod Removing
