@@ -9,8 +9,8 @@ layout = tools.tool("layout")
 
 class Lines(unittest.TestCase):
     def wrong(self, line, text):
-        files = {"src/lib.rt": f"#![tactic(auto)]\n{text}\n"}
-        with mock.patch.object(layout, "texts_of", return_value=files), mock.patch.object(layout, "listed", return_value={"low": "low:", "high": line}):
+        files = {"high": {"src/lib.rt": f"#![tactic(auto)]\n{text}\n"}, "low": {"proofs/Lib.antt": "mod Hidden\npub mod Shared\n"}}
+        with mock.patch.object(layout, "texts_of", side_effect=files.get), mock.patch.object(layout, "listed", return_value={"low": "low:", "high": line}):
             return layout.wrong_in("high", line)
 
     def test_a_line_that_fits(self):
@@ -24,6 +24,10 @@ class Lines(unittest.TestCase):
 
     def test_a_crate_that_no_file_names(self):
         self.assertEqual(self.wrong("high: low", "use std::mem;"), ["high: its line in crates.txt names low, and no file of it does"])
+
+    def test_a_file_that_a_crate_keeps_to_itself(self):
+        self.assertEqual(self.wrong("high: low", "use Rattle.low.proofs.Shared.{lemma}"), [])
+        self.assertEqual(self.wrong("high: low", "use Rattle.low.proofs.Hidden.{lemma}"), ["high: its files name low/proofs/Hidden, which isn't pub there"])
 
 
 if __name__ == "__main__":
