@@ -1,25 +1,30 @@
-"""What a first proof of crates costs: how many crates it takes, and the processor minutes that they took in one run.
-
-tools/minutes.txt has a line for each crate with what it took in that run; `tools/processor_minutes --note` writes it.
-"""
+"""What a first proof of crates costs: how many crates it takes, and about how many processor minutes."""
 import functools
 
-from repository import TOP, below
+from repository import TOP, below, files_of
 
-MINUTES = f"{TOP}/tools/minutes.txt"
+# What a proof of scc and of all crates below it took of a processor.
+SCC_MINUTES = 70
 
 
 @functools.lru_cache(maxsize=None)
-def measured():
-    """The processor minutes of each crate, as they were measured."""
-    with open(MINUTES, encoding="utf-8") as file:
-        pairs = [line.split() for line in file if not line.startswith("#")]
-    return {name: float(minutes) for name, minutes in pairs}
+def lines_of_crate(crate):
+    """How many lines a proof of a crate reads."""
+    count = 0
+    for path in files_of(crate):
+        with open(f"{TOP}/crates/{crate}/{path}", "rb") as file:
+            count += file.read().count(b"\n")
+    return count
+
+
+def lines_of(crates):
+    """How many lines a proof of these crates reads."""
+    return sum(map(lines_of_crate, crates))
 
 
 def minutes_of(crates):
-    """How many processor minutes these crates took, at least one."""
-    return max(1, round(sum(measured().get(name, 0) for name in crates)))
+    """About how many processor minutes a proof of these crates takes: their part of all lines of scc, in minutes."""
+    return max(1, round(SCC_MINUTES * lines_of(crates) / lines_of(below("scc"))))
 
 
 def costs(crate):

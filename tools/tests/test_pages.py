@@ -2,8 +2,7 @@
 import unittest
 
 import tools
-from costs import costs, measured
-from repository import below
+from costs import costs
 
 pages = tools.tool("pages")
 
@@ -19,9 +18,6 @@ class Counts(unittest.TestCase):
         self.assertEqual(len(list(pages.wrong_counts(f"{row}\n| a set | `scc_shared_set` | 1 | 1 |\n"))), 1)
         self.assertEqual(len(list(pages.wrong_counts("`scc_nothing` (1 crates, some 1 processor minutes)"))), 1)
         self.assertEqual(list(pages.wrong_counts(f"{count} crates, which are `scc_map` and all below it")), [])
-
-    def test_each_library_was_measured(self):
-        self.assertEqual([name for name in below("scc") if name not in measured()], [])
 
     def test_wrong_bodies(self):
         self.assertEqual(len(list(pages.wrong_counts("tries 1000 wrong bodies that the prover has to refuse"))), 1)

@@ -37,14 +37,6 @@ class Minutes(unittest.TestCase):
             minutes.print_minutes({}, 0, CRATES)
         self.assertIn("the longest chain, 0.0 processor minutes: none\n", said.getvalue())
 
-    def test_reads_what_the_last_run_printed(self):
-        said = io.StringIO()
-        with contextlib.redirect_stdout(said):
-            print("of a crate\nprocessor minutes:\n  scc_low                        1.0")
-            minutes.print_minutes({"scc_high": 1.25, "scc_low": 5, "elsewhere": 3}, 12 * 60, CRATES)
-        self.assertEqual(minutes.minutes_in(said.getvalue(), CRATES), {"scc_low": "5.0", "scc_high": "1.2"})
-        self.assertEqual(minutes.minutes_in("  all      12.0\n", CRATES), {})
-
     def test_finds_the_crate_of_a_process(self):
         with subprocess.Popen([sys.executable, "-c", "import time; time.sleep(60)", "--crate-name", "scc_low"]) as named:
             times = {}
@@ -66,8 +58,6 @@ class Command(unittest.TestCase):
     def test_wrong_words(self):
         self.assertEqual(self.ran().returncode, 2)
         self.assertEqual(self.ran("--nothing").returncode, 2)
-        self.assertEqual(self.ran("--note", os.devnull, "true").returncode, 2)
-        self.assertEqual(self.ran("--note", os.devnull).returncode, 1)
 
 
 if __name__ == "__main__":
