@@ -13,6 +13,9 @@ pub mod MapCollecting
 pub mod MapEntries
 pub mod MapRemoving
 pub mod Replies
+pub mod RuledFronts
+pub mod RuledPairs
+pub mod RuledUpdates
 pub mod Updates
 pub mod Updating
 pub mod Visiting

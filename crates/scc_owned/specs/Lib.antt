@@ -13,6 +13,8 @@ pub mod MapCollections
 pub mod MapEntries
 pub mod MapSteps
 pub mod Rooms
+pub mod RuledEntries
+pub mod RuledReplies
 pub mod Seats
 pub mod Shrinking
 pub mod Sinks

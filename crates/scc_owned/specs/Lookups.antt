@@ -1,5 +1,5 @@
 -- How contracts look an entry up by its key, and change it, for entries of any kind; and the entry of a key.
-use Rattle.std.specs.Prelude.{◌≡◌, ℕ, suc, Bool, true, List, ◌∷◌, ◌++◌, Option, None, Some, map, take, drop}
+use Rattle.std.specs.Prelude.{◌≡◌, ℕ, suc, Bool, true, List, ◌∷◌, ◌++◌, Option, None, Some, map, take, drop, ⊤}
 use Rattle.std.specs.Cmp.{IsEquivalence}
 use Rattle.std.specs.List as lists
 use Rattle.std.specs.List.{IsDistinct, position, slice_get}
@@ -94,3 +94,17 @@ module _ {G N E V S K T : Type 0} {d : guard.Ghosts G (Contents E S)} {y : keyed
   abbrev pub IsEntryOf : (K → K → Bool) → Contents E S → K → HeldEntry G N E S K T d y g b w h → Type 0
   IsEntryOf same c k (Occupied o) = IsOccupiedAt same c k o
   IsEntryOf same c k (Vacant e) = IsVacantAt same c k e
+
+module _ {G N E V S K T : Type 0} {d : guard.Ghosts G (Contents E S)} {y : keyed.Ghosts E K} {b : builder.Ghosts S T} {w : hasher.Ghosts T} {g : eq.Ghosts K} {h : hash.Ghosts K} (value_of : E → V) (allows : K → V → Type 0) where
+  -- the value of o may stand under its key
+  abbrev pub IsAllowed : HeldOccupied G N E S K T d y g b w h → Type 0
+  IsAllowed o = allows (y.key_of (occupied_pair o)) (value_of (occupied_pair o))
+
+  -- the value of o may stand under its key and under k
+  abbrev pub IsAllowedAt : K → HeldOccupied G N E S K T d y g b w h → Type 0
+  IsAllowedAt k o = allows (y.key_of (occupied_pair o)) (value_of (occupied_pair o)) × allows k (value_of (occupied_pair o))
+
+  -- the value of an occupied entry may stand under its key and under k
+  abbrev pub AllowsEntry : K → HeldEntry G N E S K T d y g b w h → Type 0
+  AllowsEntry k (Occupied o) = IsAllowedAt k o
+  AllowsEntry k (Vacant e) = ⊤

@@ -14,6 +14,8 @@ mod make;
 pub mod map;
 mod part;
 mod places;
+pub mod ruled_index;
+pub mod ruled_map;
 mod sizes;
 pub mod stored;
 
@@ -22,7 +24,7 @@ use scc_table::Table;
 use std::alloc::Global;
 use std::hash::{BuildHasher, BuildHasherDefault, FoldHasher, Hash};
 use std::marker::Model;
-pub use stored::Stored;
+pub use stored::{Stored, Unruled};
 
 /// A container of entries with keys, no two of which are equal. A contract sees its entries in the container's own order
 /// as `entries m`, the number of its buckets as `bucket_count m`, and its hasher and sizes as `settings_of m`.

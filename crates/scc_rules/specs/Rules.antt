@@ -28,6 +28,10 @@ module _ {K V : Type 0} (holds : K → V → Type 0) where
     abbrev pub KeepsRefused : Type 0
     KeepsRefused = (v w : V) → holds k v → FnOnceReturnsAtMut g f v false w → holds k w
 
+    -- whatever f returns, what it leaves may stand under k
+    abbrev pub KeepsTested : Type 0
+    KeepsTested = (v w : V) (b : Bool) → holds k v → FnOnceReturnsAtMut g f v b w → holds k w
+
     -- f may return true at a value that may stand under k, and leave the value of p
     abbrev pub RemovesKept : K × V → Type 0
     RemovesKept p = (v : V) × holds k v × FnOnceReturnsAtMut g f v true p.1

@@ -7,8 +7,10 @@
 ghost use Rattle.std.specs.Prelude.{◌≡◌, true};
 
 pub mod ruled;
+pub mod ruled_version;
 
 pub use ruled::Ruled;
+pub use ruled_version::RuledVersion;
 
 /// A rule that a container keeps for each of its pairs: a route leads to its own address, a square is the square of its
 /// key.

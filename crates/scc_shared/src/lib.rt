@@ -1,5 +1,6 @@
 //! A hash map and a hash index that threads share: a fixed number of stripes, each an owned container behind a lock.
-//! What both have is generic in the entry of the table: a pair in a map, a version in an index.
+//! What both have is generic in the entry of the table: a pair in a map, a version in an index. An entry may keep a rule:
+//! then the container is one under that rule.
 #![tactic(auto)]
 
 ghost use Rattle.scc_shared.specs.Stripes.{hasher_of, stripes_of};
@@ -11,6 +12,8 @@ mod entries;
 pub mod index;
 pub mod map;
 pub mod paired;
+pub mod ruled_index;
+pub mod ruled_map;
 mod sizes;
 mod unlocked;
 mod whole;

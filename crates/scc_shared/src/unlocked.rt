@@ -3,6 +3,7 @@ ghost use Rattle.std.specs.List.{FoldsTo};
 ghost use Rattle.std.specs.Prelude.{◌≡◌, false, IfOk, IsTrue};
 ghost use Rattle.scc_common.specs.Contents.{entries};
 ghost use Rattle.scc_common.specs.Routing.{stripe_of};
+ghost use Rattle.scc_rules.specs.Rules.{ClonesKeep};
 ghost use Rattle.scc_stripes.specs.Parts.{part_count, parts_hasher, parts_of, parts_owner};
 ghost use Rattle.scc_shared.specs.Copying.{InsertsClones, InsertsMissing, InsertsNothing, InsertsRouted};
 ghost use Rattle.scc_shared.specs.Stripes.{hasher_of};
@@ -61,6 +62,7 @@ where
     /// Inserts clones of all pairs of `from`, up to the first pair that can't be inserted. Returns whether all pairs
     /// were inserted.
     pub(crate) fn insert_all(&mut self, from: &Owned<E, Shared<H>>) -> bool
+        requires { ClonesKeep E.allows E.Key.is_clone E.Value.is_clone }
         ensures hasher { parts_owner self.new.parts ≡ parts_owner self.old.parts }
         ensures all { IsTrue result → FoldsTo (InsertsClones E.lookups E.Key.eq E.Key.is_clone E.Value.is_clone
             (stripe_of H.BuildHasher H.Hasher.Hasher E.Key.hash_input (parts_hasher self.old.parts)
@@ -80,6 +82,8 @@ where
     /// Inserts clones of `k` and `v`, and returns whether it did. It does unless a clone fails, a key equals the clone
     /// of `k`, or memory is refused.
     fn insert_clones(&mut self, k: &E::Key, v: &E::Value) -> bool
+        requires allowed { E.allows k.now v.now }
+        requires clones { ClonesKeep E.allows E.Key.is_clone E.Value.is_clone }
         ensures hasher { parts_owner self.new.parts ≡ parts_owner self.old.parts }
         ensures count { part_count self.new.parts ≡ part_count self.old.parts }
         ensures made { IsTrue result → (key : E.Key) × (value : E.Value) × E.Key.is_clone k.now key
@@ -108,6 +112,7 @@ fn insert<E: Stored, H: BuildHasher>(
 where
     E::Key: Eq + Hash + Drop,
     E::Value: Drop,
+    requires { E.allows key value }
     ensures made { IsTrue result → InsertsMissing E.lookups E.Key.eq owned.old key value owned.new }
     ensures left { result ≡ false → InsertsNothing E.lookups E.Key.eq E.taking
         ⟦<Shared<H> as Hashes<E::Key>>⟧.hash_of E.key_of owned.old key owned.new }

@@ -1,4 +1,5 @@
 //! Calls on a whole container: clearing, comparing, cloning. They look at the stripes one after another.
+ghost use Rattle.scc_rules.specs.Rules.{ClonesKeep};
 ghost use Rattle.std.specs.Prelude.{◌≡◌, ◌<◌, IfOk};
 ghost use Rattle.scc_stripes.specs.Stripes.{stripe_count};
 ghost use Rattle.scc_shared.specs.Stripes.{hasher_of};
@@ -95,9 +96,10 @@ where
 {
     /// Returns a container with clones of the pairs that each stripe holds when it is looked at, under the same hasher.
     /// It asks for the capacity of this container. One stripe of this container is locked at a time, for reading. The
-    /// new stripes get their locks after the last clone. Fails if memory is refused, if a clone fails, or if two clones
+    /// new stripes get their locks after the last clone. Under a rule, a clone of a pair must keep it. Fails if memory is refused, if a clone fails, or if two clones
     /// have equal keys.
     pub fn try_clone(&self, rt: &impl Wait) -> Result<Self, MakeError>
+        requires { ClonesKeep E.allows E.Key.is_clone E.Value.is_clone }
         ensures hasher { IfOk result (λ m. hasher_of m ≡ hasher_of self.now) }
     {
         let mut made = Unlocked::alike(self.alloc, self, self.capacity(rt))?;

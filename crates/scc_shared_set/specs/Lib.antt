@@ -1,3 +1,4 @@
 pub mod Answers
+pub mod KeyRules
 pub mod SetEntries
 pub mod Stripes

@@ -91,4 +91,9 @@ impl<K: Eq + Hash, H: BuildHasher> HashSet<K, H> {
             None => None,
         }
     }
+
+    /// Returns whether the stripe of `k` has an array in which the bucket of `k` holds fewer than 32 keys.
+    pub fn has_room(&self, rt: &impl Wait, k: &K) -> bool {
+        self.map.has_room(rt, k)
+    }
 }

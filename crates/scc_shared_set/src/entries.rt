@@ -13,7 +13,7 @@ use std::sync::Wait;
 /// A stored key, at the entry of the map that stands at this key.
 #[derive(Drop)]
 pub struct HeldKey<E> {
-    entry: E,
+    pub(crate) entry: E,
 }
 
 /// A stored key whose stripe is locked.

@@ -1,4 +1,5 @@
-//! A hash set that threads share, over the hash map that threads share.
+//! A hash set that threads share, over the hash map that threads share. What a set and a set under a rule of its keys have
+//! in common is generic in the entry of the map.
 #![tactic(auto)]
 
 ghost use Rattle.scc_shared_set.specs.Stripes.{hasher_of, stripes_of};
@@ -8,13 +9,15 @@ ghost use Rattle.std.specs.Prelude.{◌≡◌, IfOk};
 
 mod calls;
 mod entries;
+pub mod ruled;
 mod sizes;
 mod walks;
 mod whole;
 
 pub use entries::{HeldKey, OccupiedEntry};
-use scc_common::MakeError;
-use scc_shared::map::HashMap;
+pub use ruled::RuledSet;
+use scc_common::{Keyed, MakeError};
+use scc_shared::HashContainer;
 use std::alloc::Global;
 use std::hash::{BuildHasher, BuildHasherDefault, FoldHasher, Hash};
 
@@ -27,20 +30,30 @@ pub type Reserve<'h, K, H = BuildHasherDefault<FoldHasher>> = scc_shared::map::R
 >;
 
 /// A set of keys that threads share by reference. It is a map with unit values: each of its stripes is an owned map
-/// behind a lock, and a call takes the lock of the stripe of its key.
+/// behind a lock, and a call takes the lock of the stripe of its key. `E` is the entry of that map: a pair, or a pair that
+/// keeps a rule.
 ///
 /// A thread that holds an entry and makes a call on the stripe of that entry waits for itself forever.
 #[derive(Drop)]
-pub struct HashSet<K: Eq + Hash, H: BuildHasher = BuildHasherDefault<FoldHasher>> {
-    map: HashMap<K, (), H>,
+pub struct KeySet<E: Keyed, H: BuildHasher = BuildHasherDefault<FoldHasher>>
+where
+    E::Key: Eq + Hash,
+{
+    pub(crate) map: HashContainer<E, H>,
 }
 
-impl<K: Eq + Hash + Drop> HashSet<K> {
+/// A set of keys that threads share by reference.
+pub type HashSet<K, H = BuildHasherDefault<FoldHasher>> = KeySet<(K, ()), H>;
+
+impl<E: Keyed + Drop> KeySet<E>
+where
+    E::Key: Eq + Hash,
+{
     /// Returns an empty set of 16 stripes without arrays. Fails if memory is refused.
     pub fn new(alloc: Global) -> Result<Self, MakeError>
         ensures stripes { IfOk result (λ s. IsBitsAsked 0 1024 (stripe_bits (stripes_of s))) }
     {
-        HashSet::with_hasher(alloc, BuildHasherDefault::new())
+        KeySet::with_hasher(alloc, BuildHasherDefault::new())
     }
 
     /// Returns an empty set with at least `capacity` slots in all stripes together, as `with_capacity_and_hasher`
@@ -48,18 +61,21 @@ impl<K: Eq + Hash + Drop> HashSet<K> {
     pub fn with_capacity(alloc: Global, capacity: usize) -> Result<Self, MakeError>
         ensures stripes { IfOk result (λ s. IsBitsAsked capacity 1024 (stripe_bits (stripes_of s))) }
     {
-        HashSet::with_capacity_and_hasher(alloc, capacity, BuildHasherDefault::new())
+        KeySet::with_capacity_and_hasher(alloc, capacity, BuildHasherDefault::new())
     }
 }
 
-impl<K: Eq + Hash + Drop, H: BuildHasher + Drop> HashSet<K, H> {
+impl<E: Keyed + Drop, H: BuildHasher + Drop> KeySet<E, H>
+where
+    E::Key: Eq + Hash,
+{
     /// Returns an empty set of 16 stripes without arrays. Fails if memory is refused.
     pub fn with_hasher(alloc: Global, hasher: H) -> Result<Self, MakeError>
         ensures stripes { IfOk result (λ s. IsBitsAsked 0 1024 (stripe_bits (stripes_of s))) }
         ensures hasher { IfOk result (λ s. hasher_of s ≡ hasher) }
     {
-        match HashMap::with_hasher(alloc, hasher) {
-            Ok(map) => Ok(HashSet { map }),
+        match HashContainer::with_hasher(alloc, hasher) {
+            Ok(map) => Ok(KeySet { map }),
             Err(e) => Err(e),
         }
     }
@@ -75,8 +91,8 @@ impl<K: Eq + Hash + Drop, H: BuildHasher + Drop> HashSet<K, H> {
         ensures stripes { IfOk result (λ s. IsBitsAsked capacity 1024 (stripe_bits (stripes_of s))) }
         ensures hasher { IfOk result (λ s. hasher_of s ≡ hasher) }
     {
-        match HashMap::with_capacity_and_hasher(alloc, capacity, hasher) {
-            Ok(map) => Ok(HashSet { map }),
+        match HashContainer::with_capacity_and_hasher(alloc, capacity, hasher) {
+            Ok(map) => Ok(KeySet { map }),
             Err(e) => Err(e),
         }
     }

@@ -5,12 +5,17 @@ ghost use Rattle.scc_stripes.specs.Stripes.{stripe_count};
 ghost use Rattle.scc_shared_set.specs.Stripes.{hasher_of, stripes_of};
 ghost use Rattle.scc_shared.specs.Reserves.{reserved_slots};
 
-use super::{HashSet, Reserve};
+use super::KeySet;
+use scc_common::Keyed;
+use scc_shared::Reserve;
 use std::hash::{BuildHasher, Hash};
 use std::ops::RangeInclusive;
 use std::sync::Wait;
 
-impl<K: Eq + Hash, H: BuildHasher> HashSet<K, H> {
+impl<E: Keyed, H: BuildHasher> KeySet<E, H>
+where
+    E::Key: Eq + Hash,
+{
     /// Returns the number of keys, at most `usize::MAX`. Takes time proportional to the number of stripes.
     pub fn len(&self, rt: &impl Wait) -> usize {
         self.map.len(rt)
@@ -35,27 +40,22 @@ impl<K: Eq + Hash, H: BuildHasher> HashSet<K, H> {
     }
 
     /// Returns the number of the stripe of `k`.
-    pub fn stripe_of(&self, k: &K) -> usize
-        ensures { result ≡ stripe_of H.BuildHasher H.Hasher.Hasher K.hash_input (hasher_of self.now)
+    pub fn stripe_of(&self, k: &E::Key) -> usize
+        ensures { result ≡ stripe_of H.BuildHasher H.Hasher.Hasher E.Key.hash_input (hasher_of self.now)
             (stripe_count (stripes_of self.now)) k.now }
     {
         self.map.stripe_of(k)
     }
 
     /// Returns the number of the bucket of `k` in its stripe, or 0 if the stripe has no array.
-    pub fn bucket_index(&self, rt: &impl Wait, k: &K) -> usize {
+    pub fn bucket_index(&self, rt: &impl Wait, k: &E::Key) -> usize {
         self.map.bucket_index(rt, k)
-    }
-
-    /// Returns whether the stripe of `k` has an array in which the bucket of `k` holds fewer than 32 keys.
-    pub fn has_room(&self, rt: &impl Wait, k: &K) -> bool {
-        self.map.has_room(rt, k)
     }
 
     /// Raises the minimum by `additional` slots until the returned reservation is dropped. Returns `None` if
     /// `additional` is 0 or if the minimum would pass the greatest capacity. An array with fewer slots than its share
     /// of the minimum grows, unless memory is refused; the reservation is returned either way.
-    pub fn reserve(&self, rt: &impl Wait, additional: usize) -> Option<Reserve<'_, K, H>>
+    pub fn reserve(&self, rt: &impl Wait, additional: usize) -> Option<Reserve<'_, E, H>>
         ensures { IfSome result (λ r. (reserved_slots r ≡ additional) × (0 < additional) × (additional ≤ 2 ^ 63)) }
     {
         self.map.reserve(rt, additional)

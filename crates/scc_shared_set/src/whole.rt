@@ -1,17 +1,23 @@
 //! Calls on a whole set: comparing, cloning, making a set of items. They look at the stripes one after another.
 ghost use Rattle.std.specs.Prelude.{◌≡◌, List, length, IfOk};
 ghost use Rattle.std.specs.Iterator.{Drains, IsFinite};
+ghost use Rattle.scc_rules.specs.Rules.{ClonesKeep};
 ghost use Rattle.scc_stripes.specs.Sizes.{IsBitsAsked};
 ghost use Rattle.scc_stripes.specs.Stripes.{stripe_bits};
 ghost use Rattle.scc_shared_set.specs.Stripes.{hasher_of, stripes_of};
 
-use super::HashSet;
+use super::{HashSet, KeySet};
 use scc_common::{KeyError, MakeError};
+use scc_shared::Paired;
 use std::alloc::Global;
 use std::hash::{BuildHasher, Hash};
 use std::sync::Wait;
 
-impl<K: Eq + Hash, H: BuildHasher> HashSet<K, H> {
+impl<E: Paired, H: BuildHasher> KeySet<E, H>
+where
+    E::Key: Eq + Hash,
+    E::Value: PartialEq,
+{
     /// Returns whether each key of either set has an equal key in the other set. Each stripe is looked at as it is at
     /// that moment. One stripe of each set is locked at a time, for reading. A set may be compared with itself.
     pub fn eq_sync(&self, rt: &impl Wait, other: &Self) -> bool {
@@ -19,15 +25,21 @@ impl<K: Eq + Hash, H: BuildHasher> HashSet<K, H> {
     }
 }
 
-impl<K: Eq + Hash + Clone + Drop, H: BuildHasher + Drop> HashSet<K, H> {
+impl<E: Paired + Drop, H: BuildHasher + Drop> KeySet<E, H>
+where
+    E::Key: Eq + Hash + Clone + Drop,
+    E::Value: Clone + Drop,
+{
     /// Returns a set with clones of the keys that each stripe holds when it is looked at, under the same hasher. It
     /// asks for the capacity of this set. One stripe of this set is locked at a time, for reading. The new stripes get
-    /// their locks after the last clone. Fails if memory is refused, if a clone fails, or if two clones are equal.
+    /// their locks after the last clone. Under a rule, a clone of a key must keep it. Fails if memory is refused, if a
+    /// clone fails, or if two clones are equal.
     pub fn try_clone(&self, rt: &impl Wait) -> Result<Self, MakeError>
+        requires { ClonesKeep E.allows E.Key.is_clone E.Value.is_clone }
         ensures hasher { IfOk result (λ s. hasher_of s ≡ hasher_of self.now) }
     {
         match self.map.try_clone(rt) {
-            Ok(map) => Ok(HashSet { map }),
+            Ok(map) => Ok(KeySet { map }),
             Err(e) => Err(e),
         }
     }

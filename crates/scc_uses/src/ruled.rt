@@ -2,7 +2,8 @@
 ghost use Rattle.std.specs.Prelude.{◌≡◌, ◌≤◌, ◌<◌, ◌*◌, ◌^◌, IfSome};
 
 use scc_common::Verdict;
-use scc_ruled_map::{Entry, RuledMap};
+use scc_owned::ruled_map::locked::Entry;
+use scc_shared::ruled_map::RuledMap;
 use scc_rules::Rule;
 use std::hash::{BuildHasher, Hash};
 use std::sync::Wait;

@@ -3,7 +3,8 @@ ghost use Rattle.std.specs.Arc.{arc_value};
 ghost use Rattle.std.specs.Prelude.{◌≡◌, ◌≤◌, IfErr, IfOk, IfSome, IsTrue};
 
 use scc_common::{MakeError, Version};
-use scc_ruled_index::{Entry, RuledIndex};
+use scc_owned::ruled_index::locked::Entry;
+use scc_shared::ruled_index::RuledIndex;
 use scc_rules::Rule;
 use std::sync::{Arc, Wait};
 

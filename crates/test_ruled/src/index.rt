@@ -2,7 +2,8 @@
 // version that a thread keeps stays what it is.
 use crate::expect::{expect, expect_eq};
 use scc_common::MakeError;
-use scc_ruled_index::{Entry, RuledIndex};
+use scc_owned::ruled_index::locked::Entry;
+use scc_shared::ruled_index::RuledIndex;
 use scc_rules::Anything;
 use scc_uses::ruled_index::{
     Ways, hops_for_neighbours, lead_there, offer, shorten, way_to, withdraw,

@@ -2,7 +2,8 @@
 // is occupied, and no other version of the stripe changes. A clone of a snapshot goes on where the snapshot is.
 use crate::expect::{expect, expect_eq};
 use scc_common::InsertError;
-use scc_ruled_index::{Entry, OccupiedEntry, RuledIndex};
+use scc_owned::ruled_index::locked::{Entry, OccupiedEntry};
+use scc_shared::ruled_index::RuledIndex;
 use scc_rules::Anything;
 use std::process::Abort;
 use std::sync::Wait;

@@ -2,7 +2,8 @@
 // share such a map find what it says.
 use crate::expect::{expect, expect_eq};
 use scc_common::MakeError;
-use scc_ruled_map::{Entry, RuledMap};
+use scc_owned::ruled_map::locked::Entry;
+use scc_shared::ruled_map::RuledMap;
 use scc_rules::Anything;
 use scc_uses::ruled::{
     Squares, TokenSessions, are_short, opened, renewed, square_of, sweep_sessions,

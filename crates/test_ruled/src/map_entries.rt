@@ -2,7 +2,8 @@
 // occupied, and no other pair of the stripe changes.
 use crate::expect::{expect, expect_eq};
 use scc_common::InsertError;
-use scc_ruled_map::{Entry, OccupiedEntry, RuledMap};
+use scc_owned::ruled_map::locked::{Entry, OccupiedEntry};
+use scc_shared::ruled_map::RuledMap;
 use scc_rules::Anything;
 use std::process::Abort;
 use std::sync::Wait;

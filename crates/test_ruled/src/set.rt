@@ -2,7 +2,7 @@
 // such a set.
 use crate::expect::{expect, expect_eq};
 use scc_common::Verdict;
-use scc_ruled_set::RuledSet;
+use scc_shared_set::RuledSet;
 use scc_rules::Anything;
 use scc_uses::ruled_set::{Evens, half_of, insert_double, take_first_half, take_half};
 use std::process::Abort;

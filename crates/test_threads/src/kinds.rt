@@ -26,11 +26,11 @@ pub type Index = HashIndex<u64, u64, Masked>;
 
 pub type Cache = HashCache<u64, u64, Masked>;
 
-pub type RuledMap = scc_ruled_map::RuledMap<u64, u64, Anything, Masked>;
+pub type RuledMap = scc_shared::ruled_map::RuledMap<u64, u64, Anything, Masked>;
 
-pub type RuledSet = scc_ruled_set::RuledSet<u64, Anything, Masked>;
+pub type RuledSet = scc_shared_set::RuledSet<u64, Anything, Masked>;
 
-pub type RuledIndex = scc_ruled_index::RuledIndex<u64, u64, Anything, Masked>;
+pub type RuledIndex = scc_shared::ruled_index::RuledIndex<u64, u64, Anything, Masked>;
 
 pub type RuledCache = scc_ruled_cache::RuledCache<u64, u64, Anything, Masked>;
 

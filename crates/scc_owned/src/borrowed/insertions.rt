@@ -8,13 +8,13 @@ ghost use Rattle.std.specs.Prelude.{◌≡◌, Ok, Err};
 
 use crate::borrowed::{Entry, OccupiedEntry, VacantEntry};
 use crate::held::{HeldEntry, HeldOccupied, HeldVacant};
-use crate::stored::Stored;
+use crate::stored::Unruled;
 use scc_common::{Hashes, InsertError, TryInsertError};
 use std::alloc::Global;
 use std::default::MadeWith;
 use std::hash::{BuildHasher, Hash};
 
-impl<'a, E: Stored, H: BuildHasher> Entry<'a, E, H>
+impl<'a, E: Unruled, H: BuildHasher> Entry<'a, E, H>
 where
     E::Key: Eq + Hash,
 {
@@ -171,7 +171,7 @@ where
     }
 }
 
-impl<'a, E: Stored, H: BuildHasher> VacantEntry<'a, E, H>
+impl<'a, E: Unruled, H: BuildHasher> VacantEntry<'a, E, H>
 where
     E::Key: Eq + Hash,
 {

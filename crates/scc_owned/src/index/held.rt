@@ -16,13 +16,6 @@ impl<G: Guard<Inner = Index<K, V, H>>, N, K: Eq + Hash, V, H: BuildHasher> HeldO
     SharedVersion<K, V>,
     H,
 > {
-    /// Returns the value.
-    pub fn get(&self) -> &V
-        ensures { result.now ≡ (occupied_pair self.now).1 }
-    {
-        self.guard.look().entry_at(self.place).version().value()
-    }
-
     /// Puts a new version of `value` and a clone of the key in the place of the stored version, which its holders
     /// keep. If memory is refused, the clone fails or the clone differs from the key, `value` comes back and nothing
     /// changes.

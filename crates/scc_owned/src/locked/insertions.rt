@@ -1,4 +1,5 @@
-//! The insertions through an entry of a locked stripe, alike for maps and indexes. `or_insert`, `or_insert_with` and `or_default` call
+//! The insertions through an entry of a locked stripe, alike for maps and indexes. A value has to be one that the entry
+//! allows under its key; pairs and versions that keep no rule allow every value. `or_insert`, `or_insert_with` and `or_default` call
 //! `or_insert_with_key`, `or_try_insert_with` calls `or_try_insert_with_key`.
 ghost use Rattle.scc_owned.specs.Held.{entry_guard, entry_key, vacant_guard, vacant_key};
 ghost use Rattle.scc_owned.specs.Insertions.{InsertsAtVacant, InsertsThrough, IsVacant, OrInserts, OrInsertsSome, Refuses, RefusesSome, TriesThrough, rests_if_refused, rests_if_tried};
@@ -25,6 +26,7 @@ where
     ) -> Result<OccupiedEntry<'a, E, H>, InsertError<E::Key, E::Value>>
     where
         E::Value: Drop,
+        requires { IsVacant self → E.allows (entry_key self) default }
         ensures { InsertsThrough E.lookups.made E.Key.eq ⟦<H as Hashes<E::Key>>⟧.hash_of E.taking self.entry
             (OrInserts E.lookups.made self.entry default) (Refuses self.entry default) result }
     {
@@ -41,7 +43,8 @@ where
         self,
         f: F,
     ) -> Result<OccupiedEntry<'a, E, H>, InsertError<E::Key, E::Value>>
-        requires { IsVacant self → F.pre f }
+        requires callable { IsVacant self → F.pre f }
+        requires keeps { IsVacant self → (v : E.Value) → F.post f v → E.allows (entry_key self) v }
         ensures { InsertsThrough E.lookups.made E.Key.eq ⟦<H as Hashes<E::Key>>⟧.hash_of E.taking self.entry
             (OrInsertsSome E.lookups.made self.entry (λ k v. F.post f v)) (RefusesSome self.entry (λ k v. F.post f v)) result }
     {
@@ -59,7 +62,9 @@ where
         self,
         f: F,
     ) -> Result<OccupiedEntry<'a, E, H>, InsertError<E::Key, E::Value>>
-        requires { IsVacant self → FnOnceTakesAt F.FnOnce f (entry_key self) }
+        requires callable { IsVacant self → FnOnceTakesAt F.FnOnce f (entry_key self) }
+        requires keeps { IsVacant self → (v : E.Value) → FnOnceReturnsAt F.FnOnce f (entry_key self) v
+            → E.allows (entry_key self) v }
         ensures { InsertsThrough E.lookups.made E.Key.eq ⟦<H as Hashes<E::Key>>⟧.hash_of E.taking self.entry
             (OrInsertsSome E.lookups.made self.entry (FnOnceReturnsAt F.FnOnce f))
             (RefusesSome self.entry (FnOnceReturnsAt F.FnOnce f)) result }
@@ -89,7 +94,8 @@ where
     ) -> Result<OccupiedEntry<'a, E, H>, TryInsertError<E::Key, E::Value, X>>
     where
         E::Key: Drop,
-        requires { IsVacant self → F.pre f }
+        requires callable { IsVacant self → F.pre f }
+        requires keeps { IsVacant self → (v : E.Value) → F.post f (Ok v) → E.allows (entry_key self) v }
         ensures { TriesThrough E.lookups.made E.Key.eq ⟦<H as Hashes<E::Key>>⟧.hash_of E.taking self.entry (λ k v. F.post f (Ok v))
             (λ k x. F.post f (Err x)) result }
     {
@@ -109,7 +115,9 @@ where
     ) -> Result<OccupiedEntry<'a, E, H>, TryInsertError<E::Key, E::Value, X>>
     where
         E::Key: Drop,
-        requires { IsVacant self → FnOnceTakesAt F.FnOnce f (entry_key self) }
+        requires callable { IsVacant self → FnOnceTakesAt F.FnOnce f (entry_key self) }
+        requires keeps { IsVacant self → (v : E.Value) → FnOnceReturnsAt F.FnOnce f (entry_key self) (Ok v)
+            → E.allows (entry_key self) v }
         ensures { TriesThrough E.lookups.made E.Key.eq ⟦<H as Hashes<E::Key>>⟧.hash_of E.taking self.entry
             (λ k v. FnOnceReturnsAt F.FnOnce f k (Ok v)) (λ k x. FnOnceReturnsAt F.FnOnce f k (Err x)) result }
     {
@@ -146,6 +154,7 @@ where
     pub fn or_default(self) -> Result<OccupiedEntry<'a, E, H>, InsertError<E::Key, E::Value>>
     where
         E::Value: MadeWith<Global>,
+        requires { IsVacant self → (v : E.Value) → E.Value.is_made_with v → E.allows (entry_key self) v }
         ensures { InsertsThrough E.lookups.made E.Key.eq ⟦<H as Hashes<E::Key>>⟧.hash_of E.taking self.entry
             (OrInsertsSome E.lookups.made self.entry (λ k v. E.Value.is_made_with v))
             (RefusesSome self.entry (λ k v. E.Value.is_made_with v)) result }
@@ -169,6 +178,7 @@ where
         self,
         value: E::Value,
     ) -> Result<OccupiedEntry<'a, E, H>, InsertError<E::Key, E::Value>>
+        requires { E.allows (vacant_key self) value }
         ensures { InsertsAtVacant E.lookups.made E.Key.eq ⟦<H as Hashes<E::Key>>⟧.hash_of E.taking self.entry value result }
     {
         let HeldVacant {

@@ -3,17 +3,17 @@
 ghost use Rattle.scc_common.specs.Contents.{entries, IsUniqueBy};
 ghost use Rattle.scc_owned.specs.EntrySteps.{StandsIn};
 ghost use Rattle.scc_owned.specs.Held.{entry_guard, occupied_contents, occupied_front, occupied_guard};
-ghost use Rattle.scc_owned.specs.Lookups.{IsEntryOf, IsOccupiedAt};
+ghost use Rattle.scc_owned.specs.Lookups.{AllowsEntry, IsAllowed, IsAllowedAt, IsEntryOf, IsOccupiedAt};
 ghost use Rattle.scc_owned.specs.Seats.{entry_rest, occupied_rest};
 ghost use Rattle.std.specs.Prelude.{◌≡◌, [], None, IfOk, IfErr, IfSome, IfNone};
 
 use crate::Owned;
 use crate::held::{HeldEntry, HeldOccupied, HeldVacant};
 use crate::stored::Stored;
-use scc_common::{Guard, Keyed};
+use scc_common::Guard;
 use std::hash::{BuildHasher, Hash};
 
-impl<G: Guard<Inner = Owned<E, H>>, N, E: Keyed, H: BuildHasher> HeldOccupied<G, N, E, H>
+impl<G: Guard<Inner = Owned<E, H>>, N, E: Stored, H: BuildHasher> HeldOccupied<G, N, E, H>
 where
     E::Key: Eq + Hash,
 {
@@ -24,11 +24,12 @@ where
         ensures guard { IfOk result (λ o. occupied_guard o ≡ guard) }
         ensures rest { IfOk result (λ o. occupied_rest o ≡ rest) }
         ensures first { IfOk result (λ o. StandsIn (G.inner guard) o × (occupied_front o ≡ [])) }
+        ensures allowed { IfOk result (IsAllowed E.value_of E.allows) }
         ensures empty { IfErr result (λ n. (n ≡ rest) × (entries (G.inner guard) ≡ [])) }
         ensures unique { IsUniqueBy E.Key.eq E.key_of (G.inner guard) }
     {
         match guard.look().first_place() {
-            Some(place) => Ok(HeldOccupied::at(guard, place, rest)),
+            Some(place) => Ok(HeldOccupied::read_at(guard, place, rest)),
             None => Err(rest),
         }
     }
@@ -46,11 +47,12 @@ where
         ensures guard { entry_guard result ≡ guard }
         ensures rest { entry_rest result ≡ rest }
         ensures entry { IsEntryOf E.lookups E.Key.eq (G.inner (entry_guard result)) k result }
+        ensures allowed { AllowsEntry E.value_of E.allows k result }
         ensures unique { IsUniqueBy E.Key.eq E.key_of (G.inner guard) }
     {
         let hash = guard.look().hash_of(&k);
         match guard.look().search(hash, &k) {
-            Some(place) => HeldEntry::Occupied(HeldOccupied::at(guard, place, rest)),
+            Some(place) => HeldEntry::Occupied(HeldOccupied::read_at(guard, place, rest)),
             None => HeldEntry::Vacant(HeldVacant::of_key(guard, k, hash, rest)),
         }
     }
@@ -69,12 +71,13 @@ where
         ensures guard { IfSome result (λ o. occupied_guard o ≡ guard) }
         ensures rest { IfSome result (λ o. occupied_rest o ≡ rest) }
         ensures entry { IfSome result (λ o. IsOccupiedAt E.lookups E.Key.eq (occupied_contents o) k.now o) }
+        ensures allowed { IfSome result (IsAllowedAt E.value_of E.allows k.now) }
         ensures missing { IfNone result (E.lookups.find (E.Key.eq k.now) (entries (G.inner guard)) ≡ None) }
         ensures unique { IsUniqueBy E.Key.eq E.key_of (G.inner guard) }
     {
         let hash = guard.look().hash_of(k);
         match guard.look().search(hash, k) {
-            Some(place) => Some(HeldOccupied::at(guard, place, rest)),
+            Some(place) => Some(HeldOccupied::read_at(guard, place, rest)),
             None => None,
         }
     }

@@ -17,13 +17,6 @@ impl<G: Guard<Inner = Map<K, V, H>>, N, K: Eq + Hash, V, H: BuildHasher> HeldOcc
     (K, V),
     H,
 > {
-    /// Returns the value.
-    pub fn get(&self) -> &V
-        ensures { result.now ≡ (occupied_pair self.now).1 }
-    {
-        &self.guard.look().entry_at(self.place).1
-    }
-
     /// Returns the value, to write.
     pub fn get_mut(&mut self) -> &mut V
         ensures* writes_back { sem 𝓛 (occupied_lends G.row N.row K.row V.row H.row H.Hasher.row self.entry result) }

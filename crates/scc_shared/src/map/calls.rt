@@ -13,7 +13,6 @@ ghost use Rattle.scc_stripes.specs.Seats.{IsSeatOfKey};
 
 use crate::map::HashMap;
 use scc_common::InsertError;
-use scc_owned::map::HeldReplace;
 use scc_owned::map::locked::ReplaceResult;
 use std::hash::{BuildHasher, Hash};
 use std::sync::Wait;
@@ -118,7 +117,7 @@ impl<K: Eq + Hash, V, H: BuildHasher> HashMap<K, V, H> {
     {
         let stripe = self.stripes.route(&k);
         let (guard, seat) = self.stripes.hold_to_insert(rt, stripe);
-        HeldReplace::of(guard, k, seat)
+        ReplaceResult::of(guard, k, seat)
     }
 
     /// Returns whether the stripe of `k` has an array in which the bucket of `k` holds fewer than 32 pairs.

@@ -26,3 +26,6 @@ returns-in-Vacant g c =
       relocates = (rw c.in-Vacant.is (both-ok _ _ c.insert_entry.result put.relocates put.two));
       unique = put.unique;
     }
+
+pub insert_entry-requires : goal.insert_entry-requires
+insert_entry-requires g c = let keeps = rw c.in-Vacant.is at c.requires.keeps in keeps tt c.f-value.result (_, c.f-value.ensures, c.key.ensures)

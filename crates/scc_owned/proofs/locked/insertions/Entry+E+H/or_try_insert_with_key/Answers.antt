@@ -29,3 +29,6 @@ returns-in-Ok g c =
 
 pub returns : goal.returns
 returns g c = fails-at (λ k e. FnOnceReturnsAt g.F.FnOnce c.args.f k (Err e)) c.args.self c.in-Vacant.entry c.in-Err.error c.in-Vacant.is (_, c.in-Err.ensures, refl)
+
+pub insert_into-requires-clause-allowed : goal.insert_into-requires-clause-allowed
+insert_into-requires-clause-allowed g c = let keeps = rw c.in-Vacant.is at c.requires.keeps in keeps tt c.in-Ok.value (_, c.in-Ok.ensures, refl)

@@ -1,0 +1,18 @@
+use Rattle.std.proofs.Common.{◌≡◌, true, refl, sym}
+use Rattle.scc_common.specs.Contents.{entries}
+use Rattle.scc_owned.proofs.RuledPairs.{found-key, under}
+use Rattle.scc_owned.proofs.ruled_index.calls.RuledIndex+K+V+R+H.read_by_hint.Goals as goal
+
+pub f-requires : goal.f-requires
+f-requires g c =
+    let k = c.args.k.now in
+    let equal = found-key g.K.PartialEq.eq (entries c.self.inside.table) k c.in-Some.entry.now (sym c.in-Some.ensures) in
+    let kept = rw c.version-version.ensures.same at c.version-version.ensures.kept in
+    c.requires _ _ (rw (c.key.ensures, c.version-version.ensures.same) equal) (rw (c.key.ensures, c.value.ensures, c.version-version.ensures.same) kept) (rw (c.value.ensures, c.version-version.ensures.same) (under g.K.PartialEq.eq g.R.Rule.holds g.met.R.Rule.alike g.met.K.Eq.laws.symm k _ _ equal kept))
+
+pub returns-in-Some : goal.returns-in-Some
+returns-in-Some g c =
+    let k = c.args.k.now in
+    let equal = found-key g.K.PartialEq.eq (entries c.self.inside.table) k c.in-Some.entry.now (sym c.in-Some.ensures) in
+    let kept = rw c.version-version.ensures.same at c.version-version.ensures.kept in
+    record { answer = ((c.key.result.now, c.value.result.now), rw (c.key.ensures, c.version-version.ensures.same) equal, rw (c.key.ensures, c.value.ensures, c.version-version.ensures.same) kept, rw (c.value.ensures, c.version-version.ensures.same) (under g.K.PartialEq.eq g.R.Rule.holds g.met.R.Rule.alike g.met.K.Eq.laws.symm k _ _ equal kept), record { key = _; value = _; shows = refl; met = c.f.ensures }) }

@@ -1,0 +1,16 @@
+use Rattle.scc_common.specs.Contents.{entries}
+use Rattle.scc_owned.proofs.RuledPairs.{found-key, under}
+use Rattle.scc_owned.proofs.RuledUpdates.{called-at, writes-kept}
+use Rattle.scc_owned.proofs.ruled_map.calls.RuledMap+K+V+R+H.update_sync.Goals as goal
+
+pub update-requires-clause-takes : goal.update-requires-clause-takes
+update-requires-clause-takes g c = λ e found allowed a b shows.
+    called-at g.K.PartialEq.eq g.R.Rule.holds g.met.R.Rule.alike g.met.K.Eq.laws.symm g.U.FnOnce c.args.u c.args.k.now c.requires.callable e (found-key g.K.PartialEq.eq (entries c.self.inside.table) c.args.k.now e found) allowed a b shows
+
+pub update-requires-clause-keeps : goal.update-requires-clause-keeps
+update-requires-clause-keeps g c = λ e r w found allowed gave.
+    let equal = found-key g.K.PartialEq.eq (entries c.self.inside.table) c.args.k.now e found in
+    g.met.R.Rule.alike c.args.k.now e.0 w equal (c.requires.keeps e r w equal allowed (under g.K.PartialEq.eq g.R.Rule.holds g.met.R.Rule.alike g.met.K.Eq.laws.symm c.args.k.now e.0 e.1 equal allowed) gave)
+
+pub returns : goal.returns
+returns g c = record { answer = writes-kept g.K.PartialEq.eq g.R.Rule.holds g.met.R.Rule.alike g.met.K.Eq.laws.symm g.U.FnOnce c.args.u c.args.k.now c.self.inside.table c.update.new.self c.update.result c.update.ensures.step c.update.ensures.allowed }

@@ -1,0 +1,17 @@
+use Rattle.std.proofs.Common.{◌≡◌, ◌-◌, ◌++◌, List, length, drop, IfSome}
+use Rattle.scc_common.specs.Contents.{entries}
+use Rattle.scc_common.specs.PairWalks.{CalledToWrite, Retains}
+use Rattle.scc_rules.specs.Rules.{AllKeep}
+use Rattle.scc_table.specs.Places.{IsPlace}
+use Rattle.scc_table.proofs.walks.Steps.{reached}
+use Rattle.scc_table.proofs.walks.Reach.{walk_spot}
+use Rattle.scc_owned.proofs.ruled_map.walk.RuledMap+K+V+R+H.retain_all.Given as goal
+
+abbrev pub invariant-loop-at : goal.invariant-loop-at
+invariant-loop-at g l = record {
+  within : IfSome l.at (IsPlace l.self);
+  seen : (es : List (g.row.K.Denot × g.row.V.Denot)) × (stay : List (g.row.K.Denot × g.row.V.Denot)) × (entries l.fn.self ≡ es ++ drop (reached l.self (walk_spot l.self l.at)) (entries l.self)) × AllKeep g.R.Rule.holds es × AllKeep g.R.Rule.holds stay × Retains (CalledToWrite g.F.FnMut) l.fn.f es stay l.f;
+}
+
+abbrev pub decreases-loop-at : goal.decreases-loop-at
+decreases-loop-at g l = length (entries l.self) - reached l.self (walk_spot l.self l.at)

@@ -1,4 +1,0 @@
-mod AtEntries
-mod KeptPairs
-mod KeptPlaces
-mod KeptWalks

@@ -1,4 +1,0 @@
-use Rattle.scc_ruled_index.proofs.entries.OccupiedEntry.remove_entry.Goals as goal
-
-pub remove_at-requires : goal.remove_at-requires
-remove_at-requires g c = rw c.deref_mut.ensures.value c.args.self.within

@@ -1,8 +1,0 @@
-use Rattle.scc_ruled_index.proofs.KeptPairs.{inserts-back, kept-inserted}
-use Rattle.scc_ruled_index.proofs.kept.Kept.insert_sync.Goals as goal
-
-pub invariant_of-self : goal.invariant_of-self
-invariant_of-self g c = kept-inserted g.K.PartialEq.eq g.R.Rule.holds g.met.R.Rule.alike g.met.K.Eq.laws.symm c.self.inside.index c.args.k c.args.v c.insert_sync.result c.insert_sync.new.self c.insert_sync.ensures.step c.requires c.self.invariant
-
-pub returns : goal.returns
-returns g c = record { back = inserts-back g.K.PartialEq.eq c.self.inside.index (c.args.k, c.args.v) c.insert_sync.result _ c.insert_sync.ensures.step }

@@ -1,4 +1,0 @@
-pub mod Entries
-pub mod Replies
-pub mod Reserves
-pub mod Stripes

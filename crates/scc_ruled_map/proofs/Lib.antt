@@ -1,3 +1,0 @@
-mod AtEntries
-mod KeptPairs
-mod KeptPlaces

@@ -1,6 +1,0 @@
-use Rattle.std.specs.Vec.Iter.{into_iter_items}
-use Rattle.scc_ruled_set.specs.KeyRules.{AllKeep}
-use Rattle.scc_ruled_set.proofs.RuledSet.try_from_iter.Given as goal
-
-abbrev pub invariant-loop-k : goal.invariant-loop-k
-invariant-loop-k g l = AllKeep g.R.Rule.holds (into_iter_items l.k-iterator)

@@ -1,3 +1,0 @@
-pub mod KeyRules
-pub mod SetEntries
-pub mod Stripes
