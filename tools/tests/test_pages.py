@@ -1,9 +1,11 @@
 """Which counts and which copied code on a page are wrong."""
+import tempfile
 import unittest
 
 import tools
 import costs as costs_of
 from costs import costs
+from page_names import Names
 from repository import graph
 
 pages = tools.tool("pages")
@@ -65,6 +67,29 @@ class Costs(unittest.TestCase):
     def test_a_chain_is_a_part_of_all_below(self):
         self.assertLessEqual(costs_of.chain_to("scc_map")[1], costs("scc_map")[1])
         self.assertGreaterEqual(costs_of.chain_to(None)[1], costs_of.chain_to("scc")[1])
+
+
+class OfNames(unittest.TestCase):
+    def setUp(self):
+        folder = tempfile.TemporaryDirectory(prefix="names-")
+        self.addCleanup(folder.cleanup)
+        tools.write(folder.name, {
+            "crates/low/src/lib.rt": "pub struct Table; // OnlySaid\n",
+            "crates/low/must-fail/wrong_body.edit": "",
+            "docs/RULES.md": "NotAWord\n",
+            "tools/measured_minutes.txt": "crate_gone 1.0\n",
+        })
+        self.names = Names(folder.name)
+
+    def test_what_is_there(self):
+        self.assertEqual(self.names.missing_on("`Table` of `crates/low/src/lib.rt`, `docs/RULES.md`, `low/wrong_body`, `docs/*.md`"), {})
+
+    def test_what_is_not_there(self):
+        text = "`docs/GATE.md`, `OnlySaid`, `NotAWord`, `low::no_function`, `crate_gone`\n\n```rust\nfn f(t: MissingType) {}\n```\n"
+        self.assertEqual(list(self.names.missing_on(text)), ["MissingType", "docs/GATE.md", "OnlySaid", "NotAWord", "no_function", "crate_gone"])
+
+    def test_code_alone_is_looked_at(self):
+        self.assertEqual(self.names.missing_on("MissingType, docs/GATE.md and others"), {})
 
 
 class Copied(unittest.TestCase):
