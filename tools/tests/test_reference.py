@@ -80,6 +80,13 @@ class OfEnums(unittest.TestCase):
         self.assertFalse(ruled.takes(of_index, True))
         self.assertTrue(ruled.takes(of_any, False))
 
+    def test_a_form_under_a_rule_that_has_no_crate_of_its_own(self):
+        page = reference.Page("cache", [], ["scc_shared_cache"])
+        page.read("Shared", ["impl<K, V, R: Rule<K, V>, H> HashCache<Ruled<K, V, R>, H> {", "    /// Tries.", "    pub fn try_sync(&self) -> bool {", "        true", "    }", "}"], True)
+        self.assertIn("### try_sync", reference.part_text(page, False))
+        self.assertEqual(page.order()[0], "RuledCache")
+        self.assertNotIn("len", page.functions["RuledCache"])
+
     def test_a_crate_that_is_not_listed(self):
         with self.assertRaises(SystemExit):
             reference.crates_of([reference.Part(["scc_nothing"], ("scc",))])
