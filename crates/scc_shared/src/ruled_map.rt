@@ -2,6 +2,7 @@
 //! rule, and what they hand out keeps it.
 
 mod calls;
+mod getting;
 mod make;
 mod walks;
 

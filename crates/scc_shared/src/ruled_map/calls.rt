@@ -1,6 +1,5 @@
 //! The calls on one key. A contract states what the arguments and the rule decide; the call does to the stripe what the
 //! owned call of its name does.
-ghost use Rattle.std.specs.Fn.{FnOnceReturnsAt, FnOnceTakesAt};
 ghost use Rattle.scc_common.specs.Contents.{Contents};
 ghost use Rattle.scc_common.specs.Pairs.{IsUnique};
 ghost use Rattle.scc_owned.specs.MapEntries.{replaced_guard, Replaces};
@@ -81,23 +80,6 @@ impl<K: Eq + Hash, V, R: Rule<K, V>, H: BuildHasher> RuledMap<K, V, R, H> {
             Some(()) => true,
             None => false,
         }
-    }
-
-    /// Returns the value of `k`. If no key equals `k`, calls `make` with `k`, inserts the pair, which must keep the
-    /// rule, and returns the value. The stripe of `k` is locked while `make` runs, so no two threads make a value for
-    /// the same key as long as the first stays. If memory is refused, the value is returned all the same.
-    pub fn get_or_insert_with<F: FnOnce(&K) -> V>(&self, rt: &impl Wait, k: K, make: F) -> V
-    where
-        K: Drop,
-        V: Copy,
-        requires callable { FnOnceTakesAt F.FnOnce make k }
-        requires keeps { (v : V) → FnOnceReturnsAt F.FnOnce make k v → R.holds k v }
-        ensures { R.holds k result }
-    {
-        let stripe = self.stripes.route(&k);
-        self.stripes
-            .write_to_insert(rt, stripe)
-            .get_or_insert_with(k, make)
     }
 
     /// Removes the pair of `k` if `f` returns true on its value, and returns the pair with what `f` wrote. If `f`

@@ -1,0 +1,2 @@
+//! The entries and reservations of a set under a rule.
+pub use scc_set::ruled::{HeldKey, OccupiedEntry, Reserve};
