@@ -1,0 +1,6 @@
+//! `Form` for the containers under a rule, and cases that are tried in every form.
+#![tactic(auto)]
+
+pub mod every;
+pub mod held;
+pub mod kinds;
