@@ -106,6 +106,15 @@ pub fn prepared(made: Result<(), MakeError>) -> Answer {
     }
 }
 
+/// Returns what a walk returns that adds pairs to a list: `Yes`, or `Refused` if the list had no room.
+pub fn walked(had_room: bool) -> Answer {
+    if had_room {
+        Answer::Yes(true)
+    } else {
+        Answer::Refused(None)
+    }
+}
+
 /// What the closure of a walk that may take pairs does.
 #[derive(Clone, Copy, Debug, PartialEq)]
 pub enum Rule {

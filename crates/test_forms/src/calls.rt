@@ -1,6 +1,6 @@
 //! The calls that tests draw at random, and how one is made on a container of any form.
 
-use crate::answers::{Answer, Kind, Rule};
+use crate::answers::{Answer, Kind, Rule, walked};
 use crate::form::{Act, At, Form, WAYS, Way};
 use crate::numbered::Seen;
 use crate::token::Token;
@@ -116,15 +116,6 @@ pub fn way_of(number: u64) -> Way {
             None => Way::Insert,
         },
         Err(_) => Way::Insert,
-    }
-}
-
-/// Returns what a walk returns that adds pairs to a list: `Yes`, or `Refused` if the list had no room.
-fn walked(had_room: bool) -> Answer {
-    if had_room {
-        Answer::Yes(true)
-    } else {
-        Answer::Refused(None)
     }
 }
 

@@ -8,8 +8,6 @@ mod index;
 mod map;
 mod set;
 
-use test_forms::answers::Answer;
-
 /// A shared container, and the runtime by which its calls wait.
 #[derive(Drop)]
 pub struct Held<'a, R, C> {
@@ -31,14 +29,5 @@ impl<'a, R, C> Held<'a, R, C> {
     /// Returns `shared` with its runtime. `is_one` says whether it has one stripe.
     pub fn of_stripes(rt: &'a R, shared: C, is_one: bool) -> Self {
         Held { rt, shared, is_one }
-    }
-}
-
-/// Returns what a walk returns that adds pairs to a list: `Yes`, or `Refused` if the list had no room.
-fn walked(had_room: bool) -> Answer {
-    if had_room {
-        Answer::Yes(true)
-    } else {
-        Answer::Refused(None)
     }
 }

@@ -12,7 +12,7 @@ use test_kit::refusals::{Refusal, TRIES};
 
 // Makes a clone of 34 keys in one bucket.
 #[derive(Drop)]
-struct Copying;
+pub(crate) struct Copying;
 
 impl Job for Copying {
     fn run<F: Form, R: AllocGlobal + Abort + Print + Wait>(
@@ -42,7 +42,7 @@ impl Job for Copying {
 
 // Takes a snapshot of three versions.
 #[derive(Drop)]
-struct Snapshot;
+pub(crate) struct Snapshot;
 
 impl Job for Snapshot {
     fn run<F: Form, R: AllocGlobal + Abort + Print + Wait>(
@@ -72,7 +72,11 @@ impl Job for Snapshot {
 }
 
 /// Does the job on each form.
-fn expect_job<J: Job, R: AllocGlobal + Abort + Print + Wait>(rt: &R, forms: &[Of], job: &J) {
+pub(crate) fn expect_job<J: Job, R: AllocGlobal + Abort + Print + Wait>(
+    rt: &R,
+    forms: &[Of],
+    job: &J,
+) {
     for of in forms {
         with(rt, &mut Refusal::new(), *of, 64, job);
     }

@@ -13,7 +13,7 @@ use test_forms::form::{Form, Way};
 use test_kit::refusals::{Refusal, TRIES};
 
 #[derive(Drop)]
-struct Crowd;
+pub(crate) struct Crowd;
 
 impl Job for Crowd {
     fn run<F: Form, R: AllocGlobal + Abort + Print + Wait>(

@@ -15,7 +15,7 @@ use test_kit::refusals::{Refusal, TRIES};
 
 // The state of a container before the insertion.
 #[derive(Clone, Copy, Debug, PartialEq)]
-enum State {
+pub(crate) enum State {
     // The container has no array. The insertion asks for one.
     Bare,
     // The container has 64 slots, half of them in use, and the key's bucket is full. The insertion asks for a growth,
@@ -188,10 +188,10 @@ fn expect_growth<F: Form, R: Abort + Print>(
 }
 
 // The ways that are tried if the keys before take much memory.
-const SOME: [Way; 4] = [Way::Insert, Way::Replace, Way::OrInsert, Way::Vacant];
+pub(crate) const SOME: [Way; 4] = [Way::Insert, Way::Replace, Way::OrInsert, Way::Vacant];
 
 /// Tries each of `ways` that the kind has.
-fn expect_insertions<R: AllocGlobal + Abort + Print + Wait>(
+pub(crate) fn expect_insertions<R: AllocGlobal + Abort + Print + Wait>(
     rt: &R,
     of: Of,
     state: State,
@@ -212,7 +212,7 @@ fn expect_insertions<R: AllocGlobal + Abort + Print + Wait>(
 
 // Two insertions whose closure fails, of a missing key and of a present one, around one that makes the value.
 #[derive(Drop)]
-struct Failing;
+pub(crate) struct Failing;
 
 impl Job for Failing {
     fn run<F: Form, R: AllocGlobal + Abort + Print + Wait>(

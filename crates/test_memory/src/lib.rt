@@ -1,6 +1,6 @@
-//! Tests of every call of the owned and the shared containers that can be refused memory. They hold whichever requests
-//! are refused: a refused call hands back what was supplied, leaves the container as it must, and is made again until
-//! it succeeds.
+//! Tests of every call of the owned and the shared containers, also under a rule, that can be refused memory. They hold
+//! whichever requests are refused: a refused call hands back what was supplied, leaves the container as it must, and is
+//! made again until it succeeds.
 #![tactic(auto)]
 
 #[cfg(test)]
@@ -29,6 +29,10 @@ mod removals;
 mod reservations;
 #[cfg(test)]
 mod rooms;
+#[cfg(test)]
+mod ruled;
+#[cfg(test)]
+mod ruled_makers;
 #[cfg(test)]
 mod shared_makers;
 #[cfg(test)]

@@ -1,5 +1,5 @@
 // The kinds and forms of container in which each case is tried. All keys have the hash 0, so they share a bucket.
-use crate::{meetings, owned_makers, shared_makers};
+use crate::{meetings, owned_makers, ruled_makers, shared_makers};
 use std::alloc::Global;
 use std::io::Print;
 use std::process::Abort;
@@ -20,9 +20,13 @@ pub(crate) enum Of {
     SharedSet,
     SharedIndex,
     SharedCache,
+    RuledMap,
+    RuledSet,
+    RuledIndex,
+    RuledCache,
 }
 
-/// Every kind in every form.
+/// Every kind in every form, but under a rule (`ruled.rt`).
 pub(crate) const EVERY: [Of; 8] = [
     Of::Map,
     Of::Set,
@@ -57,10 +61,10 @@ pub(crate) const NO_INDEXES: [Of; 6] = [
 impl Of {
     pub(crate) fn kind(self) -> Kind {
         match self {
-            Of::Map | Of::SharedMap => Kind::Map,
-            Of::Set | Of::SharedSet => Kind::Set,
-            Of::Index | Of::SharedIndex => Kind::Index,
-            Of::Cache | Of::SharedCache => Kind::Cache,
+            Of::Map | Of::SharedMap | Of::RuledMap => Kind::Map,
+            Of::Set | Of::SharedSet | Of::RuledSet => Kind::Set,
+            Of::Index | Of::SharedIndex | Of::RuledIndex => Kind::Index,
+            Of::Cache | Of::SharedCache | Of::RuledCache => Kind::Cache,
         }
     }
 
@@ -128,6 +132,10 @@ fn work<J: Job, R: AllocGlobal + Abort + Print + Wait>(
         Of::SharedSet => shared_makers::work_on_set(rt, refusal, slots, job),
         Of::SharedIndex => shared_makers::work_on_index(rt, refusal, slots, job),
         Of::SharedCache => shared_makers::work_on_cache(rt, refusal, slots, job),
+        Of::RuledMap => ruled_makers::work_on_map(rt, refusal, slots, job),
+        Of::RuledSet => ruled_makers::work_on_set(rt, refusal, slots, job),
+        Of::RuledIndex => ruled_makers::work_on_index(rt, refusal, slots, job),
+        Of::RuledCache => ruled_makers::work_on_cache(rt, refusal, slots, job),
     }
 }
 

@@ -66,7 +66,7 @@ impl Job for Collected {
     }
 }
 
-fn expect_made<R: AllocGlobal + Abort + Print + Wait>(rt: &R, of: Of) {
+pub(crate) fn expect_made<R: AllocGlobal + Abort + Print + Wait>(rt: &R, of: Of) {
     let mut refusal = Refusal::new();
     for (asked, capacity) in SIZES {
         with(rt, &mut refusal, of, asked, &Empty { capacity });

@@ -14,6 +14,10 @@ pub(crate) fn constructor<R: Print>(rt: &R, refusal: &mut Refusal, of: Of) {
         Of::SharedSet => refusal.meet(rt, "a constructor of a shared set"),
         Of::SharedIndex => refusal.meet(rt, "a constructor of a shared index"),
         Of::SharedCache => refusal.meet(rt, "a constructor of a shared cache"),
+        Of::RuledMap => refusal.meet(rt, "a constructor of a ruled map"),
+        Of::RuledSet => refusal.meet(rt, "a constructor of a ruled set"),
+        Of::RuledIndex => refusal.meet(rt, "a constructor of a ruled index"),
+        Of::RuledCache => refusal.meet(rt, "a constructor of a ruled cache"),
     }
 }
 
@@ -28,6 +32,10 @@ pub(crate) fn items<R: Print>(rt: &R, refusal: &mut Refusal, of: Of) {
         Of::SharedSet => refusal.meet(rt, "a shared set of items"),
         Of::SharedIndex => refusal.meet(rt, "a shared index of items"),
         Of::SharedCache => refusal.meet(rt, "a shared cache of items"),
+        Of::RuledMap => refusal.meet(rt, "a ruled map of items"),
+        Of::RuledSet => refusal.meet(rt, "a ruled set of items"),
+        Of::RuledIndex => refusal.meet(rt, "a ruled index of items"),
+        Of::RuledCache => refusal.meet(rt, "a ruled cache of items"),
     }
 }
 
@@ -42,6 +50,10 @@ pub(crate) fn insertion<R: Print>(rt: &R, refusal: &mut Refusal, of: Of) {
         Of::SharedSet => refusal.meet(rt, "an insertion into a shared set"),
         Of::SharedIndex => refusal.meet(rt, "an insertion into a shared index"),
         Of::SharedCache => refusal.meet(rt, "a put into a shared cache"),
+        Of::RuledMap => refusal.meet(rt, "an insertion into a ruled map"),
+        Of::RuledSet => refusal.meet(rt, "an insertion into a ruled set"),
+        Of::RuledIndex => refusal.meet(rt, "an insertion into a ruled index"),
+        Of::RuledCache => refusal.meet(rt, "a put into a ruled cache"),
     }
 }
 
@@ -56,6 +68,10 @@ pub(crate) fn growth<R: Print>(rt: &R, refusal: &mut Refusal, of: Of) {
         Of::SharedSet => refusal.meet(rt, "a growth of a shared set"),
         Of::SharedIndex => refusal.meet(rt, "a growth of a shared index"),
         Of::SharedCache => refusal.meet(rt, "a growth of a shared cache"),
+        Of::RuledMap => refusal.meet(rt, "a growth of a ruled map"),
+        Of::RuledSet => refusal.meet(rt, "a growth of a ruled set"),
+        Of::RuledIndex => refusal.meet(rt, "a growth of a ruled index"),
+        Of::RuledCache => refusal.meet(rt, "a growth of a ruled cache"),
     }
 }
 
@@ -81,6 +97,10 @@ pub(crate) fn shrink<R: Print>(rt: &R, refusal: &mut Refusal, of: Of) {
         Of::SharedSet => refusal.meet(rt, "a shrink of a shared set"),
         Of::SharedIndex => refusal.meet(rt, "a shrink of a shared index"),
         Of::SharedCache => refusal.meet(rt, "a shrink of a shared cache"),
+        Of::RuledMap => refusal.meet(rt, "a shrink of a ruled map"),
+        Of::RuledSet => refusal.meet(rt, "a shrink of a ruled set"),
+        Of::RuledIndex => refusal.meet(rt, "a shrink of a ruled index"),
+        Of::RuledCache => refusal.meet(rt, "a shrink of a ruled cache"),
     }
 }
 
@@ -93,6 +113,9 @@ pub(crate) fn walk<R: Print>(rt: &R, refusal: &mut Refusal, of: Of) {
         Of::SharedMap => refusal.meet(rt, "a taking walk of a shared map"),
         Of::SharedSet => refusal.meet(rt, "a taking walk of a shared set"),
         Of::SharedCache => refusal.meet(rt, "a taking walk of a shared cache"),
+        Of::RuledMap => refusal.meet(rt, "a taking walk of a ruled map"),
+        Of::RuledSet => refusal.meet(rt, "a taking walk of a ruled set"),
+        Of::RuledCache => refusal.meet(rt, "a taking walk of a ruled cache"),
         _ => {}
     }
 }
@@ -106,6 +129,9 @@ pub(crate) fn reservation<R: Print>(rt: &R, refusal: &mut Refusal, of: Of) {
         Of::SharedMap => refusal.meet(rt, "a growth at a reservation of a shared map"),
         Of::SharedSet => refusal.meet(rt, "a growth at a reservation of a shared set"),
         Of::SharedIndex => refusal.meet(rt, "a growth at a reservation of a shared index"),
+        Of::RuledMap => refusal.meet(rt, "a growth at a reservation of a ruled map"),
+        Of::RuledSet => refusal.meet(rt, "a growth at a reservation of a ruled set"),
+        Of::RuledIndex => refusal.meet(rt, "a growth at a reservation of a ruled index"),
         _ => {}
     }
 }

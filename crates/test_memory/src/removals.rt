@@ -220,7 +220,7 @@ impl Job for Shrink {
 }
 
 /// Tries each removal that the kind has.
-fn expect_shrinks<R: AllocGlobal + Abort + Print + Wait>(rt: &R, of: Of) {
+pub(crate) fn expect_shrinks<R: AllocGlobal + Abort + Print + Wait>(rt: &R, of: Of) {
     let mut refusal = Refusal::new();
     for removal in REMOVALS {
         if removal.is_of(of.kind()) {

@@ -18,7 +18,7 @@ pub(crate) const GREATEST: usize = 9_223_372_036_854_775_808;
 
 // Reserves 64 slots beside three keys in 64 slots.
 #[derive(Drop)]
-struct Reservation;
+pub(crate) struct Reservation;
 
 impl Job for Reservation {
     fn run<F: Form, R: AllocGlobal + Abort + Print + Wait>(
@@ -47,7 +47,7 @@ impl Job for Reservation {
 // Reserves the greatest number of slots. The growth, for which no memory is enough, is refused in each run, and the
 // reservation is given all the same. A reservation of 0 slots is refused.
 #[derive(Drop)]
-struct Greatest;
+pub(crate) struct Greatest;
 
 impl Job for Greatest {
     fn run<F: Form, R: AllocGlobal + Abort + Print + Wait>(

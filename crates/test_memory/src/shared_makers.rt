@@ -83,7 +83,7 @@ pub(crate) fn work_on_set<J: Job, R: AllocGlobal + Abort + Print + Wait>(
     }
 }
 
-/// Makes a index until it isn't refused, and does the job with it.
+/// Makes an index until it isn't refused, and does the job with it.
 pub(crate) fn work_on_index<J: Job, R: AllocGlobal + Abort + Print + Wait>(
     rt: &R,
     refusal: &mut Refusal,

@@ -18,15 +18,15 @@ type Index = Owned<u64, u64, Zero>;
 
 // The two calls that set the value of a present key.
 #[derive(Clone, Copy, Debug, PartialEq)]
-enum Change {
+pub(crate) enum Change {
     Update,
     Modify,
 }
 
 // Sets the value of key 1 to 7 until the call isn't refused, each time through a new entry.
 #[derive(Drop)]
-struct Changing {
-    change: Change,
+pub(crate) struct Changing {
+    pub(crate) change: Change,
 }
 
 impl Job for Changing {

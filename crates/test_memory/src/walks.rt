@@ -38,7 +38,7 @@ fn expect_parted<F: Form, R: Abort>(rt: &R, form: &F, taken: &[Seen]) {
 }
 
 #[derive(Drop)]
-struct Taking;
+pub(crate) struct Taking;
 
 impl Job for Taking {
     fn run<F: Form, R: AllocGlobal + Abort + Print + Wait>(

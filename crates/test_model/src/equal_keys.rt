@@ -6,7 +6,8 @@ use test_forms::answers::{Answer, Kind};
 use test_forms::form::{Act, At, Form, Way};
 use test_forms::numbered::Seen;
 use test_forms::token::Token;
-use test_forms_shared::every::{Case, in_every_form};
+use test_forms_ruled::every::in_every_form;
+use test_forms_shared::every::Case;
 use test_kit::masked::{ALIKE, ZERO};
 
 /// Returns the number of keys: a full bucket of a cache, or more than a bucket of another kind has slots for.

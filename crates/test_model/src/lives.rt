@@ -8,7 +8,8 @@ use test_forms::answers::{Kind, Rule};
 use test_forms::calls::{What, make};
 use test_forms::form::{Act, At, Form, Way};
 use test_forms::token::{Book, Token};
-use test_forms_shared::every::{Case, in_every_form};
+use test_forms_ruled::every::in_every_form;
+use test_forms_shared::every::Case;
 use test_kit::lines::REFUSED;
 use test_kit::masked::{SAME, ZERO};
 

@@ -29,7 +29,7 @@ use std::process::ExitCode;
 use std::rt::Env;
 use std::sync::Wait;
 use stops::run_stops;
-use test_forms_shared::every::in_every_form;
+use test_forms_ruled::every::in_every_form;
 use test_kit::masked::{ALIKE, SAME, ZERO};
 use tokens::run_tokens;
 use twins::run_twins;

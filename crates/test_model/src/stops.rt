@@ -7,7 +7,8 @@ use test_forms::answers::{Answer, Kind, Rule};
 use test_forms::form::{Form, Way};
 use test_forms::numbered::Seen;
 use test_forms::token::Token;
-use test_forms_shared::every::{Case, in_every_form};
+use test_forms_ruled::every::in_every_form;
+use test_forms_shared::every::Case;
 use test_kit::masked::{SAME, ZERO};
 
 /// Returns a key. If keys are their own hashes, each of these keys has a stripe of its own, if there are several.

@@ -1,8 +1,9 @@
-//! A shared container of one stripe beside an owned container: both return the same from random calls, and then hold
-//! the same pairs.
+//! A shared container of one stripe, under a rule or none, beside an owned container: both return the same from random
+//! calls, and then hold the same pairs.
 
 use crate::draws::{Call, Draws};
 use crate::tally::Tally;
+use scc_rules::Anything;
 use scc_shared::index::HashIndex;
 use scc_shared::map::HashMap;
 use scc_shared_cache::HashCache;
@@ -14,6 +15,11 @@ use test_forms::form::Form;
 use test_forms::list::List;
 use test_forms::numbered::Seen;
 use test_forms::token::Token;
+use test_forms_ruled::held::Held as RuledHeld;
+use scc_ruled_cache::RuledCache;
+use scc_shared::ruled_index::RuledIndex;
+use scc_shared::ruled_map::RuledMap;
+use scc_shared_set::RuledSet;
 use test_forms_shared::held::Held;
 use test_kit::lines::say;
 use test_kit::masked::{Masked, SAME};
@@ -149,12 +155,81 @@ fn of_caches<R: Wait + AllocGlobal>(rt: &R) -> Result<bool, AllocError> {
     agree(alloc, &mut Held::of_stripes(rt, shared, true), &mut owned)
 }
 
+fn of_ruled_maps<R: Wait + AllocGlobal>(rt: &R) -> Result<bool, AllocError> {
+    let alloc = rt.alloc();
+    let (Ok(ruled), Ok(mut owned)) = (
+        RuledMap::<Token, Token, Anything, Masked>::with_capacity_and_hasher(alloc, SLOTS, SAME),
+        scc_owned::map::Owned::<Token, Token, Masked>::with_capacity_and_hasher(alloc, SLOTS, SAME),
+    ) else {
+        return Err(AllocError);
+    };
+    agree(
+        alloc,
+        &mut RuledHeld::of_stripes(rt, ruled, true),
+        &mut owned,
+    )
+}
+
+fn of_ruled_sets<R: Wait + AllocGlobal>(rt: &R) -> Result<bool, AllocError> {
+    let alloc = rt.alloc();
+    let (Ok(ruled), Ok(mut owned)) = (
+        RuledSet::<Token, Anything, Masked>::with_capacity_and_hasher(alloc, SLOTS, SAME),
+        scc_owned_set::Owned::<Token, Masked>::with_capacity_and_hasher(alloc, SLOTS, SAME),
+    ) else {
+        return Err(AllocError);
+    };
+    agree(
+        alloc,
+        &mut RuledHeld::of_stripes(rt, ruled, true),
+        &mut owned,
+    )
+}
+
+fn of_ruled_indexes<R: Wait + AllocGlobal>(rt: &R) -> Result<bool, AllocError> {
+    let alloc = rt.alloc();
+    let (Ok(ruled), Ok(mut owned)) = (
+        RuledIndex::<Token, Token, Anything, Masked>::with_capacity_and_hasher(alloc, SLOTS, SAME),
+        scc_owned::index::Owned::<Token, Token, Masked>::with_capacity_and_hasher(
+            alloc, SLOTS, SAME,
+        ),
+    ) else {
+        return Err(AllocError);
+    };
+    agree(
+        alloc,
+        &mut RuledHeld::of_stripes(rt, ruled, true),
+        &mut owned,
+    )
+}
+
+fn of_ruled_caches<R: Wait + AllocGlobal>(rt: &R) -> Result<bool, AllocError> {
+    let alloc = rt.alloc();
+    let (Ok(ruled), Ok(mut owned)) = (
+        RuledCache::<Token, Token, Anything, Masked>::with_capacity_and_hasher(
+            alloc, SLOTS, MAXIMUM, SAME,
+        ),
+        scc_owned_cache::Owned::<Token, Token, Masked>::with_capacity_and_hasher(
+            alloc, SLOTS, MAXIMUM, SAME,
+        ),
+    ) else {
+        return Err(AllocError);
+    };
+    agree(
+        alloc,
+        &mut RuledHeld::of_stripes(rt, ruled, true),
+        &mut owned,
+    )
+}
+
 /// Prints a line for each kind. Returns the worst status.
 pub(crate) fn run_twins<R: Wait + AllocGlobal + Print>(rt: &R) -> u8 {
     let what = "shared as owned";
-    let map = say(rt, "map of one stripe", what, of_maps(rt));
-    let set = say(rt, "set of one stripe", what, of_sets(rt));
-    let index = say(rt, "index of one stripe", what, of_indexes(rt));
-    let cache = say(rt, "cache of one stripe", what, of_caches(rt));
-    map.max(set).max(index).max(cache)
+    let mut worst = say(rt, "map of one stripe", what, of_maps(rt));
+    worst = worst.max(say(rt, "set of one stripe", what, of_sets(rt)));
+    worst = worst.max(say(rt, "index of one stripe", what, of_indexes(rt)));
+    worst = worst.max(say(rt, "cache of one stripe", what, of_caches(rt)));
+    worst = worst.max(say(rt, "ruled map of one stripe", what, of_ruled_maps(rt)));
+    worst = worst.max(say(rt, "ruled set of one stripe", what, of_ruled_sets(rt)));
+    worst = worst.max(say(rt, "ruled index of one stripe", what, of_ruled_indexes(rt)));
+    worst.max(say(rt, "ruled cache of one stripe", what, of_ruled_caches(rt)))
 }

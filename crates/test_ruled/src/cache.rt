@@ -1,12 +1,9 @@
-// Caches under a rule: each call does what the plain cache's call does, and evictions stay within the maximum and lose
-// no pair.
+// Caches under a rule: a value is made for a missing key alone, and evictions stay within the maximum and lose no pair.
 use crate::expect::{expect, expect_eq};
-use scc_common::{MakeError, Verdict};
 use scc_ruled_cache::RuledCache;
 use scc_rules::Anything;
 use scc_uses::ruled_cache::{Answers, displaced, served, served_once};
 use scc_uses::shared_requests::Service;
-use std::alloc::Global;
 use std::process::Abort;
 use std::sync::Wait;
 use std::sync::atomic::{AtomicU64, Ordering};
@@ -15,127 +12,46 @@ use std::thread::{Threads, join};
 
 type Numbers = RuledCache<u64, u64, Anything>;
 
-/// A call, with the answer that it has to give.
+/// A call that makes a value for 4 if it is missing, with the answer that it has to give.
 enum Call {
-    Put(u64, u64, bool),
-    Read(u64, Option<u64>),
-    RemoveIf(u64, u64, Option<(u64, u64)>),
-    Remove(u64, Option<(u64, u64)>),
-    GetOrPut(u64, u64, u64),
-    GetOrTryPut(u64, Result<u64, bool>, Result<u64, bool>),
-    GetCloned(u64, u64, u64),
-    Len(usize),
+    GetOrPut(u64, u64),
+    GetOrTryPut(Result<u64, bool>, Result<u64, bool>),
+    GetCloned(u64, u64),
+    Remove(Option<(u64, u64)>),
 }
 
-const CALLS: [Call; 17] = [
-    Call::Read(1, None),
-    Call::Put(1, 10, true),
-    Call::Put(1, 11, false),
-    Call::Read(1, Some(10)),
-    Call::Put(2, 20, true),
-    Call::RemoveIf(2, 21, None),
-    Call::RemoveIf(2, 20, Some((2, 20))),
-    Call::Len(1),
-    Call::GetOrPut(1, 12, 10),
-    Call::GetOrPut(3, 30, 30),
-    Call::GetOrTryPut(4, Err(true), Err(true)),
-    Call::GetOrTryPut(4, Ok(40), Ok(40)),
-    Call::GetOrTryPut(4, Err(true), Ok(40)),
-    Call::GetCloned(5, 50, 50),
-    Call::GetCloned(5, 51, 50),
-    Call::Remove(4, Some((4, 40))),
-    Call::Len(3),
+const CALLS: [Call; 12] = [
+    Call::GetOrTryPut(Err(true), Err(true)),
+    Call::GetOrTryPut(Ok(40), Ok(40)),
+    Call::GetOrTryPut(Err(true), Ok(40)),
+    Call::GetOrPut(41, 40),
+    Call::GetCloned(42, 40),
+    Call::Remove(Some((4, 40))),
+    Call::GetOrPut(43, 43),
+    Call::GetOrTryPut(Ok(44), Ok(43)),
+    Call::Remove(Some((4, 43))),
+    Call::GetCloned(45, 45),
+    Call::GetOrPut(46, 45),
+    Call::Remove(Some((4, 45))),
 ];
 
 /// Makes the call, and returns whether the answer is right.
 fn is_right<R: Wait>(rt: &R, cache: &Numbers, call: &Call) -> bool {
     match call {
-        Call::Put(key, value, is_new) => cache.put_sync(rt, *key, *value).is_ok() == *is_new,
-        Call::Read(key, value) => {
-            cache.contains_sync(rt, key) == value.is_some()
-                && cache.read_sync(rt, key, |_, v| *v) == *value
-        }
-        Call::RemoveIf(key, value, pair) => {
-            cache.remove_if_sync(rt, key, |v| *v == *value) == *pair
-        }
-        Call::Remove(key, pair) => cache.remove_sync(rt, key) == *pair,
-        Call::GetOrPut(key, value, found) => {
-            cache.get_or_put_with(rt, *key, |_| *value) == *found
-        }
-        Call::GetOrTryPut(key, made, found) => {
-            cache.get_or_try_put_with(rt, *key, |_| *made) == *found
-        }
-        Call::GetCloned(key, value, found) => {
-            cache.get_or_put_cloned(rt, *key, |_| *value) == *found
-        }
-        Call::Len(len) => cache.len(rt) == *len,
+        Call::GetOrPut(value, found) => cache.get_or_put_with(rt, 4, |_| *value) == *found,
+        Call::GetOrTryPut(made, found) => cache.get_or_try_put_with(rt, 4, |_| *made) == *found,
+        Call::GetCloned(value, found) => cache.get_or_put_cloned(rt, 4, |_| *value) == *found,
+        Call::Remove(pair) => cache.remove_sync(rt, &4) == *pair,
     }
 }
 
 #[test]
-fn ruled_cache_answers_as_the_plain_cache(rt: HostRuntime) -> Result<(), Fail> {
+fn a_value_is_made_for_a_missing_key(rt: HostRuntime) -> Result<(), Fail> {
     let cache: Numbers = RuledCache::new(rt.alloc())?;
     for (number, call) in CALLS.iter().enumerate() {
         expect_eq(&rt, (number, is_right(&rt, &cache, call)), (number, true));
     }
-    Ok(())
-}
-
-/// Returns a cache of the numbers below 100, each with its double, with room for all.
-fn doubles<R: Wait>(rt: &R, alloc: Global) -> Result<Numbers, MakeError> {
-    let cache: Numbers = RuledCache::with_capacity(alloc, 4096, 4096)?;
-    for key in 0..100u64 {
-        if !matches!(cache.put_sync(rt, key, key.wrapping_mul(2)), Ok(None)) {
-            return Err(MakeError);
-        }
-    }
-    Ok(cache)
-}
-
-/// Returns the sum of the values.
-fn sum_of<R: Wait>(rt: &R, cache: &Numbers) -> u64 {
-    let mut sum = 0u64;
-    cache.iter_sync(rt, |_, v| {
-        sum = sum.wrapping_add(*v);
-        true
-    });
-    sum
-}
-
-#[test]
-fn walks_of_a_ruled_cache_meet_each_pair(rt: HostRuntime) -> Result<(), Fail> {
-    let cache = doubles(&rt, rt.alloc())?;
-    expect_eq(&rt, sum_of(&rt, &cache), 9_900);
-    cache.retain_sync(&rt, |_, v| *v % 4 == 0);
-    expect_eq(&rt, (cache.len(&rt), sum_of(&rt, &cache)), (50, 4_900));
-    let mut taken = Vec::new(rt.alloc());
-    let ended = cache.iter_mut_sync(
-        &rt,
-        |k, _| {
-            if *k < 50 {
-                Verdict::Take
-            } else {
-                Verdict::Keep
-            }
-        },
-        &mut taken,
-    );
-    expect(&rt, matches!(ended, Ok(true)));
-    expect_eq(&rt, (taken.len(), cache.len(&rt)), (25, 25));
-    Ok(())
-}
-
-#[test]
-fn ruled_cache_is_made_of_items(rt: HostRuntime) -> Result<(), Fail> {
-    let mut items = Vec::new(rt.alloc());
-    for key in 0..40u64 {
-        items.push((key, key.wrapping_mul(3)))?;
-    }
-    let made: Numbers = RuledCache::try_from_iter(&rt, rt.alloc(), items)?;
-    expect_eq(&rt, (made.len(&rt), sum_of(&rt, &made)), (40, 2_340));
-    expect(&rt, made.eq_sync(&rt, &made));
-    made.clear_sync(&rt);
-    expect(&rt, made.is_empty(&rt));
+    expect(&rt, cache.is_empty(&rt));
     Ok(())
 }
 

@@ -4,18 +4,16 @@
 #[cfg(test)]
 mod cache;
 #[cfg(test)]
-mod cache_entries;
-#[cfg(test)]
 mod expect;
 #[cfg(test)]
 mod index;
 #[cfg(test)]
-mod index_entries;
-#[cfg(test)]
 mod map;
 #[cfg(test)]
-mod map_entries;
-#[cfg(test)]
 mod memo;
+#[cfg(test)]
+mod refreshes;
+#[cfg(test)]
+mod runs;
 #[cfg(test)]
 mod set;

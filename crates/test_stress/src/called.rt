@@ -9,30 +9,34 @@ use scc_shared::map::HashMap;
 use scc_shared_cache::HashCache;
 use scc_shared_set::HashSet;
 use std::alloc::Global;
-use std::sync::Wait;
+use std::sync::{Arc, Wait};
 
-pub type Map<'a> = HashMap<u64, Counted<'a>>;
+pub type Map = HashMap<u64, Counted>;
 
 pub type Set = HashSet<u64>;
 
-pub type Index<'a> = HashIndex<u64, Counted<'a>>;
+pub type Index = HashIndex<u64, Counted>;
 
-pub type Cache<'a> = HashCache<u64, Counted<'a>>;
+pub type Cache = HashCache<u64, Counted>;
 
 /// A container that threads call.
-pub trait Called<'a>: Sized {
+pub trait Called: Sized {
     /// Returns an empty container, or `None` if memory is refused.
     fn make(alloc: Global) -> Option<Self>;
 
     /// Makes the call of `kind`, one of eight, on `key`, and notes in `tally` what went in and out.
-    fn call<R: Wait>(&self, rt: &R, counts: &'a Counts, kind: u64, key: u64, tally: &mut Tally);
+    fn call<R: Wait>(&self, rt: &R, counts: &Arc<Counts>, kind: u64, key: u64, tally: &mut Tally);
 
     /// Subtracts every key of the container from `tally`.
     fn settle<R: Wait>(&self, rt: &R, tally: &mut Tally);
 }
 
 /// Notes the result of an insertion of `key`.
-fn note_pair(inserted: Result<(), InsertError<u64, Counted<'_>>>, key: u64, tally: &mut Tally) {
+pub(crate) fn note_pair(
+    inserted: Result<(), InsertError<u64, Counted>>,
+    key: u64,
+    tally: &mut Tally,
+) {
     match inserted {
         Ok(()) => tally.add(key),
         Err(InsertError::Exists(_)) => {}
@@ -41,7 +45,7 @@ fn note_pair(inserted: Result<(), InsertError<u64, Counted<'_>>>, key: u64, tall
 }
 
 /// Notes the result of an insertion of `key` into a set.
-fn note_key(inserted: Result<(), KeyError<u64>>, key: u64, tally: &mut Tally) {
+pub(crate) fn note_key(inserted: Result<(), KeyError<u64>>, key: u64, tally: &mut Tally) {
     match inserted {
         Ok(()) => tally.add(key),
         Err(KeyError::Exists(_)) => {}
@@ -50,7 +54,7 @@ fn note_key(inserted: Result<(), KeyError<u64>>, key: u64, tally: &mut Tally) {
 }
 
 /// Notes that `key` went in, and that another key may have been evicted.
-fn note_put(evicted: EvictedEntry<u64, Counted<'_>>, key: u64, tally: &mut Tally) {
+pub(crate) fn note_put(evicted: EvictedEntry<u64, Counted>, key: u64, tally: &mut Tally) {
     tally.add(key);
     if let Some((old, _value)) = evicted {
         tally.subtract(old);
@@ -58,15 +62,9 @@ fn note_put(evicted: EvictedEntry<u64, Counted<'_>>, key: u64, tally: &mut Tally
 }
 
 /// Inserts the key through its entry, if the entry is vacant.
-fn insert_vacant<'a, R: Wait>(
-    rt: &R,
-    map: &Map<'a>,
-    counts: &'a Counts,
-    key: u64,
-    tally: &mut Tally,
-) {
+fn insert_vacant<R: Wait>(rt: &R, map: &Map, counts: &Arc<Counts>, key: u64, tally: &mut Tally) {
     if let scc_owned::map::locked::Entry::Vacant(entry) = map.entry_sync(rt, key) {
-        match entry.insert_entry(counts.make()) {
+        match entry.insert_entry(Counted::new(counts)) {
             Ok(_entry) => tally.add(key),
             Err(_) => tally.refuse(),
         }
@@ -74,8 +72,8 @@ fn insert_vacant<'a, R: Wait>(
 }
 
 /// Upserts the key.
-fn upsert<'a, R: Wait>(rt: &R, map: &Map<'a>, counts: &'a Counts, key: u64, tally: &mut Tally) {
-    match map.upsert_sync(rt, key, counts.make()) {
+fn upsert<R: Wait>(rt: &R, map: &Map, counts: &Arc<Counts>, key: u64, tally: &mut Tally) {
+    match map.upsert_sync(rt, key, Counted::new(counts)) {
         Ok(None) => tally.add(key),
         Ok(Some(_)) => {}
         Err(_) => tally.refuse(),
@@ -83,21 +81,21 @@ fn upsert<'a, R: Wait>(rt: &R, map: &Map<'a>, counts: &'a Counts, key: u64, tall
 }
 
 /// Removes the key through its entry.
-fn remove_occupied<R: Wait>(rt: &R, map: &Map<'_>, key: u64, tally: &mut Tally) {
+fn remove_occupied<R: Wait>(rt: &R, map: &Map, key: u64, tally: &mut Tally) {
     if let Some(entry) = map.get_sync(rt, &key) {
         let _value = entry.remove();
         tally.subtract(key);
     }
 }
 
-impl<'a> Called<'a> for Map<'a> {
-    fn make(alloc: Global) -> Option<Map<'a>> {
+impl Called for Map {
+    fn make(alloc: Global) -> Option<Map> {
         HashMap::new(alloc).ok()
     }
 
-    fn call<R: Wait>(&self, rt: &R, counts: &'a Counts, kind: u64, key: u64, tally: &mut Tally) {
+    fn call<R: Wait>(&self, rt: &R, counts: &Arc<Counts>, kind: u64, key: u64, tally: &mut Tally) {
         match kind {
-            0 | 1 => note_pair(self.insert_sync(rt, key, counts.make()), key, tally),
+            0 | 1 => note_pair(self.insert_sync(rt, key, Counted::new(counts)), key, tally),
             2 => upsert(rt, self, counts, key, tally),
             3 => insert_vacant(rt, self, counts, key, tally),
             4 | 5 => {
@@ -129,12 +127,12 @@ fn replace<R: Wait>(rt: &R, set: &Set, key: u64, tally: &mut Tally) {
     }
 }
 
-impl<'a> Called<'a> for Set {
+impl Called for Set {
     fn make(alloc: Global) -> Option<Set> {
         HashSet::new(alloc).ok()
     }
 
-    fn call<R: Wait>(&self, rt: &R, _counts: &'a Counts, kind: u64, key: u64, tally: &mut Tally) {
+    fn call<R: Wait>(&self, rt: &R, _counts: &Arc<Counts>, kind: u64, key: u64, tally: &mut Tally) {
         match kind {
             0 | 1 | 2 => note_key(self.insert_sync(rt, key), key, tally),
             3 => replace(rt, self, key, tally),
@@ -158,20 +156,16 @@ impl<'a> Called<'a> for Set {
 }
 
 /// Inserts the key through its entry, or makes a new version.
-fn publish<'a, R: Wait>(
-    rt: &R,
-    index: &Index<'a>,
-    counts: &'a Counts,
-    key: u64,
-    tally: &mut Tally,
-) {
+fn publish<R: Wait>(rt: &R, index: &Index, counts: &Arc<Counts>, key: u64, tally: &mut Tally) {
     match index.entry_sync(rt, key) {
         scc_owned::index::locked::Entry::Occupied(mut entry) => {
-            if entry.update(counts.make()).is_err() {
+            if entry.update(Counted::new(counts)).is_err() {
                 tally.refuse();
             }
         }
-        scc_owned::index::locked::Entry::Vacant(entry) => match entry.insert_entry(counts.make()) {
+        scc_owned::index::locked::Entry::Vacant(entry) => match entry.insert_entry(Counted::new(
+            counts,
+        )) {
             Ok(_entry) => tally.add(key),
             Err(_) => tally.refuse(),
         },
@@ -179,21 +173,21 @@ fn publish<'a, R: Wait>(
 }
 
 /// Gets the version of the key, and drops it.
-fn peek<R: Wait>(rt: &R, index: &Index<'_>, key: u64, tally: &mut Tally) {
+fn peek<R: Wait>(rt: &R, index: &Index, key: u64, tally: &mut Tally) {
     match index.peek(rt, &key) {
         Ok(_version) => {}
         Err(_) => tally.refuse(),
     }
 }
 
-impl<'a> Called<'a> for Index<'a> {
-    fn make(alloc: Global) -> Option<Index<'a>> {
+impl Called for Index {
+    fn make(alloc: Global) -> Option<Index> {
         HashIndex::new(alloc).ok()
     }
 
-    fn call<R: Wait>(&self, rt: &R, counts: &'a Counts, kind: u64, key: u64, tally: &mut Tally) {
+    fn call<R: Wait>(&self, rt: &R, counts: &Arc<Counts>, kind: u64, key: u64, tally: &mut Tally) {
         match kind {
-            0 | 1 => note_pair(self.insert_sync(rt, key, counts.make()), key, tally),
+            0 | 1 => note_pair(self.insert_sync(rt, key, Counted::new(counts)), key, tally),
             2 | 3 => publish(rt, self, counts, key, tally),
             4 | 5 | 6 => {
                 if self.remove_sync(rt, &key) {
@@ -213,8 +207,8 @@ impl<'a> Called<'a> for Index<'a> {
 }
 
 /// Puts the key.
-fn put<'a, R: Wait>(rt: &R, cache: &Cache<'a>, counts: &'a Counts, key: u64, tally: &mut Tally) {
-    match cache.put_sync(rt, key, counts.make()) {
+fn put<R: Wait>(rt: &R, cache: &Cache, counts: &Arc<Counts>, key: u64, tally: &mut Tally) {
+    match cache.put_sync(rt, key, Counted::new(counts)) {
         Ok(evicted) => note_put(evicted, key, tally),
         Err(InsertError::Exists(_)) => {}
         Err(InsertError::Memory(_)) => tally.refuse(),
@@ -222,27 +216,21 @@ fn put<'a, R: Wait>(rt: &R, cache: &Cache<'a>, counts: &'a Counts, key: u64, tal
 }
 
 /// Puts the key through its entry, if the entry is vacant.
-fn put_vacant<'a, R: Wait>(
-    rt: &R,
-    cache: &Cache<'a>,
-    counts: &'a Counts,
-    key: u64,
-    tally: &mut Tally,
-) {
+fn put_vacant<R: Wait>(rt: &R, cache: &Cache, counts: &Arc<Counts>, key: u64, tally: &mut Tally) {
     if let scc_owned_cache::locked::Entry::Vacant(entry) = cache.entry_sync(rt, key) {
-        match entry.put_entry(counts.make()) {
+        match entry.put_entry(Counted::new(counts)) {
             Ok((evicted, _entry)) => note_put(evicted, key, tally),
             Err(_) => tally.refuse(),
         }
     }
 }
 
-impl<'a> Called<'a> for Cache<'a> {
-    fn make(alloc: Global) -> Option<Cache<'a>> {
+impl Called for Cache {
+    fn make(alloc: Global) -> Option<Cache> {
         HashCache::new(alloc).ok()
     }
 
-    fn call<R: Wait>(&self, rt: &R, counts: &'a Counts, kind: u64, key: u64, tally: &mut Tally) {
+    fn call<R: Wait>(&self, rt: &R, counts: &Arc<Counts>, kind: u64, key: u64, tally: &mut Tally) {
         match kind {
             0 | 1 | 2 => put(rt, self, counts, key, tally),
             3 | 4 => put_vacant(rt, self, counts, key, tally),

@@ -1,5 +1,7 @@
 //! Values that count how often they are made and dropped.
 
+use std::alloc::{AllocError, Global};
+use std::sync::Arc;
 use std::sync::atomic::{AtomicU64, Ordering};
 
 /// How many values were made, and how many were dropped.
@@ -10,34 +12,46 @@ pub struct Counts {
 }
 
 impl Counts {
-    /// Returns counts of 0.
-    pub(crate) fn new() -> Counts {
-        Counts {
+    /// Returns counts of 0, or an error if memory is refused.
+    pub(crate) fn new(alloc: Global) -> Result<Arc<Counts>, AllocError> {
+        let counts = Counts {
             made: AtomicU64::new(0),
             dropped: AtomicU64::new(0),
-        }
+        };
+        Ok(Arc::new(alloc, counts)?)
     }
 
     /// Returns whether as many values were dropped as were made.
     pub(crate) fn are_equal(&self) -> bool {
         self.made.load(Ordering::SeqCst) == self.dropped.load(Ordering::SeqCst)
     }
-
-    /// Returns a new value, and counts it.
-    pub(crate) fn make(&self) -> Counted<'_> {
-        self.made.fetch_add(1, Ordering::SeqCst);
-        Counted { counts: self }
-    }
 }
 
 /// A value whose drop is counted.
-pub struct Counted<'a> {
-    counts: &'a Counts,
+pub struct Counted {
+    counts: Option<Arc<Counts>>,
 }
 
-impl Drop for Counted<'_> {
+impl Counted {
+    /// Returns a new value, and counts it. The value isn't counted if `counts` has as many owners as can be.
+    pub(crate) fn new(counts: &Arc<Counts>) -> Counted {
+        match counts.clone() {
+            Ok(owner) => {
+                owner.made.fetch_add(1, Ordering::SeqCst);
+                Counted {
+                    counts: Some(owner),
+                }
+            }
+            Err(_) => Counted { counts: None },
+        }
+    }
+}
+
+impl Drop for Counted {
     fn drop(self) {
         let Counted { counts } = self;
-        counts.dropped.fetch_add(1, Ordering::SeqCst);
+        if let Some(counts) = counts {
+            counts.dropped.fetch_add(1, Ordering::SeqCst);
+        }
     }
 }

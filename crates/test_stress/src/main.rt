@@ -13,6 +13,7 @@ mod phases;
 mod plain;
 mod request;
 mod rounds;
+mod ruled;
 mod tally;
 mod turns;
 mod workers;

@@ -3,11 +3,12 @@
 use crate::called::{Cache, Called, Index, Map, Set};
 use crate::counted::Counts;
 use crate::request::Request;
+use crate::ruled::{Cache as RuledCache, Index as RuledIndex, Map as RuledMap, Set as RuledSet};
 use crate::tally::{Tally, draw_call};
 use std::alloc::Global;
 use std::io;
 use std::rt::Clock;
-use std::sync::Wait;
+use std::sync::{Arc, Wait};
 use std::thread::{Threads, map_indices};
 use std::time::Instant;
 
@@ -18,10 +19,10 @@ const EVEN: u8 = 0;
 const UNEVEN: u8 = 1;
 
 /// Makes `calls` calls in one thread. Returns the tally of the replies.
-fn work<'a, C: Called<'a>, R: Wait>(
+fn work<C: Called, R: Wait>(
     rt: &R,
     container: &C,
-    counts: &'a Counts,
+    counts: &Arc<Counts>,
     thread: usize,
     calls: u64,
 ) -> Tally {
@@ -35,7 +36,7 @@ fn work<'a, C: Called<'a>, R: Wait>(
 }
 
 /// Returns whether the tallies of the threads add up with the keys of the container.
-fn is_settled<'a, C: Called<'a>, R: Wait>(rt: &R, container: &C, told: &[Tally]) -> bool {
+fn is_settled<C: Called, R: Wait>(rt: &R, container: &C, told: &[Tally]) -> bool {
     let mut left = Tally::new();
     for tally in told {
         left.join(tally);
@@ -44,23 +45,12 @@ fn is_settled<'a, C: Called<'a>, R: Wait>(rt: &R, container: &C, told: &[Tally])
     left.is_even()
 }
 
-/// Returns the container, or an error if its memory was refused.
-fn made<C: Drop>(container: Option<C>) -> io::Result<C> {
-    match container {
-        Some(container) => Ok(container),
-        None => Err(io::Error::from(io::ErrorKind::OutOfMemory)),
-    }
-}
-
-// The data of a thread can't rest on a bound with a lifetime. Therefore each kind starts its threads in a function of
-// its own.
-
-/// Returns what each thread was told by a map.
-fn told_of_map<'a, R: Wait + Threads + Sync>(
+/// Returns what each thread was told by the container.
+fn told<C: Called + Sync, R: Wait + Threads + Sync>(
     rt: &R,
     alloc: Global,
-    map: &Map<'a>,
-    counts: &'a Counts,
+    container: &C,
+    counts: &Arc<Counts>,
     request: Request,
 ) -> io::Result<Vec<Tally>> {
     let calls = request.calls;
@@ -68,133 +58,54 @@ fn told_of_map<'a, R: Wait + Threads + Sync>(
         rt,
         alloc,
         request.threads as usize,
-        &|thread| work(rt, map, counts, thread, calls),
+        &|thread| work(rt, container, counts, thread, calls),
     )?)
 }
 
-/// Returns whether a round of a map adds up.
-fn map_adds_up<R: Wait + Threads + Sync>(
+/// Returns whether a round of a container of one kind adds up.
+fn adds_up<C: Called + Sync + Drop, R: Wait + Threads + Sync>(
     rt: &R,
     alloc: Global,
-    counts: &Counts,
+    counts: &Arc<Counts>,
     request: Request,
 ) -> io::Result<bool> {
-    let map: Map<'_> = made(Called::make(alloc))?;
-    let told = told_of_map(rt, alloc, &map, counts, request)?;
-    Ok(is_settled(rt, &map, told.as_slice()))
+    let Some(container) = C::make(alloc) else {
+        return Err(io::Error::from(io::ErrorKind::OutOfMemory));
+    };
+    let tallies = told(rt, alloc, &container, counts, request)?;
+    Ok(is_settled(rt, &container, tallies.as_slice()))
 }
 
-/// Returns what each thread was told by a set.
-fn told_of_set<'a, R: Wait + Threads + Sync>(
+/// Makes a round of a container of one kind. Returns whether it adds up and each value was dropped once, and prints
+/// `name` if not.
+fn holds<C: Called + Sync + Drop, R: Wait + Threads + Sync + Print>(
     rt: &R,
     alloc: Global,
-    set: &Set,
-    counts: &'a Counts,
-    request: Request,
-) -> io::Result<Vec<Tally>> {
-    let calls = request.calls;
-    Ok(map_indices(
-        rt,
-        alloc,
-        request.threads as usize,
-        &|thread| work(rt, set, counts, thread, calls),
-    )?)
-}
-
-/// Returns whether a round of a set adds up.
-fn set_adds_up<R: Wait + Threads + Sync>(
-    rt: &R,
-    alloc: Global,
-    counts: &Counts,
+    name: &str,
     request: Request,
 ) -> io::Result<bool> {
-    let set: Set = made(Called::make(alloc))?;
-    let told = told_of_set(rt, alloc, &set, counts, request)?;
-    Ok(is_settled(rt, &set, told.as_slice()))
-}
-
-/// Returns what each thread was told by an index.
-fn told_of_index<'a, R: Wait + Threads + Sync>(
-    rt: &R,
-    alloc: Global,
-    index: &Index<'a>,
-    counts: &'a Counts,
-    request: Request,
-) -> io::Result<Vec<Tally>> {
-    let calls = request.calls;
-    Ok(map_indices(
-        rt,
-        alloc,
-        request.threads as usize,
-        &|thread| work(rt, index, counts, thread, calls),
-    )?)
-}
-
-/// Returns whether a round of an index adds up.
-fn index_adds_up<R: Wait + Threads + Sync>(
-    rt: &R,
-    alloc: Global,
-    counts: &Counts,
-    request: Request,
-) -> io::Result<bool> {
-    let index: Index<'_> = made(Called::make(alloc))?;
-    let told = told_of_index(rt, alloc, &index, counts, request)?;
-    Ok(is_settled(rt, &index, told.as_slice()))
-}
-
-/// Returns what each thread was told by a cache.
-fn told_of_cache<'a, R: Wait + Threads + Sync>(
-    rt: &R,
-    alloc: Global,
-    cache: &Cache<'a>,
-    counts: &'a Counts,
-    request: Request,
-) -> io::Result<Vec<Tally>> {
-    let calls = request.calls;
-    Ok(map_indices(
-        rt,
-        alloc,
-        request.threads as usize,
-        &|thread| work(rt, cache, counts, thread, calls),
-    )?)
-}
-
-/// Returns whether a round of a cache adds up.
-fn cache_adds_up<R: Wait + Threads + Sync>(
-    rt: &R,
-    alloc: Global,
-    counts: &Counts,
-    request: Request,
-) -> io::Result<bool> {
-    let cache: Cache<'_> = made(Called::make(alloc))?;
-    let told = told_of_cache(rt, alloc, &cache, counts, request)?;
-    Ok(is_settled(rt, &cache, told.as_slice()))
-}
-
-/// Prints `name` if the counts of the container don't add up. Returns `holds`.
-fn tell(rt: &impl Print, name: &str, holds: bool) -> io::Result<bool> {
+    let counts = Counts::new(alloc)?;
+    let holds = adds_up::<C, R>(rt, alloc, &counts, request)? && counts.are_equal();
     if !holds {
         println!(rt; "{name}: what went in and out doesn't add up")?;
     }
     Ok(holds)
 }
 
-/// Returns whether a round of each container adds up, and each value was dropped once.
+/// Returns whether a round of each container adds up.
 fn all_add_up<R: Wait + Threads + Sync + Print>(
     rt: &R,
     alloc: Global,
     request: Request,
 ) -> io::Result<bool> {
-    let counts = Counts::new();
-    let map = map_adds_up(rt, alloc, &counts, request)?;
-    let map = tell(rt, "map", map && counts.are_equal())?;
-    let set = set_adds_up(rt, alloc, &counts, request)?;
-    let set = tell(rt, "set", set)?;
-    let index = index_adds_up(rt, alloc, &counts, request)?;
-    let index = tell(rt, "index", index && counts.are_equal())?;
-    let cache = cache_adds_up(rt, alloc, &counts, request)?;
-    let cache = tell(rt, "cache", cache && counts.are_equal())?;
-    Ok(map && set && index && cache)
+    let mut all = holds::<Map, R>(rt, alloc, "map", request)?;
+    all = holds::<Set, R>(rt, alloc, "set", request)? && all;
+    all = holds::<Index, R>(rt, alloc, "index", request)? && all;
+    all = holds::<Cache, R>(rt, alloc, "cache", request)? && all;
+    all = holds::<RuledMap, R>(rt, alloc, "ruled map", request)? && all;
+    all = holds::<RuledSet, R>(rt, alloc, "ruled set", request)? && all;
+    all = holds::<RuledIndex, R>(rt, alloc, "ruled index", request)? && all;
+    Ok(holds::<RuledCache, R>(rt, alloc, "ruled cache", request)? && all)
 }
 
 /// Makes rounds until the time is over, and prints their number. Stops at the first round whose counts don't add up.

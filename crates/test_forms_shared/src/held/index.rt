@@ -1,11 +1,11 @@
 //! `Form` for the shared index.
 
-use crate::held::{Held, walked};
+use crate::held::Held;
 use scc_common::{InsertError, TryInsertError};
 use scc_owned::index::locked::{Entry, OccupiedEntry};
 use scc_shared::index::HashIndex;
 use std::sync::Wait;
-use test_forms::answers::{Answer, Kind, refused, tried, untried};
+use test_forms::answers::{Answer, Kind, refused, tried, untried, walked};
 use test_forms::form::{Act, At, Form, Sizes, Way};
 use test_forms::numbered::{Seen, keeps, seen, value_of};
 use test_forms::token::Token;

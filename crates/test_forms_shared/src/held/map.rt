@@ -1,12 +1,14 @@
 //! `Form` for the shared map.
 
-use crate::held::{Held, walked};
+use crate::held::Held;
 use scc_common::{InsertError, TryInsertError};
 use scc_owned::map::locked::{Entry, OccupiedEntry, ReplaceResult};
 use scc_shared::map::HashMap;
 use std::alloc::Global;
 use std::sync::Wait;
-use test_forms::answers::{Answer, Kind, Rule, raise_and_keep, refused, tried, untried, verdict};
+use test_forms::answers::{
+    Answer, Kind, Rule, raise_and_keep, refused, tried, untried, verdict, walked,
+};
 use test_forms::form::{Act, At, Form, Sizes, Way};
 use test_forms::numbered::{Seen, note_pairs, number_of, raise_to_even, seen, seen_pair, value_of};
 use test_forms::token::Token;

@@ -1,10 +1,10 @@
 //! `Form` for the shared set.
 
-use crate::held::{Held, walked};
+use crate::held::Held;
 use scc_shared_set::{HashSet, OccupiedEntry};
 use std::alloc::Global;
 use std::sync::Wait;
-use test_forms::answers::{Answer, Kind, Rule, key_verdict, refused_key};
+use test_forms::answers::{Answer, Kind, Rule, key_verdict, refused_key, walked};
 use test_forms::form::{Act, At, Form, Sizes, Way};
 use test_forms::numbered::{Seen, keeps, mark_of, note_keys, seen_key, seen_lone};
 use test_forms::token::Token;
