@@ -2,10 +2,10 @@
 
 use crate::held::Held;
 use scc_ruled_cache::RuledCache;
+use scc_rules::Anything;
 use scc_shared::ruled_index::RuledIndex;
 use scc_shared::ruled_map::RuledMap;
 use scc_shared_set::RuledSet;
-use scc_rules::Anything;
 use std::alloc::AllocError;
 use std::sync::Wait;
 use test_forms::token::Token;

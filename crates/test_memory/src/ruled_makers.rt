@@ -1,16 +1,16 @@
 // The kinds under a rule, made for a job.
 use crate::makers::{Job, Made, Of, item, until_made};
+use scc_ruled_cache::RuledCache;
 use scc_rules::Anything;
+use scc_shared::ruled_index::RuledIndex;
+use scc_shared::ruled_map::RuledMap;
+use scc_shared_set::RuledSet;
 use std::alloc::Global;
 use std::io::Print;
 use std::process::Abort;
 use std::sync::Wait;
 use test_forms::token::Token;
 use test_forms_ruled::held::Held;
-use scc_ruled_cache::RuledCache;
-use scc_shared::ruled_index::RuledIndex;
-use scc_shared::ruled_map::RuledMap;
-use scc_shared_set::RuledSet;
 use test_kit::masked::{Masked, ZERO};
 use test_kit::refusals::Refusal;
 

@@ -3,11 +3,15 @@
 
 use crate::draws::{Call, Draws};
 use crate::tally::Tally;
+use scc_ruled_cache::RuledCache;
 use scc_rules::Anything;
 use scc_shared::index::HashIndex;
 use scc_shared::map::HashMap;
+use scc_shared::ruled_index::RuledIndex;
+use scc_shared::ruled_map::RuledMap;
 use scc_shared_cache::HashCache;
 use scc_shared_set::HashSet;
+use scc_shared_set::RuledSet;
 use std::alloc::{AllocError, Global};
 use std::sync::Wait;
 use test_forms::calls::{is_of, make};
@@ -16,10 +20,6 @@ use test_forms::list::List;
 use test_forms::numbered::Seen;
 use test_forms::token::Token;
 use test_forms_ruled::held::Held as RuledHeld;
-use scc_ruled_cache::RuledCache;
-use scc_shared::ruled_index::RuledIndex;
-use scc_shared::ruled_map::RuledMap;
-use scc_shared_set::RuledSet;
 use test_forms_shared::held::Held;
 use test_kit::lines::say;
 use test_kit::masked::{Masked, SAME};

@@ -86,11 +86,13 @@ fn try_value<
     let hash = map.hash_of(&k);
     match map.place_of(hash, &k) {
         Some(place) => Ok(*map.pair_at(place).1),
-        None => {
-            let value = make(&k)?;
-            let _ = map.insert_new(hash, k, value);
-            Ok(value)
-        }
+        None => match make(&k) {
+            Ok(value) => {
+                let _ = map.insert_new(hash, k, value);
+                Ok(value)
+            }
+            Err(refused) => Err(refused),
+        },
     }
 }
 

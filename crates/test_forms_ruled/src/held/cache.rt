@@ -1,9 +1,9 @@
 //! `Form` for the cache under a rule.
 
 use crate::held::Held;
-use scc_ruled_cache::{Entry, OccupiedEntry, ReplaceResult, RuledCache};
 use scc_common::{InsertError, TryInsertError};
 use scc_owned_cache::EvictedEntry;
+use scc_ruled_cache::{Entry, OccupiedEntry, ReplaceResult, RuledCache};
 use scc_rules::Anything;
 use std::alloc::Global;
 use std::sync::Wait;

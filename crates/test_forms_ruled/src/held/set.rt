@@ -1,9 +1,9 @@
 //! `Form` for the set under a rule.
 
 use crate::held::Held;
+use scc_rules::Anything;
 use scc_shared_set::RuledSet;
 use scc_shared_set::ruled::OccupiedEntry;
-use scc_rules::Anything;
 use std::alloc::Global;
 use std::sync::Wait;
 use test_forms::answers::{Answer, Kind, Rule, key_verdict, refused_key, walked};

@@ -25,5 +25,5 @@ loop-at-preserved g c =
       within = next.1;
       hasher = search rules;
       count = search rules;
-      made = folds-more _ _ (index_of c.args.from.now c.in-Some.place) _ _ _ _ _ c.pair_at.ensures next.0 (rw c.in-Some.is at c.loop-at.invariant.made) (_, _, made.0, made.1, refl, made.2, made.3, routed);
+      made = folds-more _ _ (index_of c.args.from.now c.in-Some.place) _ _ _ _ _ c.pair_at.ensures.pair next.0 (rw c.in-Some.is at c.loop-at.invariant.made) (_, _, made.0, made.1, refl, made.2, made.3, routed);
     }
