@@ -1,5 +1,4 @@
 use Rattle.std.proofs.Common.{refl, rules, suc}
-use Rattle.scc_common.specs.Contents.{entries}
 use Rattle.scc_table.specs.Places.{IsPlace, index_of}
 use Rattle.scc_table.proofs.walks.Reach.{nearer, reached-at, reached-first}
 use Rattle.scc_shared.proofs.Copying.{folds-more, folds-none}
