@@ -11,7 +11,6 @@
 #   ONLY_GROUPS    some of: own tail mem curve cache shared tail4 index texts
 #   ONLY_PEERS     names of peers, as the first column of a listing has them
 #   EXTRA_PEERS    further programs, one path a line, that keep to the conventions of README.md
-#   WIDE           1: also the wide tables
 set -eu
 here=$(cd "$(dirname "$0")" && pwd)
 build=${BENCH_BUILD:-${XDG_CACHE_HOME:-$HOME/.cache}/hash-peers}
@@ -67,5 +66,4 @@ done
 
 sed -n 's/^# //p' "$raw"
 echo
-[ "${WIDE:-0}" != 1 ] || sh "$here/table.sh" --wide "$raw" || true
-sh "$here/table.sh" "$raw"
+"$here/tables" --all "$raw"

@@ -1,14 +1,27 @@
-"""What a first proof of crates costs: how many crates it takes, and about how many processor minutes."""
+"""What a first proof of crates costs: how many crates it takes, and how many processor minutes.
+
+tools/measured_minutes.txt has a line `NAME MINUTES` for each crate, for `rest`, which is what a run of ./test spent
+beside its crates, and for `part_1` to `part_4`, the parts of ./test, all in processor minutes; and for `two_cores`, the
+minutes of ./test from nothing on two cores. `tools/processor_minutes --note LOG` writes the file. A crate that has no
+line there counts by its lines of code.
+"""
 import functools
 
-from repository import TOP, below, files_of
+from repository import TOP, below, files_of, graph, longest_chain
 
-# What a proof of scc and of all crates below it took of a processor.
-SCC_MINUTES = 70
+MINUTES = f"{TOP}/tools/measured_minutes.txt"
 
 
 @functools.lru_cache(maxsize=None)
-def lines_of_crate(crate):
+def measured():
+    """The minutes of each line of the file."""
+    with open(MINUTES, encoding="utf-8") as file:
+        pairs = [line.split() for line in file if line.strip() and not line.startswith("#")]
+    return {name: float(minutes) for name, minutes in pairs}
+
+
+@functools.lru_cache(maxsize=None)
+def lines_of(crate):
     """How many lines a proof of a crate reads."""
     count = 0
     for path in files_of(crate):
@@ -17,17 +30,34 @@ def lines_of_crate(crate):
     return count
 
 
-def lines_of(crates):
-    """How many lines a proof of these crates reads."""
-    return sum(map(lines_of_crate, crates))
+@functools.lru_cache(maxsize=None)
+def minutes_of_line():
+    """What a line of the measured crates took on average."""
+    known = [crate for crate in graph() if crate in measured()]
+    return sum(measured()[crate] for crate in known) / max(1, sum(map(lines_of, known)))
+
+
+def minutes_of_crate(crate):
+    """The processor minutes of a crate."""
+    return measured()[crate] if crate in measured() else lines_of(crate) * minutes_of_line()
 
 
 def minutes_of(crates):
-    """About how many processor minutes a proof of these crates takes: their part of all lines of scc, in minutes."""
-    return max(1, round(SCC_MINUTES * lines_of(crates) / lines_of(below("scc"))))
+    """The processor minutes of these crates together, rounded, and at least one."""
+    return max(1, round(sum(map(minutes_of_crate, crates))))
+
+
+def chain_to(crate):
+    """The last crate and the minutes of the longest chain of crates that wait for one another, below a crate or, if it is
+    None, of all."""
+    crates = graph()
+    wanted = below(crate) if crate else crates
+    chain, minutes = longest_chain({name: crates[name] for name in crates if name in wanted}, {name: minutes_of_crate(name) for name in wanted})
+    return chain[-1], max(1, round(minutes))
 
 
 def costs(crate):
-    """How many crates a program that lists this one alone proves first, and in about how many processor minutes."""
+    """How many crates a program that lists this one alone proves first, in how many processor minutes, and how many of
+    these one after the other."""
     crates = below(crate)
-    return len(crates), minutes_of(crates)
+    return len(crates), minutes_of(crates), chain_to(crate)[1]

@@ -6,6 +6,8 @@ import re
 from repository import TOP
 
 ENDINGS = ("rt", "antt", "md", "edit")
+# Files whose words make no name right.
+PASSED_OVER = ("tools/pages", "tools/measured_minutes.txt")
 # Folders that hold no sources.
 SKIPPED = {".git", "out", "target", "__pycache__"}
 COMMENT = {".rt": re.compile(r"//.*"), ".antt": re.compile(r"(?:^|(?<=\s))--\s.*", re.M)}
@@ -33,7 +35,7 @@ def words_of(top, paths):
     for path in paths:
         found.update(WORD.findall(path))
         end = os.path.splitext(path)[1]
-        if end not in (".md", ".svg") and not path.endswith("tools/pages"):
+        if end not in (".md", ".svg") and path not in PASSED_OVER:
             with open(f"{top}/{path}", encoding="utf-8", errors="replace") as file:
                 text = file.read()
             found.update(WORD.findall(COMMENT[end].sub("", text) if end in COMMENT else text))

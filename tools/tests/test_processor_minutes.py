@@ -37,6 +37,20 @@ class Minutes(unittest.TestCase):
             minutes.print_minutes({}, 0, CRATES)
         self.assertIn("the longest chain, 0.0 processor minutes: none\n", said.getvalue())
 
+    def test_notes_what_a_run_of_the_gate_printed(self):
+        said = io.StringIO()
+        with contextlib.redirect_stdout(said):
+            print("of a crate\nprocessor minutes:\n  scc_low                        1.0")
+            minutes.print_minutes({"scc_high": 1.25, "scc_low": 5, "elsewhere": 3}, 12 * 60, CRATES)
+            print("== part 2 of 4: misuses that fail passed in 1.5 minutes, of 2.5 processor minutes")
+            print("on 2 processors, 90.0 minutes, of 176.3 processor minutes")
+        before = {"scc_low": 7.0, "scc_alone": 7.0, "scc_gone": 7.0, "part_1": 0.3, "two_cores": 96.0}
+        wanted = {"scc_low": "5.0", "scc_high": "1.2", "part_1": "0.3", "two_cores": "90.0", "part_2": "2.5", "rest": "2.8"}
+        self.assertEqual(minutes.noted(said.getvalue(), CRATES, before), wanted)
+        on_four = said.getvalue().replace("on 2", "on 4")
+        self.assertEqual(minutes.noted(on_four, CRATES, before)["two_cores"], "96.0")
+        self.assertEqual(minutes.noted("  all      12.0\n", CRATES, before), {})
+
     def test_finds_the_crate_of_a_process(self):
         with subprocess.Popen([sys.executable, "-c", "import time; time.sleep(60)", "--crate-name", "scc_low"]) as named:
             times = {}
@@ -58,6 +72,8 @@ class Command(unittest.TestCase):
     def test_wrong_words(self):
         self.assertEqual(self.ran().returncode, 2)
         self.assertEqual(self.ran("--nothing").returncode, 2)
+        self.assertEqual(self.ran("--note", os.devnull, "true").returncode, 2)
+        self.assertEqual(self.ran("--note", os.devnull).returncode, 1)
 
 
 if __name__ == "__main__":

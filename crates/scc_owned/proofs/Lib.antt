@@ -16,6 +16,7 @@ pub mod Replies
 pub mod RuledFronts
 pub mod RuledPairs
 pub mod RuledUpdates
+pub mod RuledVersions
 pub mod Updates
 pub mod Updating
 pub mod Visiting

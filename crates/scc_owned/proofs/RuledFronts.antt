@@ -1,5 +1,5 @@
 -- The pairs before the entry at which a walk over a map or an index under a rule stopped.
-use Rattle.std.proofs.Common.{◌≡◌, Bool, suc, take, Some, sym, subst}
+use Rattle.std.proofs.Common.{◌≡◌, suc, take, Some, sym, subst}
 use Rattle.std.specs.List.{slice_get}
 use Rattle.std.specs.declared.cmp.PartialEq as eq
 use Rattle.std.specs.declared.hash.Hash as hash

@@ -1,16 +1,12 @@
 -- What holds of the pairs of a map under a rule: equal keys are alike to the rule.
-use Rattle.std.proofs.Common.{◌≡◌, ◌∙◌, ◌++◌, ◌∷◌, [], ℕ, suc, Bool, true, false, List, Option, Some, None, Result, length, take, drop, map, sym, ap, subst, append_assoc, take-append-drop}
-use Rattle.std.specs.Borrow.{Bor, MutBor}
-use Rattle.std.specs.Fn.{Mut}
+use Rattle.std.proofs.Common.{◌≡◌, ◌∙◌, ◌++◌, ◌∷◌, [], ℕ, suc, Bool, true, false, List, Some, take, drop, map, sym, ap, subst, append_assoc, take-append-drop}
 use Rattle.std.specs.List.{find, slice_get, AllByRecursion, IsDistinct}
 use Rattle.std.proofs.lemmas.Map.Keys.{IsDistinct-head, IsDistinct-tail, IsDistinct-cons}
 use Rattle.scc_buckets.proofs.Finds.{lookup-find}
 use Rattle.scc_buckets.proofs.Placed.{take-more}
-use Rattle.scc_common.specs.PairWalks.{TakesToWrite}
 use Rattle.scc_owned.specs.IndexWalks.{Retains}
 use Rattle.scc_owned.specs.IndexWalks as versions
 use Rattle.scc_rules.specs.Rules.{AllKeep}
-use Rattle.scc_rules.specs.Walks.{TakesEachToWrite}
 use Rattle.scc_rules.proofs.Lists.{all-append, all-parts}
 use Rattle.scc_table.proofs.places.Replies.{find-key}
 
@@ -22,10 +18,6 @@ module _ {K V : Type 0} (eq : K → K → Bool) (holds : K → V → Type 0) (al
 -- the pair that a search finds has a key equal to the one looked for
 pub found-key : {K V : Type 0} (eq : K → K → Bool) (es : List (K × V)) (k : K) (p : K × V) → find (λ e. eq k e.0) es ≡ Some p → eq k p.0 ≡ true
 found-key eq es k p e = find-key eq es k p (lookup-find (eq k) es ∙ e)
-
--- a closure that takes each pair that keeps the rule takes this one
-pub takes-here : {F K V A : Type 0} (holds : K → V → Type 0) (g : Mut F (Bor K × (MutBor V × Unit {0})) (A × (MutBor V × Unit {0}))) → TakesEachToWrite holds g → (f : F) (p : K × V) → holds p.0 p.1 → TakesToWrite g f p
-takes-here holds g takes f p h key value shows = takes f key value (subst (λ (q : K × V). holds q.0 q.1) (sym shows) h)
 
 -- if a walk has met es, and p stands next, it has met es and p
 pub one-more : {X : Type 0} (all es rest left : List X) (p : X) → all ≡ es ++ left → left ≡ p ∷ rest → all ≡ (es ++ p ∷ []) ++ rest

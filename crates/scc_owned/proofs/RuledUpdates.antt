@@ -1,5 +1,5 @@
 -- What a call on one key of a map or an index under a rule meets at the pair that it finds.
-use Rattle.std.proofs.Common.{◌≡◌, ◌∙◌, Bool, true, Option, None, Some, sym, ap, subst}
+use Rattle.std.proofs.Common.{◌≡◌, ◌∙◌, Bool, true, Option, None, Some, sym, subst}
 use Rattle.std.specs.Borrow.{Bor, MutBor}
 use Rattle.std.specs.Fn.{Once}
 use Rattle.std.specs.List.{find, slice_get}
@@ -8,7 +8,7 @@ use Rattle.scc_buckets.specs.declared.place.Place.{Place}
 use Rattle.scc_buckets.proofs.Finds.{lookup-find}
 use Rattle.scc_common.specs.Contents.{Contents, entries}
 use Rattle.scc_common.specs.Pairs.{with_pair_value}
-use Rattle.scc_rules.specs.Rules.{IsCalledToWrite, Keeps, WritesKept}
+use Rattle.scc_rules.specs.Rules.{IsCalledToWrite, WritesKept}
 use Rattle.scc_table.specs.Places.{IsFoundAt, index_of}
 use Rattle.scc_table.specs.Removals.{RemovesFirst}
 use Rattle.scc_table.specs.Updates.{UpdatesFirst}

@@ -117,10 +117,7 @@ impl<K: Eq, V, R: Rule<K, V>> Paired for Ruled<K, V, R> {
     }
 
     #[inline(always)]
-    fn all<H: BuildHasher, F: FnMut(&K, &V) -> bool>(
-        owned: &Owned<Ruled<K, V, R>, H>,
-        f: F,
-    ) -> bool
+    fn all<H: BuildHasher, F: FnMut(&K, &V) -> bool>(owned: &Owned<Ruled<K, V, R>, H>, f: F) -> bool
     where
         K: Hash,
     {

@@ -3,8 +3,8 @@ ghost use Rattle.std.specs.Prelude.{◌≡◌, ◌≤◌, ◌<◌, ◌*◌, ◌^
 
 use scc_common::Verdict;
 use scc_owned::ruled_map::locked::Entry;
-use scc_shared::ruled_map::RuledMap;
 use scc_rules::Rule;
+use scc_shared::ruled_map::RuledMap;
 use std::hash::{BuildHasher, Hash};
 use std::sync::Wait;
 

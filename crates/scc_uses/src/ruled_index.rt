@@ -4,8 +4,8 @@ ghost use Rattle.std.specs.Prelude.{◌≡◌, ◌≤◌, IfErr, IfOk, IfSome, I
 
 use scc_common::{MakeError, Version};
 use scc_owned::ruled_index::locked::Entry;
-use scc_shared::ruled_index::RuledIndex;
 use scc_rules::Rule;
+use scc_shared::ruled_index::RuledIndex;
 use std::sync::{Arc, Wait};
 
 /// The greatest distance of a route.

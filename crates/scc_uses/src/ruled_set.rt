@@ -1,8 +1,8 @@
 //! Callers of a set under a rule: even numbers.
 ghost use Rattle.std.specs.Prelude.{◌≡◌, ◌*◌, ◌%◌, ◌<◌, ◌^◌, IfSome};
 
-use scc_shared_set::RuledSet;
 use scc_rules::Rule;
+use scc_shared_set::RuledSet;
 use std::sync::Wait;
 
 /// The rule that a number is even.

@@ -3,8 +3,8 @@
 use crate::expect::{expect, expect_eq};
 use scc_common::MakeError;
 use scc_owned::ruled_index::locked::Entry;
-use scc_shared::ruled_index::RuledIndex;
 use scc_rules::Anything;
+use scc_shared::ruled_index::RuledIndex;
 use scc_uses::ruled_index::{
     Ways, hops_for_neighbours, lead_there, offer, shorten, way_to, withdraw,
 };

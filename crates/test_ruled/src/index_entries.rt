@@ -3,8 +3,8 @@
 use crate::expect::{expect, expect_eq};
 use scc_common::InsertError;
 use scc_owned::ruled_index::locked::{Entry, OccupiedEntry};
-use scc_shared::ruled_index::RuledIndex;
 use scc_rules::Anything;
+use scc_shared::ruled_index::RuledIndex;
 use std::process::Abort;
 use std::sync::Wait;
 use std::test::Fail;

@@ -3,8 +3,8 @@
 use crate::expect::{expect, expect_eq};
 use scc_common::MakeError;
 use scc_owned::ruled_map::locked::Entry;
-use scc_shared::ruled_map::RuledMap;
 use scc_rules::Anything;
+use scc_shared::ruled_map::RuledMap;
 use scc_uses::ruled::{
     Squares, TokenSessions, are_short, opened, renewed, square_of, sweep_sessions,
 };

@@ -2,8 +2,8 @@
 // such a set.
 use crate::expect::{expect, expect_eq};
 use scc_common::Verdict;
-use scc_shared_set::RuledSet;
 use scc_rules::Anything;
+use scc_shared_set::RuledSet;
 use scc_uses::ruled_set::{Evens, half_of, insert_double, take_first_half, take_half};
 use std::process::Abort;
 use std::sync::Wait;

@@ -1,6 +1,7 @@
 //! The calls of an entry of a map under a rule that write to its value, alike for all guards. None lends the value to
 //! write, since its caller could then break the rule.
 ghost use Rattle.scc_common.specs.Closures.{TakesAt, WritesAt};
+ghost use Rattle.scc_common.specs.Contents.{waiting_of};
 ghost use Rattle.scc_common.specs.Pairs.{IsUnique};
 ghost use Rattle.scc_owned.specs.Held.{entry_guard, occupied_contents, occupied_pair};
 ghost use Rattle.scc_owned.specs.MapEntries.{IsWritten, Modifies};
@@ -32,6 +33,7 @@ impl<
         ensures step { IsWritten self.old value self.new }
         ensures written { occupied_pair self.new ≡ ((occupied_pair self.old).0, value) }
         ensures seat { occupied_rest self.new ≡ occupied_rest self.old }
+        ensures waiting { waiting_of (occupied_contents self.new) ≡ waiting_of (occupied_contents self.old) }
         ensures unique { IsUnique K.eq (occupied_contents self.new) }
     {
         let place = self.place;

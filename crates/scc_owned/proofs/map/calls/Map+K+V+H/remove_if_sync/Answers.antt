@@ -1,4 +1,4 @@
-use Rattle.std.proofs.Common.{◌≡◌, Some, refl, ap, rules, true, false, ◌+◌}
+use Rattle.std.proofs.Common.{Some, refl, ap, rules, true, false, ◌+◌}
 use Rattle.scc_common.specs.Contents.{entries}
 use Rattle.scc_table.specs.Placed.{IsPlace-with_write_at}
 use Rattle.scc_common.specs.Pairs.{with_pair_value}

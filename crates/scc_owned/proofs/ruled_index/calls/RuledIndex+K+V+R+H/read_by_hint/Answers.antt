@@ -1,4 +1,4 @@
-use Rattle.std.proofs.Common.{◌≡◌, true, refl, sym}
+use Rattle.std.proofs.Common.{refl, sym}
 use Rattle.scc_common.specs.Contents.{entries}
 use Rattle.scc_owned.proofs.RuledPairs.{found-key, under}
 use Rattle.scc_owned.proofs.ruled_index.calls.RuledIndex+K+V+R+H.read_by_hint.Goals as goal

@@ -1,5 +1,5 @@
-use Rattle.std.proofs.Common.{ap, refl}
-use Rattle.scc_owned.specs.Held.{Occupied}
+use Rattle.std.proofs.Common.{ap, refl, subst}
+use Rattle.scc_owned.specs.Held.{Occupied, occupied_pair}
 use Rattle.scc_owned.proofs.ruled_index.held.HeldEntry+G+N+RuledVersion+K+V+R+H.and_modify.Goals as goal
 
 pub returns-in-Ok-clause-modifies : goal.returns-in-Ok-clause-modifies
@@ -13,3 +13,8 @@ returns-in-Ok-clause-waiting g c = rw c.in-Occupied.is c.update.ensures.waiting
 
 pub returns-in-Vacant-clause-waiting : goal.returns-in-Vacant-clause-waiting
 returns-in-Vacant-clause-waiting g c = rw c.in-Vacant.is refl
+
+pub update-requires : goal.update-requires
+update-requires g c =
+    let keeps = rw c.in-Occupied.is at c.requires.keeps in
+    keeps c.f-value.result (subst (λ (x : g.row.V.Denot). g.R.Rule.holds (occupied_pair c.in-Occupied.entry).0 x) c.get.ensures.value c.get.ensures.allowed) (c.get.result, c.f-value.ensures, c.get.ensures.value)

@@ -20,8 +20,7 @@ pub returns-then-p-clause-place : goal.returns-then-p-clause-place
 returns-then-p-clause-place g c =
     let es = entries c.args.self.now in
     let i = index_of c.args.self.now c.in-Some.place in
-    let here = c.pair_at.ensures.pair in
-    (
+    let here = c.pair_at.ensures.pair in (
       rw c.in-Some.is at c.loop-at.invariant.within,
       record { pair = _; here = here; first = record { before = c.loop-at.p; last = c.p.new.self; declines = rw c.in-Some.is at c.loop-at.invariant.declines; passes = record { key = _; value = _; shows = refl; called = c.if-p.ensures } } },
       keep-taken g.R.Rule.holds es i _ here (rw c.in-Some.is at c.loop-at.invariant.kept) c.pair_at.ensures.kept,

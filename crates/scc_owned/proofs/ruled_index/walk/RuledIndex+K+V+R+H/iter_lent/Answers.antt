@@ -20,8 +20,7 @@ returns-then-not-f-clause-walks g c =
     let es = entries c.args.self.now in
     let i = index_of c.args.self.now c.in-Some.place in
     let here = c.pair_at.ensures.pair in
-    let walks = rw c.in-Some.is at c.loop-at.invariant.walks in
-    (
+    let walks = rw c.in-Some.is at c.loop-at.invariant.walks in (
       suc i,
       keep-taken g.R.Rule.holds es i _ here (rw c.in-Some.is at c.loop-at.invariant.kept) c.pair_at.ensures.kept,
       rw (take-more es i _ here) (walk-ends (take i es) _ walks record { key = _; value = _; shows = refl; called = c.if-not-f.ensures }),

@@ -1,4 +1,4 @@
-use Rattle.std.proofs.Common.{◌≡◌, ◌∙◌, ap, ◌++◌, ◌∷◌, [], refl, sym, length, drop, subst, suc, append-nil}
+use Rattle.std.proofs.Common.{◌∙◌, ap, ◌++◌, ◌∷◌, [], refl, sym, length, drop, subst, suc, append-nil}
 use Rattle.scc_common.specs.Contents.{entries}
 use Rattle.scc_owned.specs.IndexWalks.{ended, kept, removed}
 use Rattle.scc_rules.specs.Rules.{AllKeep}

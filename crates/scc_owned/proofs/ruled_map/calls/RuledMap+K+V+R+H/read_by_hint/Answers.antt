@@ -1,4 +1,4 @@
-use Rattle.std.proofs.Common.{◌≡◌, true, refl, sym, subst}
+use Rattle.std.proofs.Common.{◌≡◌, true, refl, sym}
 use Rattle.scc_common.specs.Contents.{entries}
 use Rattle.scc_owned.proofs.RuledPairs.{found-key, under}
 use Rattle.scc_owned.proofs.ruled_map.calls.RuledMap+K+V+R+H.read_by_hint.Goals as goal

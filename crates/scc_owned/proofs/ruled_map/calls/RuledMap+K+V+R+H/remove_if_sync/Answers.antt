@@ -4,7 +4,7 @@ use Rattle.scc_common.specs.Contents.{entries}
 use Rattle.scc_common.specs.Pairs.{with_pair_value}
 use Rattle.scc_table.specs.Placed.{IsPlace-with_write_at}
 use Rattle.scc_table.specs.Places.{IsPlace, index_of}
-use Rattle.scc_owned.proofs.Found.{found-equal, found-pair}
+use Rattle.scc_owned.proofs.Found.{found-pair}
 use Rattle.scc_owned.proofs.RuledUpdates.{met-there}
 use Rattle.scc_owned.proofs.ruled_map.calls.RuledMap+K+V+R+H.remove_if_sync.Goals as goal
 

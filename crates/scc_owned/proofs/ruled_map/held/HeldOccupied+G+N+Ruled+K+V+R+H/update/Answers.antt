@@ -1,5 +1,4 @@
 use Rattle.std.proofs.Common.{sym, subst}
-use Rattle.std.specs.Fn.{FnOnceReturnsAtMut, FnOnceTakesAtMut}
 use Rattle.scc_common.specs.Closures.{TakesAt, WritesAt}
 use Rattle.scc_rules.specs.Rules.{IsKept}
 use Rattle.scc_owned.proofs.HeldEntries.{pair-is}

@@ -1,4 +1,4 @@
-use Rattle.std.proofs.Common.{◌∙◌, ap, sym, rules, Some}
+use Rattle.std.proofs.Common.{◌∙◌, ap, sym, Some}
 use Rattle.scc_owned.proofs.ruled_map.places.RuledMap+K+V+R+H.take_with_next.Goals as goal
 
 pub returns-clause-step : goal.returns-clause-step

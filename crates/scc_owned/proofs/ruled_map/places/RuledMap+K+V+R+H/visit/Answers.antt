@@ -1,4 +1,3 @@
-use Rattle.scc_owned.proofs.RuledPairs.{takes-here}
 use Rattle.scc_owned.proofs.ruled_map.places.RuledMap+K+V+R+H.visit.Goals as goal
 
 pub visit_at-requires-clause-keeps : goal.visit_at-requires-clause-keeps

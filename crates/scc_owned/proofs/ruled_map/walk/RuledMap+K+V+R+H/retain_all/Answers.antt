@@ -1,8 +1,7 @@
-use Rattle.std.proofs.Common.{◌≡◌, ◌∙◌, ap, ◌++◌, ◌∷◌, [], refl, sym, length, drop, subst, suc, append-nil}
+use Rattle.std.proofs.Common.{◌∙◌, ap, ◌++◌, ◌∷◌, [], refl, sym, length, drop, subst, append-nil}
 use Rattle.scc_common.specs.Contents.{entries}
 use Rattle.scc_common.specs.PairWalks.{ended, kept, removed}
 use Rattle.scc_rules.specs.Rules.{AllKeep}
-use Rattle.scc_buckets.specs.Places.{index_of_spot}
 use Rattle.scc_buckets.proofs.Placed.{drop-all}
 use Rattle.scc_table.specs.Places.{spot_of}
 use Rattle.scc_table.proofs.walks.Reach.{walk_spot}

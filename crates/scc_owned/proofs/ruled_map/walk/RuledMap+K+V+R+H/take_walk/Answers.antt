@@ -1,4 +1,4 @@
-use Rattle.std.proofs.Common.{◌≡◌, ◌∙◌, ◌++◌, ◌∷◌, [], sym, ap, refl, length, drop, subst, suc, append-nil, append_assoc, arith}
+use Rattle.std.proofs.Common.{◌∙◌, ◌++◌, ◌∷◌, [], sym, ap, refl, length, drop, subst, append-nil, append_assoc, arith}
 use Rattle.scc_common.specs.Contents.{entries}
 use Rattle.scc_common.specs.PairWalks.{ended, refused, kept, took, kept_last, took_last}
 use Rattle.scc_rules.specs.Rules.{AllKeep}
@@ -21,8 +21,7 @@ returns-in-Err-clause-calls g c =
     let m = c.loop-at.self in
     let seen = rw c.in-Some.is at c.loop-at.invariant.seen in
     let p : g.row.K.Denot × g.row.V.Denot = (c.pair_at.result.0.now, c.pair_at.result.1.now) in
-    let here = drop-here (entries m) (index_of m c.in-Some.place) p c.pair_at.ensures.pair in
-    (
+    let here = drop-here (entries m) (index_of m c.in-Some.place) p c.pair_at.ensures.pair in (
       seen.0 ++ p ∷ [],
       _,
       seen.1 ++ p ∷ [],
@@ -121,8 +120,7 @@ returns-in-KeepStop-clause-calls g c =
     let x = c.in-KeepStop.ensures in
     let within = rw c.in-Some.is at c.loop-at.invariant.within in
     let seen = rw c.in-Some.is at c.loop-at.invariant.seen in
-    let v = visited c.loop-at.self (spot_of c.loop-at.self c.in-Some.place) x.0 x.1 c.visit.new.self within x.2 x.4 in
-    (
+    let v = visited c.loop-at.self (spot_of c.loop-at.self c.in-Some.place) x.0 x.1 c.visit.new.self within x.2 x.4 in (
       seen.0 ++ x.0 ∷ [],
       _,
       seen.1 ++ (x.0.0, x.1) ∷ [],
@@ -148,8 +146,7 @@ returns-in-TakeStop-clause-calls g c =
     let seen = rw c.in-Some.is at c.loop-at.invariant.seen in
     let v = visited c.loop-at.self (spot_of c.loop-at.self c.in-Some.place) x.0 x.1 c.visit.new.self within x.2 x.4 in
     let out = c.take_into.ensures.taken in
-    let pair = pair-out c.loop-at.self c.in-Some.place x.0 x.1 c.visit.new.self x.4 v out.0 out.1 in
-    (
+    let pair = pair-out c.loop-at.self c.in-Some.place x.0 x.1 c.visit.new.self x.4 v out.0 out.1 in (
       seen.0 ++ x.0 ∷ [],
       _,
       seen.1 ++ [],
