@@ -16,14 +16,39 @@ type Numbers = RuledMap<u64, u64, Anything>;
 /// Keys, each with a value that is made for it, and the value that the key has then.
 const MADE: [(u64, u64, u64); 4] = [(4, 40, 40), (4, 41, 40), (5, 50, 50), (4, 42, 40)];
 
+/// Keys, each with the value that is made for it, if it is made, and the value that the call returns then.
+const TRIED: [(u64, Option<u64>, Option<u64>); 5] = [
+    (4, None, None),
+    (4, Some(40), Some(40)),
+    (4, None, Some(40)),
+    (4, Some(41), Some(40)),
+    (5, None, None),
+];
+
 #[test]
 fn a_value_is_made_for_a_missing_key(rt: HostRuntime) -> Result<(), Fail> {
     let map: Numbers = RuledMap::new(rt.alloc())?;
+    let cloned: Numbers = RuledMap::new(rt.alloc())?;
     for (number, (key, value, wanted)) in MADE.iter().enumerate() {
         let found = map.get_or_insert_with(&rt, *key, |_| *value);
         expect_eq(&rt, (number, found), (number, *wanted));
+        let found = cloned.get_or_insert_cloned(&rt, *key, |_| *value)?;
+        expect_eq(&rt, (number, found), (number, *wanted));
     }
-    expect_eq(&rt, map.len(&rt), 2);
+    expect_eq(&rt, (map.len(&rt), cloned.len(&rt)), (2, 2));
+    Ok(())
+}
+
+#[test]
+fn a_value_that_is_not_made_is_tried_again(rt: HostRuntime) -> Result<(), Fail> {
+    let map: Numbers = RuledMap::new(rt.alloc())?;
+    for (number, (key, value, wanted)) in TRIED.iter().enumerate() {
+        let found = map
+            .get_or_try_insert_with(&rt, *key, |_| value.ok_or(number))
+            .ok();
+        expect_eq(&rt, (number, found), (number, *wanted));
+    }
+    expect_eq(&rt, map.len(&rt), 1);
     Ok(())
 }
 
