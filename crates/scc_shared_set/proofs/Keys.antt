@@ -3,10 +3,10 @@ use Rattle.std.proofs.Common.{◌≡◌, ℕ, Bool, true, false, List, [], ◌�
 use Rattle.std.specs.List.{flat_map, IsDistinct}
 use Rattle.std.proofs.lemmas.List.{length-map, map-append, map-id}
 use Rattle.std.proofs.lemmas.List.Elements.{All-weaker, All-map}
-use Rattle.std.specs.Borrow.{Bor, MutBor}
-use Rattle.std.specs.Fn.{Mut, Once, Called, CalledAt, TakesAt, FnOnceReturnsAt, FnOnceReturnsAtMut}
+use Rattle.std.specs.Borrow.{Bor}
+use Rattle.std.specs.Fn.{Mut, Once, Called, CalledAt, TakesAt, FnOnceReturnsAt}
 use Rattle.std.specs.Map.{keys_of}
-use denote.Param.Always.{always_mut, mut_by, mut_next}
+use denote.Param.Always.{always_mut, mut_next}
 use Rattle.scc_common.specs.Walks.{CalledOn}
 use Rattle.scc_common.specs.PairWalks as writes
 use Rattle.scc_common.specs.Replies as replies

@@ -1,5 +1,5 @@
 -- Pairs with unit values that keep a rule, as keys.
-use Rattle.std.proofs.Common.{◌≡◌, Bool, List, [], ◌∷◌, subst}
+use Rattle.std.proofs.Common.{Bool, List, [], ◌∷◌, subst}
 use Rattle.std.specs.Borrow.{Bor}
 use Rattle.std.specs.Fn.{Once, FnOnceReturnsAt}
 use Rattle.std.specs.Map.{keys_of}

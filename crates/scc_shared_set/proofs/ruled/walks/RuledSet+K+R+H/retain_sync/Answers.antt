@@ -7,7 +7,7 @@ pub retain_sync-requires-clause-callable : goal.retain_sync-requires-clause-call
 retain_sync-requires-clause-callable g c = λ s a b kept. c.requires s.0 a.now kept
 
 pub retain_sync-requires-clause-keeps : goal.retain_sync-requires-clause-keeps
-retain_sync-requires-clause-keeps g c = λ s t p w kept called. kept
+retain_sync-requires-clause-keeps g c = λ s t p r w kept called. kept
 
 pub returns : goal.returns
 returns g c =
