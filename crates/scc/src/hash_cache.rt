@@ -4,6 +4,5 @@ pub mod ruled;
 
 pub use scc_cache::{
     DEFAULT_MAXIMUM_CAPACITY, Entry, EvictedEntry, HashCache, OccupiedEntry, Owned, ReplaceResult,
-    VacantEntry, owned,
+    RuledCache, VacantEntry, owned,
 };
-pub use scc_ruled_cache::RuledCache;
