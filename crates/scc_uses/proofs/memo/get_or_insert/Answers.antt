@@ -19,7 +19,7 @@ returns-clause-stored c =
       | Occupied p ↦ λ at is. rw is (sym (eqb-true c.args.key (occupied_pair p).0 at.equal))
       | Vacant d ↦ λ at is. ap (λ x. x.0) is.at.here ∙ at.key
     ]) c.entry_sync.ensures.entry c.in_ok-entry.ensures.inserts.entry in
-    let pair : occupied_pair o ≡ (c.args.key, c.get.result.now) = ap (λ k. (k, (occupied_pair o).1)) key ∙ ap (λ v. (c.args.key, v)) (sym c.get.ensures) in
+    let pair : occupied_pair o ≡ (c.args.key, c.get.result.now) = ap (λ k. (k, (occupied_pair o).1)) key ∙ ap (λ v. (c.args.key, v)) (sym c.get.ensures.value) in
     let last = c.values-2-1.given.1 (search rules) in
     let found = subst (λ q. FindsInstead nat_eq (entries c.args.values.now) c.args.key (Some q) (entries o.guard.now)) pair h in
     subst (λ e. FindsInstead nat_eq (entries c.args.values.now) c.args.key (Some (c.args.key, c.get.result.now)) (entries e)) (sym last) found
