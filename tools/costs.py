@@ -10,6 +10,8 @@ import functools
 from repository import TOP, below, files_of, graph, longest_chain
 
 MINUTES = f"{TOP}/tools/measured_minutes.txt"
+# The crates that have the owned form of a kind, each with those that have its other forms.
+HALVES = {"scc_owned": ("scc_shared",), "scc_owned_set": ("scc_shared_set",), "scc_owned_cache": ("scc_shared_cache",)}
 
 
 @functools.lru_cache(maxsize=None)
@@ -47,13 +49,24 @@ def minutes_of(crates):
     return max(1, round(sum(map(minutes_of_crate, crates))))
 
 
-def chain_to(crate):
+def chain_to(crate, cost=minutes_of_crate):
     """The last crate and the minutes of the longest chain of crates that wait for one another, below a crate or, if it is
     None, of all."""
     crates = graph()
     wanted = below(crate) if crate else crates
-    chain, minutes = longest_chain({name: crates[name] for name in crates if name in wanted}, {name: minutes_of_crate(name) for name in wanted})
+    chain, minutes = longest_chain({name: crates[name] for name in crates if name in wanted}, {name: cost(name) for name in wanted})
     return chain[-1], max(1, round(minutes))
+
+
+def minutes_of_kind(crate):
+    """The processor minutes of a crate and, if it has the owned form of a kind, of the crates of the other forms."""
+    return minutes_of_crate(crate) + sum(minutes_of_crate(other) for other in HALVES.get(crate, ()) if other in graph())
+
+
+def costs_of_kinds(crate):
+    """What a first proof of a crate would cost if all forms of a kind were one crate: processor minutes, and how many of
+    these one after the other."""
+    return max(1, round(sum(map(minutes_of_kind, below(crate))))), chain_to(crate, minutes_of_kind)[1]
 
 
 def costs(crate):

@@ -2,9 +2,7 @@
 import contextlib
 import io
 import os
-import tempfile
 import unittest
-from unittest import mock
 
 import tools
 import repository
@@ -14,17 +12,10 @@ built = tools.tool("built")
 
 class Built(unittest.TestCase):
     def setUp(self):
-        folder = tempfile.TemporaryDirectory(prefix="built-")
-        self.addCleanup(folder.cleanup)
-        self.top = folder.name
-        tools.write(self.top, {"crates.txt": "app: low\nlow:\nother:\n", "rt": "#!/bin/sh\necho kit 1\n"})
+        self.top = tools.scratch(self, {"crates.txt": "app: low\nlow:\nother:\n", "rt": "#!/bin/sh\necho kit 1\n"})
         tools.write(f"{self.top}/crates", {"app/src/main.rt": "fn main() {}\n", "app/out/app": "program", "low/src/lib.rt": "", "other/src/lib.rt": ""})
-        os.chmod(f"{self.top}/rt", 0o755)
         top, lines = self.top, repository.below
-        for name, value in {"TOP": top, "RT": f"{top}/rt", "below": lambda crate: lines(crate, top), "files_of": lambda crate: repository.files_of(crate, top=top), "listed": lambda: repository.listed(top)}.items():
-            patched = mock.patch.object(built, name, value)
-            patched.start()
-            self.addCleanup(patched.stop)
+        tools.stand_in(self, built, TOP=top, RT=f"{top}/rt", below=lambda crate: lines(crate, top), files_of=lambda crate: repository.files_of(crate, top=top), listed=lambda: repository.listed(top))
 
     def call(self, *words):
         """The status, and what is printed."""

@@ -1,5 +1,4 @@
 """Edits whose judge is a test: which tests they may name, and what a run says of them. The runs are made up."""
-import tempfile
 import unittest
 from unittest import mock
 
@@ -15,14 +14,11 @@ EDIT = ["test: high adds_one", "file: src/lib.rt", "old: a + 1", "new: a"]
 
 class ByTest(unittest.TestCase):
     def setUp(self):
-        folder = tempfile.TemporaryDirectory(prefix="by-test-")
-        self.addCleanup(folder.cleanup)
-        self.top = f"{folder.name}/repository"
-        self.copy = f"{folder.name}/copy"
+        folder = tools.scratch(self)
+        self.top = f"{folder}/repository"
+        self.copy = f"{folder}/copy"
         tools.write(self.top, {"crates.txt": "low:\nhigh: low\nalone:\n", "HANDLES": "none\n", "crates/low/src/lib.rt": "a + 1\n", "crates/high/src/lib.rt": TESTS, "crates/high/out/rlib": "", "crates/alone/src/lib.rt": TESTS})
-        patched = mock.patch.object(by_test, "TOP", self.top)
-        patched.start()
-        self.addCleanup(patched.stop)
+        tools.stand_in(self, by_test, TOP=self.top)
 
     def wrong(self, test):
         return by_test.wrong_with(edits.Edit("low", "one", [f"test: {test}", *EDIT[1:]]), CRATES)

@@ -1,7 +1,5 @@
 """Edits: how their lines are read, how they change a file, and what is wrong with them."""
-import tempfile
 import unittest
-from unittest import mock
 
 import tools
 import edits
@@ -12,13 +10,8 @@ SOURCE = "fn len(a: usize) {\n    let gone = f();\n    a + 1\n}\n"
 
 class Edits(unittest.TestCase):
     def setUp(self):
-        folder = tempfile.TemporaryDirectory(prefix="edits-")
-        self.addCleanup(folder.cleanup)
-        self.top = folder.name
-        tools.write(self.top, {"crates/low/src/lib.rt": SOURCE, "crates/low/src/other.rt": "true\n", "slips/low/shorter.edit": LINES})
-        patched = mock.patch.object(edits, "TOP", self.top)
-        patched.start()
-        self.addCleanup(patched.stop)
+        self.top = tools.scratch(self, {"crates/low/src/lib.rt": SOURCE, "crates/low/src/other.rt": "true\n", "slips/low/shorter.edit": LINES})
+        tools.stand_in(self, edits, TOP=self.top)
 
     def edit(self, *changes, function="low::Table::len"):
         """An edit with these lines."""

@@ -2,7 +2,6 @@
 import contextlib
 import io
 import os
-import tempfile
 import unittest
 
 import tools
@@ -12,9 +11,7 @@ guide = tools.tool("guide")
 
 class Steps(unittest.TestCase):
     def setUp(self):
-        folder = tempfile.TemporaryDirectory(prefix="guide-test-")
-        self.addCleanup(folder.cleanup)
-        self.walk = guide.Walk(folder.name, False)
+        self.walk = guide.Walk(tools.scratch(self), False)
         os.makedirs(f"{self.walk.folder}/src")
 
     def text(self, path):

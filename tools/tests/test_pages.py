@@ -1,5 +1,4 @@
 """Which counts and which copied code on a page are wrong."""
-import tempfile
 import unittest
 
 import tools
@@ -36,8 +35,9 @@ class Counts(unittest.TestCase):
 The longest chain, to `nothing`, takes 1000 processor minutes; the one to `scc` takes 1000.
 From nothing it takes some 1000 minutes on two cores.
 `scc_owned` alone takes 1000 processor minutes to prove, and all below it 1000.
+`scc_recorded` would take 1000 processor minutes with all below it, not 1000, of which 1000, not 1000, one after the other.
 """
-        self.assertEqual(len(self.wrong(text)), 5)
+        self.assertEqual(len(self.wrong(text)), 6)
         written = pages.with_right_counts(text)
         self.assertEqual(self.wrong(written), [])
         self.assertIn("| Tests, of which `", written)
@@ -64,6 +64,13 @@ class Costs(unittest.TestCase):
             costs_of.measured().update(before)
             costs_of.minutes_of_line.cache_clear()
 
+    def test_kinds_in_one_crate_cost_their_shared_forms_too(self):
+        minutes, chain = costs_of.costs_of_kinds("scc_recorded")
+        self.assertGreater(minutes, costs("scc_recorded")[1])
+        self.assertGreater(chain, costs("scc_recorded")[2])
+        self.assertEqual(costs_of.costs_of_kinds("scc_table"), costs("scc_table")[1:])
+        self.assertLessEqual({name for names in costs_of.HALVES.values() for name in names} | costs_of.HALVES.keys(), graph().keys())
+
     def test_a_chain_is_a_part_of_all_below(self):
         self.assertLessEqual(costs_of.chain_to("scc_map")[1], costs("scc_map")[1])
         self.assertGreaterEqual(costs_of.chain_to(None)[1], costs_of.chain_to("scc")[1])
@@ -71,15 +78,12 @@ class Costs(unittest.TestCase):
 
 class OfNames(unittest.TestCase):
     def setUp(self):
-        folder = tempfile.TemporaryDirectory(prefix="names-")
-        self.addCleanup(folder.cleanup)
-        tools.write(folder.name, {
+        self.names = Names(tools.scratch(self, {
             "crates/low/src/lib.rt": "pub struct Table; // OnlySaid\n",
             "crates/low/must-fail/wrong_body.edit": "",
             "docs/RULES.md": "NotAWord\n",
             "tools/measured_minutes.txt": "crate_gone 1.0\n",
-        })
-        self.names = Names(folder.name)
+        }))
 
     def test_what_is_there(self):
         self.assertEqual(self.names.missing_on("`Table` of `crates/low/src/lib.rt`, `docs/RULES.md`, `low/wrong_body`, `docs/*.md`"), {})

@@ -1,6 +1,4 @@
 """How tools/quick counts tests, and what it takes of a program, beside an rt that builds nothing."""
-import os
-import tempfile
 import unittest
 from unittest import mock
 
@@ -11,18 +9,12 @@ quick = tools.tool("quick")
 
 class Quick(unittest.TestCase):
     def setUp(self):
-        folder = tempfile.TemporaryDirectory(prefix="quick-")
-        self.addCleanup(folder.cleanup)
-        self.top = folder.name
-        tools.write(self.top, {"crates/program/stdout": "said\n", "crates/program/status": "3\n", "crates/tests/src/lib.rt": ""})
-        top = mock.patch.object(quick, "TOP", self.top)
-        top.start()
-        self.addCleanup(top.stop)
+        self.top = tools.scratch(self, {"crates/program/stdout": "said\n", "crates/program/status": "3\n", "crates/tests/src/lib.rt": ""})
+        tools.stand_in(self, quick, TOP=self.top)
 
     def ran(self, what, crate, script):
         """What a function of the tool answers if rt does what a script says."""
         tools.write(self.top, {"rt": f"#!/bin/sh\n{script}\n"})
-        os.chmod(f"{self.top}/rt", 0o755)
         with mock.patch.object(quick, "RT", f"{self.top}/rt"):
             return what(crate)[0]
 

@@ -1,7 +1,6 @@
 """What the tools share: the crates, their files, their tests and the longest chain."""
 import contextlib
 import io
-import tempfile
 import unittest
 
 import tools
@@ -19,10 +18,7 @@ alone tests_may=Threads+Wait: thiserror
 
 class OfSmallRepository(unittest.TestCase):
     def setUp(self):
-        folder = tempfile.TemporaryDirectory(prefix="repository-")
-        self.addCleanup(folder.cleanup)
-        self.top = folder.name
-        tools.write(self.top, {"crates.txt": CRATES})
+        self.top = tools.scratch(self, {"crates.txt": CRATES})
 
     def test_lines_and_graph(self):
         lines = repository.listed(self.top)

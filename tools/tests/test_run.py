@@ -2,7 +2,6 @@
 import os
 import signal
 import subprocess
-import tempfile
 import unittest
 
 import tools
@@ -23,11 +22,8 @@ exit 2
 
 class Runs(unittest.TestCase):
     def setUp(self):
-        folder = tempfile.TemporaryDirectory(prefix="run-")
-        self.addCleanup(folder.cleanup)
-        tools.write(folder.name, {"rt": RT})
-        os.chmod(f"{folder.name}/rt", 0o755)
-        self.environment = {**os.environ, "PATH": f"{folder.name}:{os.environ['PATH']}", "ENDED": "run=ended status=2"}
+        folder = tools.scratch(self, {"rt": RT})
+        self.environment = {**os.environ, "PATH": f"{folder}:{os.environ['PATH']}", "ENDED": "run=ended status=2"}
 
     def started(self, *words, **more):
         how = {"stdin": subprocess.PIPE, "stdout": subprocess.PIPE, "stderr": subprocess.PIPE, "text": True, "start_new_session": True}

@@ -2,7 +2,6 @@
 import contextlib
 import io
 import os
-import tempfile
 import unittest
 from unittest import mock
 
@@ -40,9 +39,7 @@ class Chosen(unittest.TestCase):
 
 class Copies(unittest.TestCase):
     def setUp(self):
-        folder = tempfile.TemporaryDirectory(prefix="slips-test-")
-        self.addCleanup(folder.cleanup)
-        self.top = folder.name
+        self.top = tools.scratch(self)
 
     def test_a_copy_is_brought_up_to_date_and_keeps_what_was_built(self):
         tools.write(self.top, {"here/src/lib.rt": "new", "here/src/b/one.rt": "", "here/out/rlib/a": "of here"})

@@ -8,7 +8,7 @@ use crate::request::Request;
 use crate::threads::run;
 use bench_kit::arguments::out_of_memory;
 use bench_kit::report::threads_line;
-use scc_owned_memo::{Memo, Pure};
+use scc_memo::{Memo, Pure};
 use std::alloc::Global;
 use std::hash::{BuildHasherDefault, FoldHasher};
 use std::io;

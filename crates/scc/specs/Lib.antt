@@ -29,7 +29,7 @@ pub use Rattle.scc_history.specs.Stamps
 pub use Rattle.scc_owned.specs.MapSteps
 pub use Rattle.scc_owned.specs.Entries
 pub use Rattle.scc_owned.specs.Lends
-pub use Rattle.scc_owned_memo.specs.Memos
+pub use Rattle.scc_memo.specs.Memos
 pub use Rattle.scc_recorded.specs.Adds
 pub use Rattle.scc_recorded.specs.Closing
 pub use Rattle.scc_recorded.specs.Finished

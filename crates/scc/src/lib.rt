@@ -15,6 +15,7 @@ pub use hash_cache::{HashCache, RuledCache};
 pub use hash_index::{HashIndex, RuledIndex};
 pub use hash_map::{HashMap, RuledMap};
 pub use hash_set::{HashSet, RuledSet};
-pub use scc_common::{InsertError, KeyError, MakeError, TryInsertError, Verdict, WalkError};
-pub use scc_rules::{Anything, Rule};
+pub use scc_common::{
+    Anything, InsertError, KeyError, MakeError, Rule, TryInsertError, Verdict, WalkError,
+};
 pub use scc_table::Reservation;

@@ -1,8 +1,11 @@
 -- An entry that passes in a part also passes in the whole.
 use Rattle.std.proofs.Common.{◌≡◌, ℕ, zero, suc, ◌+◌, ◌<◌, Bool, true, Option, Some, None, List, [], ◌∷◌, ◌++◌, length, get_or, refl, sym, ap, ◌∙◌, subst, inl, inr, arith}
-use Rattle.std.specs.List.{find, flat_map, slice_get}
+use Rattle.std.specs.List.{find, flat_map, position, slice_get}
+use Rattle.std.proofs.lemmas.List.Quantifiers.{position-Some}
+use Rattle.scc_array.proofs.Finds.{slot-below}
+use Rattle.scc_array.proofs.Gets.{get-some, get-is}
 use Rattle.scc_array.proofs.Joined.{true-or-false}
-use Rattle.scc_array.specs.Hints.{IsPassing}
+use Rattle.scc_array.specs.Hints.{IsPassing, IsPassingAt}
 
 pub get-left : {X : Type 0} (xs ys : List X) (j : ℕ) (x : X) → slice_get xs j ≡ Some x → slice_get (xs ++ ys) j ≡ Some x
 get-left [] ys j x h = absurd (let s : None ≡ Some x = h in cc)
@@ -44,3 +47,18 @@ found-passing p (z ∷ xs) x h = elim (true-or-false (p z)) [
       let r = found-passing p xs x (rw n at h) in
       record { passes = r.passes; slot = (suc r.slot.0, r.slot.1) }
 ]
+
+module _ {X : Type 0} (p : X → Bool) where
+  -- an index at which an element passes is one in an equal list with more elements behind it
+  pub moved-at : {xs zs : List X} {i : ℕ} → xs ≡ zs → (ys : List X) → IsPassingAt p xs i → IsPassingAt p (zs ++ ys) i
+  moved-at {xs} {zs} {i} same ys r = record { entry = r.entry; here = get-left zs ys i r.entry (ap (λ l. slice_get l i) (sym same) ∙ r.here); passes = r.passes }
+
+  -- an index at which an element passes grows by the number of elements before the list
+  pub behind-at : (xs : List X) {ys : List X} {i : ℕ} → IsPassingAt p ys i → IsPassingAt p (xs ++ ys) (length xs + i)
+  behind-at xs {ys} {i} r = record { entry = r.entry; here = get-right xs ys i r.entry r.here; passes = r.passes }
+
+  -- the element at the index that `position` returns passes
+  pub position-passing : (xs : List X) (i : ℕ) → position p xs ≡ Some i → IsPassingAt p xs i
+  position-passing xs i h =
+      let got = get-some xs i (slot-below p xs i h) in
+      record { entry = got.0; here = got.1; passes = ap p (get-is xs i got.0 got.0 got.1) ∙ (position-Some p xs i got.0 h).1 }

@@ -1,8 +1,8 @@
-//! Searches that return the entry itself, and reads for walks.
-ghost use Rattle.scc_array.specs.Hints.{IsPassing};
+//! Searches that return the entry itself, searches by a hint, and reads for walks.
+ghost use Rattle.scc_array.specs.Hints.{IsPassing, IsPassingAt};
 ghost use Rattle.scc_array.specs.Shelf.{shelf_entries, HasTag};
 ghost use Rattle.scc_array.specs.Shelves.{shelf_of};
-ghost use Rattle.std.specs.List.{find};
+ghost use Rattle.std.specs.List.{find, position};
 ghost use Rattle.std.specs.Option.{option_copied};
 ghost use Rattle.std.specs.Prelude.{◌≡◌, ◌<◌, length, MatchOption, None, ◌≤◌, Some, slice_get};
 
@@ -71,6 +71,48 @@ where
                     None => None,
                 }
             }
+        }
+    }
+
+    /// Returns the slot of an entry of the bucket whose key equals `key`. If the result is `None` and `tag` is the tag of
+    /// `key`, the bucket has no such entry.
+    #[inline(always)]
+    pub fn search_hinted(&self, bucket: usize, key: &E::Key, tag: u8) -> Option<usize>
+        requires bucket { bucket < length self.now }
+        requires tag { 0 < tag }
+        ensures { MatchOption result (HasTag (λ e. E.Key.eq key.now (E.key_of e)) tag (shelf_of self.now bucket)
+            → position (λ e. E.Key.eq key.now (E.key_of e)) (shelf_entries (shelf_of self.now bucket)) ≡ None)
+            (IsPassingAt (λ e. E.Key.eq key.now (E.key_of e)) (shelf_entries (shelf_of self.now bucket))) }
+    {
+        match self.columns.search_hinted(bucket, key, tag) {
+            Some(slot) => Some(slot),
+            None => {
+                if !self.may_overflow(bucket) {
+                    return None;
+                }
+                match self.search_in_overflow(bucket, key) {
+                    Some(slot) => Some(slot),
+                    None => None,
+                }
+            }
+        }
+    }
+
+    /// Returns the slot of the first entry of the overflow list whose key equals `key`, counted from the first slot of
+    /// the bucket. Entries with a tag may have this key.
+    #[cold]
+    fn search_in_overflow(&self, bucket: usize, key: &E::Key) -> Option<usize>
+        requires { bucket < length self.now }
+        ensures { MatchOption result (position (λ e. E.Key.eq key.now (E.key_of e)) (shelf_of self.now bucket).overflow
+            ≡ None) (IsPassingAt (λ e. E.Key.eq key.now (E.key_of e)) (shelf_entries (shelf_of self.now bucket))) }
+    {
+        if self.overflow.len() == 0 {
+            return None;
+        }
+        let count = self.columns.count(bucket);
+        match find_in(self.overflow[bucket].as_slice(), key) {
+            Some(i) => Some(count + i),
+            None => None,
         }
     }
 }

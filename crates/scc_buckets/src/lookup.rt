@@ -1,6 +1,6 @@
 //! Searches that return the entry or its slot, and reads.
 ghost use Rattle.scc_buckets.specs.Bounded.{IsBounded, IsListed, IsListedAtSpot, IsUnlisted};
-ghost use Rattle.scc_buckets.specs.Places.{IsSpot};
+ghost use Rattle.scc_buckets.specs.Places.{IsFoundAtSpot, IsSpot};
 ghost use Rattle.scc_common.specs.Contents.{entries, hash_in, bucket_count, list_of, settings_of, IsUniqueBy, IsRouted};
 ghost use Rattle.scc_common.specs.Routing.{bucket_number};
 ghost use Rattle.std.specs.List.{find, position};
@@ -71,6 +71,26 @@ where
         let bucket = self.router.bucket(hint, count);
         match self.buckets.find_hinted(bucket, key, tag(hint)) {
             Some(entry) => Some(entry),
+            None => None,
+        }
+    }
+
+    /// Searches the bucket of `hint` for the place of the entry whose key equals `key`. If the result is `None` and
+    /// `hint` is the hash of `key`, there is no such entry.
+    #[inline(always)]
+    pub fn search_hinted(&self, hint: u64, key: &E::Key) -> Option<Place>
+        ensures place { MatchOption result (hint ≡ hash_in H.hash_of self.now key.now
+            → position (λ e. E.Key.eq key.now (E.key_of e)) (entries self.now) ≡ None)
+            (IsFoundAtSpot (λ e. E.Key.eq key.now (E.key_of e)) self.now) }
+        ensures unique { IsUniqueBy E.Key.eq E.key_of self.now }
+    {
+        let count = self.buckets.len();
+        if count == 0 {
+            return None;
+        }
+        let bucket = self.router.bucket(hint, count);
+        match self.buckets.search_hinted(bucket, key, tag(hint)) {
+            Some(slot) => Some(Place { bucket, slot }),
             None => None,
         }
     }

@@ -5,9 +5,7 @@
 
 pub mod ruled;
 
-pub use scc_common::{InsertError, MakeError, TryInsertError, Verdict, WalkError};
+pub use scc_common::{Anything, InsertError, MakeError, Rule, TryInsertError, Verdict, WalkError};
 pub use scc_owned_cache::locked::{Entry, OccupiedEntry, ReplaceResult, VacantEntry};
 pub use scc_owned_cache::{DEFAULT_MAXIMUM_CAPACITY, EvictedEntry, Owned, borrowed as owned};
-pub use scc_ruled_cache::RuledCache;
-pub use scc_rules::{Anything, Rule};
-pub use scc_shared_cache::HashCache;
+pub use scc_shared_cache::{HashCache, RuledCache};

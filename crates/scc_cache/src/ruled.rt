@@ -1,2 +1,2 @@
 //! The entries of a cache under a rule.
-pub use scc_ruled_cache::{Entry, OccupiedEntry, ReplaceResult, VacantEntry};
+pub use scc_shared_cache::ruled::{Entry, OccupiedEntry, ReplaceResult, VacantEntry};

@@ -1,2 +1,4 @@
+pub mod Lists
+pub mod RuleWalks
 pub mod Turned
 pub mod WalkLemmas

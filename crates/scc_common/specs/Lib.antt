@@ -11,6 +11,8 @@ pub mod PairWalks
 pub mod Pairs
 pub mod Replies
 pub mod Routing
+pub mod RuleWalks
+pub mod Rules
 pub mod Sizes
 pub mod Steps
 pub mod Updates

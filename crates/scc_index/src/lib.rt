@@ -5,10 +5,9 @@
 
 pub mod ruled;
 
-pub use scc_common::{InsertError, MakeError, TryInsertError, Version};
+pub use scc_common::{Anything, InsertError, MakeError, Rule, TryInsertError, Version};
 pub use scc_owned::index::locked::{Entry, OccupiedEntry, VacantEntry};
 pub use scc_owned::index::{Iter, Owned, borrowed as owned};
-pub use scc_rules::{Anything, Rule};
 pub use scc_shared::index::{HashIndex, Reserve};
 pub use scc_shared::ruled_index::RuledIndex;
 pub use scc_table::Reservation;

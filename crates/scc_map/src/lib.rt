@@ -5,10 +5,9 @@
 
 pub mod ruled;
 
-pub use scc_common::{InsertError, MakeError, TryInsertError, Verdict, WalkError};
+pub use scc_common::{Anything, InsertError, MakeError, Rule, TryInsertError, Verdict, WalkError};
 pub use scc_owned::map::locked::{Entry, OccupiedEntry, ReplaceResult, VacantEntry};
 pub use scc_owned::map::{Owned, Sink, borrowed as owned};
-pub use scc_rules::{Anything, Rule};
 pub use scc_shared::map::{HashMap, Reserve};
 pub use scc_shared::ruled_map::RuledMap;
 pub use scc_table::Reservation;

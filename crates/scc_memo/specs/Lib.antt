@@ -1,2 +1,2 @@
-pub use Rattle.scc_owned_memo.specs.Making
-pub use Rattle.scc_owned_memo.specs.Memos
+pub mod Making
+pub mod Memos

@@ -1,7 +1,7 @@
-//! What a user of memos names, and no more: `Memo`, a pure function with a cache of its values for one owner, and in
-//! `shared` the memos that threads share.
+//! Memos: pure functions with caches of their values. `Memo` is for one owner; in `shared` are the memos that threads share.
 #![tactic(auto)]
 
+mod owned;
 pub mod shared;
 
-pub use scc_owned_memo::{Memo, Pure};
+pub use owned::{Memo, Pure};

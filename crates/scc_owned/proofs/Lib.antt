@@ -4,6 +4,7 @@ pub mod Clones
 pub mod EntrySteps
 pub mod Filtering
 pub mod Found
+pub mod GetSteps
 pub mod HeldEntries
 pub mod IndexCollecting
 pub mod IndexEntries
@@ -14,9 +15,11 @@ pub mod MapEntries
 pub mod MapRemoving
 pub mod Replies
 pub mod RuledFronts
+pub mod RuledInsertions
 pub mod RuledPairs
 pub mod RuledUpdates
 pub mod RuledVersions
+pub mod RuledWalks
 pub mod Updates
 pub mod Updating
 pub mod Visiting

@@ -9,7 +9,7 @@ use Rattle.scc_buckets.specs.Placed as spots
 use Rattle.scc_buckets.specs.declared.place.Place.{Place}
 use Rattle.scc_common.specs.Contents.{Contents, entries}
 use Rattle.scc_common.specs.declared.guard.Guard as guard
-use Rattle.scc_rules.specs.Rules.{AllKeep}
+use Rattle.scc_common.specs.Rules.{AllKeep}
 use Rattle.scc_table.specs.Places.{index_of}
 use Rattle.scc_table.proofs.places.Entries.{entry_of-is}
 use Rattle.scc_owned.specs.Held.{occupied_front, occupied_pair}

@@ -1,13 +1,16 @@
 -- What holds of the pairs of a map under a rule: equal keys are alike to the rule.
-use Rattle.std.proofs.Common.{◌≡◌, ◌∙◌, ◌++◌, ◌∷◌, [], ℕ, suc, Bool, true, false, List, Some, take, drop, map, sym, ap, subst, append_assoc, take-append-drop}
+use Rattle.std.proofs.Common.{◌≡◌, ◌∙◌, ◌++◌, ◌∷◌, [], ℕ, suc, Bool, true, false, List, Some, take, drop, map, sym, ap, subst, append_assoc, take-append-drop, refl}
 use Rattle.std.specs.List.{find, slice_get, AllByRecursion, IsDistinct}
 use Rattle.std.proofs.lemmas.Map.Keys.{IsDistinct-head, IsDistinct-tail, IsDistinct-cons}
 use Rattle.scc_buckets.proofs.Finds.{lookup-find}
 use Rattle.scc_buckets.proofs.Placed.{take-more}
+use Rattle.std.specs.Prelude.{IsTrue}
+use Rattle.scc_common.specs.Walks.{Walks}
+use Rattle.scc_common.proofs.WalkLemmas.{walk-stopped}
 use Rattle.scc_owned.specs.IndexWalks.{Retains}
 use Rattle.scc_owned.specs.IndexWalks as versions
-use Rattle.scc_rules.specs.Rules.{AllKeep}
-use Rattle.scc_rules.proofs.Lists.{all-append, all-parts}
+use Rattle.scc_common.specs.Rules.{AllKeep}
+use Rattle.scc_common.proofs.Lists.{all-append, all-parts}
 use Rattle.scc_table.proofs.places.Replies.{find-key}
 
 module _ {K V : Type 0} (eq : K → K → Bool) (holds : K → V → Type 0) (alike : (j k : K) (v : V) → eq j k ≡ true → holds j v → holds k v) (symm : (j k : K) → eq j k ≡ eq k j) where
@@ -55,3 +58,8 @@ pub versions-join : {F K V : Type 0} {T : F → K × V → Bool → F → Type 0
 versions-join versions.ended y = y
 versions-join (versions.kept t x) y = versions.kept t (versions-join x y)
 versions-join (versions.removed t x) y = versions.removed t (versions-join x y)
+
+-- a walk over the first n pairs that went through only if these are all pairs is a walk over all pairs
+pub walks-all : {F K V : Type 0} {T : F → K × V → Bool → F → Type 0} {f last : F} (n : ℕ) (es : List (K × V)) (r : Bool) → Walks T f (take n es) r last → (IsTrue r → take n es ≡ es) → Walks T f es r last
+walks-all {T = T} {f = f} {last = last} n es true w all = subst (λ z. Walks T f z true last) (all refl) w
+walks-all {T = T} {f = f} {last = last} n es false w all = subst (λ z. Walks T f z false last) (take-append-drop n es) (walk-stopped (drop n es) w)

@@ -8,7 +8,7 @@ use Rattle.scc_buckets.specs.declared.place.Place.{Place}
 use Rattle.scc_buckets.proofs.Finds.{lookup-find}
 use Rattle.scc_common.specs.Contents.{Contents, entries}
 use Rattle.scc_common.specs.Pairs.{with_pair_value}
-use Rattle.scc_rules.specs.Rules.{IsCalledToWrite, WritesKept}
+use Rattle.scc_common.specs.Rules.{IsCalledToWrite, WritesKept}
 use Rattle.scc_table.specs.Places.{IsFoundAt, index_of}
 use Rattle.scc_table.specs.Removals.{RemovesFirst}
 use Rattle.scc_table.specs.Updates.{UpdatesFirst}

@@ -1,7 +1,9 @@
 pub mod Collections
 pub mod Entries
 pub mod EntrySteps
+pub mod Getting
 pub mod Held
+pub mod Hinted
 pub mod IndexCollections
 pub mod IndexEntries
 pub mod IndexSteps

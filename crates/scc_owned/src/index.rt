@@ -4,6 +4,7 @@
 pub mod borrowed;
 mod calls;
 mod held;
+mod hinted;
 pub mod locked;
 mod make;
 mod places;

@@ -7,6 +7,7 @@ ghost use Rattle.std.specs.Prelude.{◌≡◌, ◌*◌, ◌↔◌, [], length, I
 
 pub mod borrowed;
 mod calls;
+mod getting;
 pub mod held;
 pub mod index;
 pub mod locked;

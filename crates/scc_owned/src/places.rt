@@ -4,7 +4,7 @@ ghost use Rattle.scc_common.specs.Steps.{HoldsExactly};
 ghost use Rattle.scc_owned.specs.Shrinking.{ClearsByRule, TakesWithNextByRule};
 ghost use Rattle.scc_table.specs.Places.{IsFoundAt, IsPlace, StandsAt, index_of};
 ghost use Rattle.std.specs.List.{position};
-ghost use Rattle.std.specs.Prelude.{◌≡◌, [], suc, length, MatchOption, None, Some, slice_get};
+ghost use Rattle.std.specs.Prelude.{◌≡◌, [], suc, length, IfErr, IfOk, MatchOption, None, Some, slice_get};
 
 use crate::Owned;
 use crate::stored::Stored;
@@ -31,6 +31,19 @@ where
         ensures unique { IsUniqueBy E.Key.eq E.key_of self.now }
     {
         self.table.search(hash, k)
+    }
+
+    /// Returns the place of the entry of `k`, or the hash of `k` if no key equals `k`. The search begins with `hint`, the
+    /// hash of `k` under some hasher. If the container's own hasher gives the same hash, the entry is there and no bucket
+    /// waits, `k` isn't hashed again.
+    #[inline(always)]
+    pub(crate) fn search_by_hint(&self, hint: u64, k: &E::Key) -> Result<Place, u64>
+        ensures found { IfOk result (IsFoundAt (λ e. E.Key.eq k.now (E.key_of e)) self.now) }
+        ensures missed { IfErr result (λ h. (h ≡ hash_in ⟦<H as Hashes<E::Key>>⟧.hash_of self.now k.now)
+            × (position (λ e. E.Key.eq k.now (E.key_of e)) (entries self.now) ≡ None)) }
+        ensures unique { IsUniqueBy E.Key.eq E.key_of self.now }
+    {
+        self.table.search_by_hint(hint, k)
     }
 
     /// Returns the place of the first pair of the list, or `None` if the container is empty.

@@ -9,7 +9,7 @@ mod snapshots;
 mod walk;
 
 use crate::Owned;
-use scc_rules::RuledVersion;
+use scc_common::RuledVersion;
 use std::hash::{BuildHasherDefault, FoldHasher};
 
 /// An index each of whose versions keeps the rule `R`.

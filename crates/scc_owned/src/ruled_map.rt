@@ -9,7 +9,7 @@ mod places;
 mod walk;
 
 use crate::Owned;
-use scc_rules::Ruled;
+use scc_common::Ruled;
 use std::hash::{BuildHasherDefault, FoldHasher};
 
 /// A map each of whose pairs keeps the rule `R`.

@@ -7,8 +7,7 @@ ghost use Rattle.std.specs.Prelude.{◌≡◌, None, Bool, true, false};
 
 use crate::Owned;
 use scc_buckets::Place;
-use scc_common::{Hashes, Keyed, SharedVersion, Valued};
-use scc_rules::{Rule, Ruled, RuledVersion};
+use scc_common::{Hashes, Keyed, Rule, Ruled, RuledVersion, SharedVersion, Valued};
 use std::hash::{BuildHasher, Hash};
 
 /// An entry that is made of a key and a value: a pair or a version, under a rule or under none.

@@ -9,6 +9,7 @@ use Rattle.std.specs.declared.cmp.PartialEq as eq
 use Rattle.std.specs.declared.hash.Hash as hash
 use Rattle.std.specs.declared.hash.Hasher as hasher
 use Rattle.std.specs.declared.hash.BuildHasher as builder
+use Rattle.scc_common.specs.declared.rule.Rule as rule
 use Rattle.scc_common.specs.Contents.{Contents, bucket_count, settings_of, notes_of, list_of, lists_of, waiting_of, key_hash}
 use Rattle.scc_common.specs.Pairs.{with_pair_key, with_pair_value}
 use Rattle.scc_buckets.specs.Placed as spots
@@ -26,7 +27,8 @@ use Rattle.scc_owned_cache.specs.Caches.{Cached}
 use Rattle.scc_common.specs.declared.errors.InsertError.{InsertError}
 use Rattle.scc_common.specs.declared.errors.TryInsertError.{TryInsertError}
 use Rattle.scc_common.specs.declared.errors.TryInsertError.TheVariants.{Failed, Memory as NoMemory}
-use Rattle.scc_owned_cache.specs.Entries.{Memory, Occupied, Vacant, entry_guard, entry_key, occupied_pair, FailsAtVacant, FailsOrRefuses, IsMoved, IsPut, IsRefreshed, IsReplacedBy, IsWritten, OrPuts, OrPutsSome, Refuses, RefusesSome, SetsEntry, written_cache, still_within, with_value}
+use Rattle.scc_owned_cache.specs.Entries.{Memory, Occupied, Vacant, entry_guard, entry_key, occupied_pair, IsVacant, FailsAtVacant, FailsOrRefuses, IsMoved, IsPut, IsRefreshed, IsReplacedBy, IsWritten, OrPuts, OrPutsSome, Refuses, RefusesSome, SetsEntry, written_cache, still_within, with_value}
+use Rattle.scc_owned_cache.specs.Evictions.{IsEvictedFor}
 use Rattle.scc_owned_cache.specs.Lends.{with_key_at, with_value_at}
 use Rattle.scc_owned_cache.specs.ListSteps.{Refreshes, RefreshesAs, Rewrites}
 use Rattle.scc_owned_cache.specs.Relocations.{RelocatesOne, RelocatesTwoWithin}
@@ -146,10 +148,10 @@ map-err P Q (Err e) f p = f e p
 pub none-refused : {A B : Type 0} {a : A} (r : Result A B) → r ≡ Ok a → (P : B → Type 0) → IfErr r P
 none-refused r same P = subst (λ x. IfErr x P) (sym same) tt
 
-module _ {N K V S T : Type 0} {d : guard.Ghosts (MutBor (Cached (K × V) S)) (Cached (K × V) S)} {g : eq.Ghosts K} {h : hash.Ghosts K} {b : builder.Ghosts S T} {w : hasher.Ghosts T} where
+module _ {N K V S R T : Type 0} {d : guard.Ghosts (MutBor (Cached (K × V) S)) (Cached (K × V) S)} {g : eq.Ghosts K} {h : hash.Ghosts K} {b : builder.Ghosts S T} {rules : rule.Ghosts R K V} {w : hasher.Ghosts T} where
   -- a refused insertion leaves the cache of the vacant entry, which is the cache of the entry
-  pub refused-through : {A B : Type 0} (s : HeldEntry (MutBor (Cached (K × V) S)) N K V S T d g h b w) (e : HeldVacant (MutBor (Cached (K × V) S)) N K V S T d g h b w) (r : Result A B) (x : Cached (K × V) S) → s ≡ Vacant e → OnErr r (x ≡ e.guard.now) → OnErr r (x ≡ (entry_guard s).now)
-  refused-through s e r x is left = subst (λ (y : HeldEntry (MutBor (Cached (K × V) S)) N K V S T d g h b w). OnErr r (x ≡ (entry_guard y).now)) (sym is) left
+  pub refused-through : {A B : Type 0} (s : HeldEntry (MutBor (Cached (K × V) S)) N K V S R T d g h b w rules) (e : HeldVacant (MutBor (Cached (K × V) S)) N K V S R T d g h b w rules) (r : Result A B) (x : Cached (K × V) S) → s ≡ Vacant e → OnErr r (x ≡ e.guard.now) → OnErr r (x ≡ (entry_guard s).now)
+  refused-through s e r x is left = subst (λ (y : HeldEntry (MutBor (Cached (K × V) S)) N K V S R T d g h b w rules). OnErr r (x ≡ (entry_guard y).now)) (sym is) left
 
 -- equal references have one name, in the form in which the check asks for it of a returned entry
 pub same-name : {A : Type 0} {x y : MutBor A} → x ≡ y → some y.ghost_name ≡ some x.ghost_name
@@ -162,13 +164,13 @@ inner-made d {s = s} {n = n} guarded = ap d.inner guarded ∙ d.inner_law s n
 pub same-guard : {G C : Type 0} (d : guard.Ghosts G C) {s x : G} {n : C} → x ≡ d.with_inner s n → x ≡ d.with_inner s (d.inner x)
 same-guard d {s = s} guarded = guarded ∙ ap (d.with_inner s) (sym (inner-made d guarded))
 
-module _ {G N K V S T : Type 0} {d : guard.Ghosts G (Cached (K × V) S)} {g : eq.Ghosts K} {h : hash.Ghosts K} {b : builder.Ghosts S T} {w : hasher.Ghosts T} where
+module _ {G N K V S R T : Type 0} {d : guard.Ghosts G (Cached (K × V) S)} {g : eq.Ghosts K} {h : hash.Ghosts K} {b : builder.Ghosts S T} {rules : rule.Ghosts R K V} {w : hasher.Ghosts T} where
   -- if p stands at the entry's place in the contents behind the guard, p is the entry's pair
-  pub pair-is : (o : HeldOccupied G N K V S T d g h b w) (m : Cached (K × V) S) (p : K × V) → m ≡ d.inner o.guard → slice_get (list_of m.contents (spot_of m.contents o.place).bucket) (spot_of m.contents o.place).slot ≡ Some p → p ≡ occupied_pair o
+  pub pair-is : (o : HeldOccupied G N K V S R T d g h b w rules) (m : Cached (K × V) S) (p : K × V) → m ≡ d.inner o.guard → slice_get (list_of m.contents (spot_of m.contents o.place).bucket) (spot_of m.contents o.place).slot ≡ Some p → p ≡ occupied_pair o
   pair-is o m p is got = entry-listed (d.inner o.guard).contents o.place o.within p (subst (λ (x : Cached (K × V) S). slice_get (list_of x.contents (spot_of x.contents o.place).bucket) (spot_of x.contents o.place).slot ≡ Some p) is got)
 
   -- if the pair of k was found and moved, the entry of k stands at the moved pair
-  pub refreshed_at : (same : K → K → Bool) (c : Cached (K × V) S) (k : K) (o : HeldOccupied G N K V S T d g h b w) → IsLastAt (key_hash b w h.hash_input c.contents) same c k (d.inner o.guard) o.place → RelocatesOne (key_hash b w h.hash_input c.contents k) c.contents (d.inner o.guard).contents → IsRefreshed same c k o
+  pub refreshed_at : (same : K → K → Bool) (c : Cached (K × V) S) (k : K) (o : HeldOccupied G N K V S R T d g h b w rules) → IsLastAt (key_hash b w h.hash_input c.contents) same c k (d.inner o.guard) o.place → RelocatesOne (key_hash b w h.hash_input c.contents k) c.contents (d.inner o.guard).contents → IsRefreshed same c k o
   refreshed_at same c k o s r = record {
     changes = subst (λ x. ChangesLists (Refreshes (list_number (key_hash b w h.hash_input c.contents) c.contents) same k x) c (d.inner o.guard)) (pair-is o (d.inner o.guard) s.pair refl s.here) s.changes;
     relocates = r;
@@ -177,7 +179,7 @@ module _ {G N K V S T : Type 0} {d : guard.Ghosts G (Cached (K × V) S)} {g : eq
   }
 
   -- if k is written over the key of the moved pair, the entry has k with the old value, and stands at the moved pair
-  pub replaced-at : (same : K → K → Bool) (c m : Cached (K × V) S) (k : K) (o : HeldOccupied G N K V S T d g h b w) (s : IsLastAt (key_hash b w h.hash_input c.contents) same c k m o.place) → RelocatesOne (key_hash b w h.hash_input c.contents k) c.contents m.contents → d.inner o.guard ≡ with_key_at m o.place k
+  pub replaced-at : (same : K → K → Bool) (c m : Cached (K × V) S) (k : K) (o : HeldOccupied G N K V S R T d g h b w rules) (s : IsLastAt (key_hash b w h.hash_input c.contents) same c k m o.place) → RelocatesOne (key_hash b w h.hash_input c.contents k) c.contents m.contents → d.inner o.guard ≡ with_key_at m o.place k
       → (occupied_pair o ≡ (k, s.pair.1)) × IsMoved same c k s.pair o
   replaced-at same c m k o s r made =
       let n = with_key_at m o.place k in
@@ -199,7 +201,7 @@ module _ {G N K V S T : Type 0} {d : guard.Ghosts G (Cached (K × V) S)} {g : eq
       )
 
   -- if k is written over the key of the moved pair, the key that the call returns is the key that k replaced
-  pub replaced_as : (same : K → K → Bool) (c m : Cached (K × V) S) (k old : K) (o : HeldOccupied G N K V S T d g h b w) (q : Place) → o.place ≡ q → IsLastAt (key_hash b w h.hash_input c.contents) same c k m q → RelocatesOne (key_hash b w h.hash_input c.contents k) c.contents m.contents
+  pub replaced_as : (same : K → K → Bool) (c m : Cached (K × V) S) (k old : K) (o : HeldOccupied G N K V S R T d g h b w rules) (q : Place) → o.place ≡ q → IsLastAt (key_hash b w h.hash_input c.contents) same c k m q → RelocatesOne (key_hash b w h.hash_input c.contents k) c.contents m.contents
       → (p : K × V) × (slice_get (list_of m.contents (spot_of m.contents q).bucket) (spot_of m.contents q).slot ≡ Some p) × (old ≡ p.0) → d.inner o.guard ≡ with_key_at m q k → IsReplacedBy same c k old o
   replaced_as same c m k old o q placed last r (p, found, is) made =
       let s = subst (λ x. IsLastAt (key_hash b w h.hash_input c.contents) same c k m x) (sym placed) last in
@@ -210,7 +212,7 @@ module _ {G N K V S T : Type 0} {d : guard.Ghosts G (Cached (K × V) S)} {g : eq
       record { value = s.pair.1; pair = moved.0; moved = subst (λ q. IsMoved same c k q o) pair moved.1 }
 
   -- a value that is written later at the moved pair moves no other pair
-  pub moved-written : (same : K → K → Bool) (c : Cached (K × V) S) (k : K) (p : K × V) (o q : HeldOccupied G N K V S T d g h b w) (v : V) → IsMoved same c k p o → IsWritten o v q → ChangesLists (RefreshesAs (list_number (key_hash b w h.hash_input c.contents) c.contents) same k p ((occupied_pair o).0, v)) c (d.inner q.guard)
+  pub moved-written : (same : K → K → Bool) (c : Cached (K × V) S) (k : K) (p : K × V) (o q : HeldOccupied G N K V S R T d g h b w rules) (v : V) → IsMoved same c k p o → IsWritten o v q → ChangesLists (RefreshesAs (list_number (key_hash b w h.hash_input c.contents) c.contents) same k p ((occupied_pair o).0, v)) c (d.inner q.guard)
   unfolding bucket_count lists_of list_of
   moved-written same c k p o q v m e = record {
     lists = moved-last (list_number (key_hash b w h.hash_input c.contents) c.contents) same k p (occupied_pair o) ((occupied_pair o).0, v) (lists_of c.contents) (lists_of (d.inner o.guard).contents) (lists_of (d.inner q.guard).contents) _ _ m.changes.lists m.bucket o.within.bucket m.last e.changes.lists;
@@ -220,21 +222,21 @@ module _ {G N K V S T : Type 0} {d : guard.Ghosts G (Cached (K × V) S)} {g : eq
   }
 
   -- after a write through the guard, the place of the entry is still a place
-  pub within-written : (o : HeldOccupied G N K V S T d g h b w) (m : Cached (K × V) S) (v : V) → m ≡ d.inner o.guard → IsPlace (d.inner (d.with_inner o.guard (with_value_at m o.place v))).contents o.place
+  pub within-written : (o : HeldOccupied G N K V S R T d g h b w rules) (m : Cached (K × V) S) (v : V) → m ≡ d.inner o.guard → IsPlace (d.inner (d.with_inner o.guard (with_value_at m o.place v))).contents o.place
   within-written o m v is = subst (λ c. IsPlace (d.inner (d.with_inner o.guard (with_value_at c o.place v))).contents o.place) (sym is) (still_within o v)
 
   -- the entry after a write is equal to `with_value o v`, whichever proof it has that its place is a place
-  pub written-same : (o : HeldOccupied G N K V S T d g h b w) (m : Cached (K × V) S) (v : V) → (is : m ≡ d.inner o.guard) → (p : IsPlace (d.inner (d.with_inner o.guard (with_value_at m o.place v))).contents o.place)
+  pub written-same : (o : HeldOccupied G N K V S R T d g h b w rules) (m : Cached (K × V) S) (v : V) → (is : m ≡ d.inner o.guard) → (p : IsPlace (d.inner (d.with_inner o.guard (with_value_at m o.place v))).contents o.place)
       → record { guard = d.with_inner o.guard (with_value_at m o.place v); place = o.place; rest = o.rest; of = o.of; within = p } ≡ with_value o v
   written-same o m v is =
       let Written : Cached (K × V) S → Type 0 = λ c. (p : IsPlace (d.inner (d.with_inner o.guard (with_value_at c o.place v))).contents o.place) → record { guard = d.with_inner o.guard (with_value_at c o.place v); place = o.place; rest = o.rest; of = o.of; within = p } ≡ with_value o v in
       subst Written (sym is) (λ p. ap (λ r. record (with_value o v) { within = r }) (place-prop _ _ p (still_within o v)))
 
-  pub within-after : (o : HeldOccupied G N K V S T d g h b w) (m n : Cached (K × V) S) (v : V) → m ≡ d.inner o.guard → n ≡ with_value_at m o.place v → IsPlace (d.inner (d.with_inner o.guard n)).contents o.place
+  pub within-after : (o : HeldOccupied G N K V S R T d g h b w rules) (m n : Cached (K × V) S) (v : V) → m ≡ d.inner o.guard → n ≡ with_value_at m o.place v → IsPlace (d.inner (d.with_inner o.guard n)).contents o.place
   within-after o m n v is made = subst (λ c. IsPlace (d.inner (d.with_inner o.guard c)).contents o.place) (sym made) (within-written o m v is)
 
   -- a value that is written through the guard is written in the entry
-  pub written-after : (o : HeldOccupied G N K V S T d g h b w) (m n : Cached (K × V) S) (v : V) → m ≡ d.inner o.guard → n ≡ with_value_at m o.place v → (p : IsPlace (d.inner (d.with_inner o.guard n)).contents o.place)
+  pub written-after : (o : HeldOccupied G N K V S R T d g h b w rules) (m n : Cached (K × V) S) (v : V) → m ≡ d.inner o.guard → n ≡ with_value_at m o.place v → (p : IsPlace (d.inner (d.with_inner o.guard n)).contents o.place)
       → IsWritten o v (record { guard = d.with_inner o.guard n; place = o.place; rest = o.rest; of = o.of; within = p })
   written-after o m n v is made p =
       let e : d.inner (d.with_inner o.guard n) ≡ with_value_at (d.inner o.guard) o.place v = d.inner_law o.guard n ∙ made ∙ ap (λ c. with_value_at c o.place v) is in
@@ -249,11 +251,11 @@ module _ {G N K V S T : Type 0} {d : guard.Ghosts G (Cached (K × V) S)} {g : eq
             subst Pair (sym e) (pair-written (d.inner o.guard) o.place o.within v) p;
       }
 
-  pub written-with : (o : HeldOccupied G N K V S T d g h b w) (v : V) → IsWritten o v (with_value o v)
+  pub written-with : (o : HeldOccupied G N K V S R T d g h b w rules) (v : V) → IsWritten o v (with_value o v)
   written-with o v = written-after o (d.inner o.guard) (written_cache o v) v refl refl (still_within o v)
 
   -- if a pair is put through the guard, the returned entry stands at that pair
-  pub put-after : (same : K → K → Bool) (e : HeldVacant G N K V S T d g h b w) (m n : Cached (K × V) S) (v : V) (x : Option (K × V)) (o : HeldOccupied G N K V S T d g h b w) (q : Place) → o.guard ≡ d.with_inner e.guard n → o.place ≡ q → o.rest ≡ e.rest → m ≡ d.inner e.guard
+  pub put-after : (same : K → K → Bool) (e : HeldVacant G N K V S R T d g h b w rules) (m n : Cached (K × V) S) (v : V) (x : Option (K × V)) (o : HeldOccupied G N K V S R T d g h b w rules) (q : Place) → o.guard ≡ d.with_inner e.guard n → o.place ≡ q → o.rest ≡ e.rest → m ≡ d.inner e.guard
       → PutsNew (key_hash b w h.hash_input m.contents) same m (e.key, v) x n → RelocatesTwoWithin (key_hash b w h.hash_input m.contents e.key) m.contents n.contents → (IsPreparedForPut (key_hash b w h.hash_input m.contents) m e.key → bucket_count n.contents ≡ bucket_count m.contents) → slice_get (list_of n.contents (spot_of n.contents q).bucket) (spot_of n.contents q).slot ≡ Some (e.key, v) → IsPut same e v x o
   put-after same e m n v x o q guarded placed rests is step moved once got =
       let k : d.inner o.guard ≡ n = ap d.inner guarded ∙ d.inner_law e.guard n in
@@ -267,11 +269,11 @@ module _ {G N K V S T : Type 0} {d : guard.Ghosts G (Cached (K × V) S)} {g : eq
       }
 
   -- an entry that is made again from its parts is equal to the entry
-  pub same-entry : (o : HeldOccupied G N K V S T d g h b w) (p : IsPlace (d.inner o.guard).contents o.place) → record o { within = p } ≡ o
+  pub same-entry : (o : HeldOccupied G N K V S R T d g h b w rules) (p : IsPlace (d.inner o.guard).contents o.place) → record o { within = p } ≡ o
   same-entry o p = ap (λ r. record o { within = r }) (place-prop (d.inner o.guard).contents o.place p o.within)
 
   -- if the pair of k was moved through the guard s, the entry of the guard that results stands at the moved pair
-  pub refreshed-under : (same : K → K → Bool) (s : G) (m n : Cached (K × V) S) (k : K) (o : HeldOccupied G N K V S T d g h b w) (q : Place) → m ≡ d.inner s → o.guard ≡ d.with_inner s n → o.place ≡ q → IsLastAt (key_hash b w h.hash_input m.contents) same m k n q → RelocatesOne (key_hash b w h.hash_input m.contents k) m.contents n.contents → IsRefreshed same (d.inner s) k o
+  pub refreshed-under : (same : K → K → Bool) (s : G) (m n : Cached (K × V) S) (k : K) (o : HeldOccupied G N K V S R T d g h b w rules) (q : Place) → m ≡ d.inner s → o.guard ≡ d.with_inner s n → o.place ≡ q → IsLastAt (key_hash b w h.hash_input m.contents) same m k n q → RelocatesOne (key_hash b w h.hash_input m.contents k) m.contents n.contents → IsRefreshed same (d.inner s) k o
   refreshed-under same s m n k o q is guarded placed at r =
       let kept : d.inner o.guard ≡ n = ap d.inner guarded ∙ d.inner_law s n in
       let Last : Cached (K × V) S → Cached (K × V) S → Type 0 = λ c x. IsLastAt (key_hash b w h.hash_input c.contents) same c k x o.place in
@@ -280,7 +282,7 @@ module _ {G N K V S T : Type 0} {d : guard.Ghosts G (Cached (K × V) S)} {g : eq
       refreshed_at same (d.inner s) k o (subst (λ c. Last c (d.inner o.guard)) is (subst (Last m) (sym kept) there)) (subst (λ c. One c (d.inner o.guard)) is (subst (One m) (sym kept) r))
 
   -- an occupied entry is returned unchanged
-  module _ (same-key : K → K → Bool) (e : HeldEntry G N K V S T d g h b w) (o : HeldOccupied G N K V S T d g h b w) (r : Result (Option (K × V) × HeldOccupied G N K V S T d g h b w) (InsertError K V)) (is : e ≡ Occupied o) (same : r ≡ Ok (None, o)) where
+  module _ (same-key : K → K → Bool) (e : HeldEntry G N K V S R T d g h b w rules) (o : HeldOccupied G N K V S R T d g h b w rules) (r : Result (Option (K × V) × HeldOccupied G N K V S R T d g h b w rules) (InsertError K V)) (is : e ≡ Occupied o) (same : r ≡ Ok (None, o)) where
     pub or-handed : (v : V) → IfOk r (λ x. OrPuts same-key e v x.0 x.1)
     or-handed v = subst (λ z. IfOk r (λ x. OrPuts same-key z v x.0 x.1)) (sym is) (subst (λ y. IfOk y (λ x. OrPuts same-key (Occupied o) v x.0 x.1)) (sym same) (refl, refl))
 
@@ -288,7 +290,7 @@ module _ {G N K V S T : Type 0} {d : guard.Ghosts G (Cached (K × V) S)} {g : eq
     some-handed P = subst (λ z. IfOk r (λ x. OrPutsSome same-key z P x.0 x.1)) (sym is) (subst (λ y. IfOk y (λ x. OrPutsSome same-key (Occupied o) P x.0 x.1)) (sym same) (refl, refl))
 
   -- through a vacant entry, a value is put
-  module _ (e : HeldEntry G N K V S T d g h b w) (x : HeldVacant G N K V S T d g h b w) (r : Result (Option (K × V) × HeldOccupied G N K V S T d g h b w) (InsertError K V)) (is : e ≡ Vacant x) where
+  module _ (e : HeldEntry G N K V S R T d g h b w rules) (x : HeldVacant G N K V S R T d g h b w rules) (r : Result (Option (K × V) × HeldOccupied G N K V S R T d g h b w rules) (InsertError K V)) (is : e ≡ Vacant x) where
     pub or-refused : (v : V) → IfErr r (λ i. (i ≡ Memory (x.key, v)) × (bucket_count (d.inner x.guard).contents ≡ 0)) → IfErr r (Refuses e v)
     or-refused v back = subst (λ z. IfErr r (Refuses z v)) (sym is) (map-err (λ i. (i ≡ Memory (x.key, v)) × (bucket_count (d.inner x.guard).contents ≡ 0)) (Refuses (Vacant x) v) r (λ i b. (b.1, b.0)) back)
 
@@ -305,32 +307,40 @@ module _ {G N K V S T : Type 0} {d : guard.Ghosts G (Cached (K × V) S)} {g : eq
     sets-put same-key v put = subst (λ z. IfOk r (λ y. SetsEntry same-key z v y.0 y.1)) (sym is) put
 
   -- if P' implies P, a put of a value for which P' holds is a put of a value for which P holds
-  pub puts-as : {X : Type 0} {P' : K → V → Type 0} (same : K → K → Bool) (P : K → V → Type 0) (e : HeldEntry G N K V S T d g h b w) (r : Result (Option (K × V) × HeldOccupied G N K V S T d g h b w) X) → IfOk r (λ y. OrPutsSome same e P' y.0 y.1) → ((k : K) (v : V) → P' k v → P k v) → IfOk r (λ y. OrPutsSome same e P y.0 y.1)
+  pub puts-as : {X : Type 0} {P' : K → V → Type 0} (same : K → K → Bool) (P : K → V → Type 0) (e : HeldEntry G N K V S R T d g h b w rules) (r : Result (Option (K × V) × HeldOccupied G N K V S R T d g h b w rules) X) → IfOk r (λ y. OrPutsSome same e P' y.0 y.1) → ((k : K) (v : V) → P' k v → P k v) → IfOk r (λ y. OrPutsSome same e P y.0 y.1)
   puts-as same P (Occupied p) (Ok y) i f = i
   puts-as same P (Vacant e) (Ok y) i f = (i.0, f e.key i.0 i.1, i.2)
   puts-as same P e (Err x) i f = tt
 
   -- a failed put of a value that a closure makes meets the contract for P and Q if it meets that for P' and Q', which
   -- imply them
-  pub fails-as : {A X : Type 0} {P' : K → V → Type 0} {Q' : K → X → Type 0} (P : K → V → Type 0) (Q : K → X → Type 0) (e : HeldEntry G N K V S T d g h b w) (r : Result A (TryInsertError K V X)) → IfErr r (FailsOrRefuses e P' Q') → ((k : K) (v : V) → P' k v → P k v) → ((k : K) (x : X) → Q' k x → Q k x) → IfErr r (FailsOrRefuses e P Q)
+  pub fails-as : {A X : Type 0} {P' : K → V → Type 0} {Q' : K → X → Type 0} (P : K → V → Type 0) (Q : K → X → Type 0) (e : HeldEntry G N K V S R T d g h b w rules) (r : Result A (TryInsertError K V X)) → IfErr r (FailsOrRefuses e P' Q') → ((k : K) (v : V) → P' k v → P k v) → ((k : K) (x : X) → Q' k x → Q k x) → IfErr r (FailsOrRefuses e P Q)
   fails-as P Q e (Ok a) t f g = tt
   fails-as P Q e (Err (Failed x)) t f g = record { vacant = t.vacant; failed = g (entry_key e) x t.failed }
   fails-as P Q (Occupied o) (Err (NoMemory p)) t f g = absurd t
   fails-as P Q (Vacant e) (Err (NoMemory p)) t f g = (t.0, (t.1.0, f e.key t.1.0 t.1.1, t.1.2))
 
   -- through a vacant entry, a put of the value that a closure makes has an outcome as the contract says
-  module _ (e : HeldEntry G N K V S T d g h b w) (x : HeldVacant G N K V S T d g h b w) (is : e ≡ Vacant x) {X : Type 0} (P : K → V → Type 0) (Q : K → X → Type 0) where
-    pub made-put : (same : K → K → Bool) (v : V) (out : Option (K × V)) (o : HeldOccupied G N K V S T d g h b w) → P x.key v → IsPut same x v out o → OrPutsSome same e P out o
+  module _ (e : HeldEntry G N K V S R T d g h b w rules) (x : HeldVacant G N K V S R T d g h b w rules) (is : e ≡ Vacant x) {X : Type 0} (P : K → V → Type 0) (Q : K → X → Type 0) where
+    pub made-put : (same : K → K → Bool) (v : V) (out : Option (K × V)) (o : HeldOccupied G N K V S R T d g h b w rules) → P x.key v → IsPut same x v out o → OrPutsSome same e P out o
     made-put same v out o gave put = subst (λ z. OrPutsSome same z P out o) (sym is) (v, gave, put)
 
     pub made-refused : (v : V) (p : K × V) → P x.key v → p ≡ (x.key, v) → bucket_count (d.inner x.guard).contents ≡ 0 → FailsOrRefuses e P Q (NoMemory p)
     made-refused v p gave back none = subst (λ z. RefusesSome z P (Memory p)) (sym is) (none, (v, gave, ap (λ q. Memory q) back))
 
+  -- what a closure makes for a vacant entry keeps the rule under its key
+  pub keeps-vacant : (e : HeldEntry G N K V S R T d g h b w rules) (x : HeldVacant G N K V S R T d g h b w rules) → e ≡ Vacant x → (P holds : K → V → Type 0) (v : V) → (IsVacant e → (y : V) → P (entry_key e) y → holds (entry_key e) y) → P x.key v → holds x.key v
+  keeps-vacant e x is P holds v keeps made = (subst (λ z. IsVacant z → (y : V) → P (entry_key z) y → holds (entry_key z) y) is keeps) tt v made
+
+  -- the pair that a put at a vacant entry evicts is evicted for the key of the entry
+  pub evicted-at : {A B : Type 0} (same : K → K → Bool) (holds : K → V → Type 0) (e : HeldEntry G N K V S R T d g h b w rules) (x : HeldVacant G N K V S R T d g h b w rules) → e ≡ Vacant x → (r : Result (Option (K × V) × A) B) → IfOk r (λ y. IsEvictedFor same holds x.key y.0) → IfOk r (λ y. IsEvictedFor same holds (entry_key e) y.0)
+  evicted-at same holds e x is r out = subst (λ z. IfOk r (λ y. IsEvictedFor same holds (entry_key z) y.0)) (sym is) out
+
   -- if a closure fails at a vacant entry, its error comes back
-  pub fails-at : {X : Type 0} (Q : K → X → Type 0) (e : HeldEntry G N K V S T d g h b w) (x : HeldVacant G N K V S T d g h b w) (y : X) → e ≡ Vacant x → Q x.key y → FailsAtVacant e Q y
+  pub fails-at : {X : Type 0} (Q : K → X → Type 0) (e : HeldEntry G N K V S R T d g h b w rules) (x : HeldVacant G N K V S R T d g h b w rules) (y : X) → e ≡ Vacant x → Q x.key y → FailsAtVacant e Q y
   fails-at Q e x y is gave = subst (λ z. FailsAtVacant z Q y) (sym is) (record { vacant = tt; failed = gave })
 
-module _ {N K V S T : Type 0} {d : guard.Ghosts (MutBor (Cached (K × V) S)) (Cached (K × V) S)} {g : eq.Ghosts K} {h : hash.Ghosts K} {b : builder.Ghosts S T} {w : hasher.Ghosts T} where
+module _ {N K V S R T : Type 0} {d : guard.Ghosts (MutBor (Cached (K × V) S)) (Cached (K × V) S)} {g : eq.Ghosts K} {h : hash.Ghosts K} {b : builder.Ghosts S T} {rules : rule.Ghosts R K V} {w : hasher.Ghosts T} where
   -- the cache that a vacant entry borrows
-  pub vacant-now : (e : HeldEntry (MutBor (Cached (K × V) S)) N K V S T d g h b w) (x : HeldVacant (MutBor (Cached (K × V) S)) N K V S T d g h b w) → e ≡ Vacant x → x.guard.now ≡ (entry_guard e).now
-  vacant-now e x is = ap (λ (z : HeldEntry (MutBor (Cached (K × V) S)) N K V S T d g h b w). (entry_guard z).now) (sym is)
+  pub vacant-now : (e : HeldEntry (MutBor (Cached (K × V) S)) N K V S R T d g h b w rules) (x : HeldVacant (MutBor (Cached (K × V) S)) N K V S R T d g h b w rules) → e ≡ Vacant x → x.guard.now ≡ (entry_guard e).now
+  vacant-now e x is = ap (λ (z : HeldEntry (MutBor (Cached (K × V) S)) N K V S R T d g h b w rules). (entry_guard z).now) (sym is)

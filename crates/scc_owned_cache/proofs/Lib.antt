@@ -4,6 +4,7 @@ pub mod EachPair
 pub mod Entries
 pub mod FirstOfAll
 pub mod Found
+pub mod Kept
 pub mod LookUps
 pub mod Relocations
 pub mod Removing

@@ -144,3 +144,6 @@ module _ {K V S : Type 0} (eq : K → K → Bool) (hash : Settings S → K → �
   key-state-by k d e same unique =
       let u = subst (λ z. IsUnique eq z) e unique in
       subst (λ z. IsCacheState eq (hash (settings_of z)) (record { contents = z; maximum = c.maximum })) (sym e) (rw (written-settings with_pair_key c.contents (spot_of c.contents p) within k) (key-state eq (hash (settings_of c.contents)) c p within h k same u))
+
+  pub value-state-after : (v : V) (d : Contents (K × V) S) → d ≡ (with_value_at c p v).contents → IsCacheState eq (hash (settings_of d)) (record { contents = d; maximum = c.maximum })
+  value-state-after v d made = subst (λ z. IsCacheState eq (hash (settings_of z)) (record { contents = z; maximum = c.maximum })) (sym made) (value-state-by v)

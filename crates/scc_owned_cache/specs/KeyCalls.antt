@@ -1,12 +1,14 @@
 -- What the calls by key that change a cache do to it, in one word a call. `hash_of` gives the hash of a key under a
 -- hasher.
-use Rattle.std.specs.Prelude.{◌≡◌, ℕ, ◌<◌, Bool, Option, None, Result, IsOk, IfOk, OnOk, OnSome}
+use Rattle.std.specs.Prelude.{◌≡◌, ℕ, ◌<◌, Bool, Option, None, Result, Ok, Err, IsOk, IfOk, OnOk, OnSome}
 use Rattle.std.specs.Borrow.{MutBor}
 use Rattle.std.specs.Fn.{Once}
 use Rattle.scc_common.specs.Contents.{entries, bucket_count, hash_in, waiting_of, IsUnmarked}
 use Rattle.scc_common.specs.Pairs.{find, FindsInstead}
+use Rattle.scc_buckets.specs.declared.place.Place.{Place}
 use Rattle.scc_common.specs.declared.errors.InsertError.{InsertError}
-use Rattle.scc_owned_cache.specs.CacheSteps.{IsAbsent, IsPreparedForPut, Puts, Removes}
+use Rattle.scc_common.specs.declared.errors.InsertError.TheVariants.{Memory}
+use Rattle.scc_owned_cache.specs.CacheSteps.{IsAbsent, IsLastAt, IsPreparedForPut, Puts, Removes}
 use Rattle.scc_owned_cache.specs.CacheWalks.{RemovesIf}
 use Rattle.scc_owned_cache.specs.Caches.{Cached, IsCacheState}
 use Rattle.scc_owned_cache.specs.LookUps.{FindsAfterPut, FindsAfterTest}
@@ -54,3 +56,12 @@ module _ {K V S : Type 0} (eq : K → K → Bool) (hash_of : S → K → ℕ) wh
       pub relocates : RelocatesNoneWithin (λ p. hash_in hash_of c.contents p.0) c.contents d.contents
       -- if no pair was removed, the same buckets wait as before
       pub rests : result ≡ None → waiting_of d.contents ≡ waiting_of c.contents
+
+-- The contract of a call that returns the value of k, or makes one of which `Made` holds: it returns v, and turns c into d.
+pub data Recalls {K V S : Type 0} (hash : K → ℕ) (eq : K → K → Bool) (Made : V → Type 0) (c : Cached (K × V) S) (k : K) (v : V) (d : Cached (K × V) S) : Type 0 where
+  -- v is the value of k, whose pair moved to the end of its list
+  found : (at : Place) (s : IsLastAt hash eq c k d at) → v ≡ s.pair.1 → Recalls hash eq Made c k v d
+  -- k was missing, and v was made and put in
+  put : (x : Option (K × V)) → Made v → Puts hash eq c (k, v) (Ok x) d → Recalls hash eq Made c k v d
+  -- k was missing, v was made, and memory for a first array was refused
+  refused : Made v → Puts hash eq c (k, v) (Err (Memory (k, v))) d → Recalls hash eq Made c k v d

@@ -3,6 +3,7 @@ pub mod CacheWalks
 pub mod Caches
 pub mod Collections
 pub mod Entries
+pub mod Evictions
 pub mod KeyCalls
 pub mod Lends
 pub mod ListSteps

@@ -5,32 +5,47 @@ ghost use Rattle.scc_common.specs.Contents.{key_hash};
 ghost use Rattle.scc_table.specs.Places.{IsPlace};
 ghost use Rattle.std.specs.Prelude.{◌≡◌};
 
+mod lent;
 mod methods;
 
 use crate::Owned;
 use scc_buckets::Place;
-use scc_common::Guard;
+use scc_common::{Guard, Rule};
 use std::hash::{BuildHasher, Hash};
 use std::marker::PhantomData;
 
 /// An occupied entry: the place of a pair of the cache.
 #[derive(Drop)]
-pub struct HeldOccupied<G: Guard<Inner = Owned<K, V, H>>, N, K: Eq + Hash, V, H: BuildHasher> {
+pub struct HeldOccupied<
+    G: Guard<Inner = Owned<K, V, H, R>>,
+    N,
+    K: Eq + Hash,
+    V,
+    H: BuildHasher,
+    R: Rule<K, V>,
+> {
     pub(crate) guard: G,
     pub(crate) place: Place,
     pub(crate) rest: N,
-    pub(crate) of: PhantomData<(K, V, H)>,
+    pub(crate) of: PhantomData<(K, V, H, R)>,
     ghost within: { IsPlace (G.inner guard).contents place },
 }
 
 /// A vacant entry: a key that the cache lacks, with its hash.
 #[derive(Drop)]
-pub struct HeldVacant<G: Guard<Inner = Owned<K, V, H>>, N, K: Eq + Hash, V, H: BuildHasher> {
+pub struct HeldVacant<
+    G: Guard<Inner = Owned<K, V, H, R>>,
+    N,
+    K: Eq + Hash,
+    V,
+    H: BuildHasher,
+    R: Rule<K, V>,
+> {
     pub(crate) guard: G,
     pub(crate) key: K,
     pub(crate) hash: u64,
     pub(crate) rest: N,
-    pub(crate) of: PhantomData<(V, H)>,
+    pub(crate) of: PhantomData<(V, H, R)>,
     ghost lacking: { IsLacking (key_hash H.BuildHasher H.Hasher.Hasher K.hash_input (G.inner guard).contents) K.eq
         (G.inner guard).contents key },
     ghost hashed: { hash ≡ key_hash H.BuildHasher H.Hasher.Hasher K.hash_input (G.inner guard).contents key },
@@ -38,26 +53,41 @@ pub struct HeldVacant<G: Guard<Inner = Owned<K, V, H>>, N, K: Eq + Hash, V, H: B
 
 /// The entry of a key, occupied or vacant.
 #[derive(Drop)]
-pub enum HeldEntry<G: Guard<Inner = Owned<K, V, H>>, N, K: Eq + Hash, V, H: BuildHasher> {
-    Occupied(HeldOccupied<G, N, K, V, H>),
-    Vacant(HeldVacant<G, N, K, V, H>),
+pub enum HeldEntry<
+    G: Guard<Inner = Owned<K, V, H, R>>,
+    N,
+    K: Eq + Hash,
+    V,
+    H: BuildHasher,
+    R: Rule<K, V>,
+> {
+    Occupied(HeldOccupied<G, N, K, V, H, R>),
+    Vacant(HeldVacant<G, N, K, V, H, R>),
 }
 
 /// The result of `replace_sync`: the entry with its new key and the old key, or the vacant entry of a key that the
 /// cache lacks.
 #[derive(Drop)]
-pub enum HeldReplace<G: Guard<Inner = Owned<K, V, H>>, N, K: Eq + Hash, V, H: BuildHasher> {
-    Replaced(HeldOccupied<G, N, K, V, H>, K),
-    NotReplaced(HeldVacant<G, N, K, V, H>),
+pub enum HeldReplace<
+    G: Guard<Inner = Owned<K, V, H, R>>,
+    N,
+    K: Eq + Hash,
+    V,
+    H: BuildHasher,
+    R: Rule<K, V>,
+> {
+    Replaced(HeldOccupied<G, N, K, V, H, R>, K),
+    NotReplaced(HeldVacant<G, N, K, V, H, R>),
 }
 
-impl<G: Guard<Inner = Owned<K, V, H>>, N, K: Eq + Hash, V, H: BuildHasher> HeldOccupied<
-    G,
+impl<
+    G: Guard<Inner = Owned<K, V, H, R>>,
     N,
-    K,
+    K: Eq + Hash,
     V,
-    H,
-> {
+    H: BuildHasher,
+    R: Rule<K, V>,
+> HeldOccupied<G, N, K, V, H, R> {
     /// Makes the entry at a place of the cache of `guard`.
     #[inline(always)]
     pub(crate) fn at(guard: G, place: Place, rest: N) -> Self
@@ -75,13 +105,14 @@ impl<G: Guard<Inner = Owned<K, V, H>>, N, K: Eq + Hash, V, H: BuildHasher> HeldO
     }
 }
 
-impl<G: Guard<Inner = Owned<K, V, H>>, N, K: Eq + Hash, V, H: BuildHasher> HeldVacant<
-    G,
+impl<
+    G: Guard<Inner = Owned<K, V, H, R>>,
     N,
-    K,
+    K: Eq + Hash,
     V,
-    H,
-> {
+    H: BuildHasher,
+    R: Rule<K, V>,
+> HeldVacant<G, N, K, V, H, R> {
     /// Makes the entry of a key that the cache of `guard` lacks, and whose hash is `hash`.
     #[inline(always)]
     pub(crate) fn of_key(guard: G, key: K, hash: u64, rest: N) -> Self

@@ -3,17 +3,21 @@
 
 ghost use Rattle.scc_owned_cache.specs.CacheSteps.{AnswersOn, IsAbsent, IsPresent};
 ghost use Rattle.scc_owned_cache.specs.Caches.{IsCacheState};
+ghost use Rattle.scc_owned_cache.specs.Evictions.{IsEvictedFor};
 ghost use Rattle.scc_owned_cache.specs.KeyCalls.{PutsByRule, RemovesByRule, RemovesIfByRule};
 ghost use Rattle.scc_common.specs.Contents.{entries, bucket_count, minimum_of, note_of, pending_of, key_hash, hash_in};
+ghost use Rattle.scc_common.specs.Rules.{IsKeptAt, ReadsKept, RemovesKept};
 ghost use Rattle.std.specs.Borrow.{Bor};
-ghost use Rattle.std.specs.Fn.{FnOnceTakesAtMut};
-ghost use Rattle.std.specs.Prelude.{◌≡◌, ◌≤◌, ◌*◌, ◌↔◌, [], length, IsTrue, MatchOption};
+ghost use Rattle.std.specs.Fn.{FnOnceReturnsAtMut, FnOnceTakesAtMut};
+ghost use Rattle.std.specs.Prelude.{◌≡◌, ◌≤◌, ◌*◌, ◌↔◌, Bool, [], length, IfOk, IfSome, IsTrue, MatchOption};
 
 pub mod borrowed;
 pub mod held;
 mod hinted;
+mod lent;
 pub mod locked;
 mod make;
+mod making;
 mod part;
 mod places;
 mod prepare;
@@ -21,7 +25,7 @@ mod walk;
 mod whole;
 
 pub use borrowed::{Entry, OccupiedEntry, ReplaceResult, VacantEntry};
-use scc_common::{Hashes, InsertError};
+use scc_common::{Anything, Hashes, InsertError, Rule, Ruled};
 use scc_table::Table;
 use std::alloc::Global;
 use std::hash::{BuildHasher, BuildHasherDefault, FoldHasher, Hash};
@@ -37,15 +41,23 @@ pub const DEFAULT_MAXIMUM_CAPACITY: usize = 256;
 /// A cache from keys to values, in which no two keys are equal. A contract sees the lists of its buckets, each from
 /// the least to the most recent pair, its settings, and its maximum of slots as `c.maximum`.
 ///
+/// Each pair keeps the rule `R`. A call asks of what it stores that it keeps the rule, and says of what it reads or
+/// hands out that it does. Under `Anything`, what it asks proves itself.
+///
 /// The default hasher has a fixed seed. For keys that an attacker chooses, use `Owned::with_hasher(alloc,
 /// RandomState::new(&rt)?)`.
 #[derive(Drop)]
-pub struct Owned<K: Eq + Hash, V, H: BuildHasher = BuildHasherDefault<FoldHasher>> {
-    pub(crate) table: Table<(K, V), H>,
+pub struct Owned<
+    K: Eq + Hash,
+    V,
+    H: BuildHasher = BuildHasherDefault<FoldHasher>,
+    R: Rule<K, V> = Anything,
+> {
+    pub(crate) table: Table<Ruled<K, V, R>, H>,
     pub(crate) maximum: usize,
 }
 
-impl<K: Eq + Hash, V, H: BuildHasher> Model for Owned<K, V, H> {
+impl<K: Eq + Hash, V, H: BuildHasher, R: Rule<K, V>> Model for Owned<K, V, H, R> {
     ghost use Rattle.std.specs.Coded.{coded×};
     ghost use Rattle.scc_common.specs.Contents.{key_hash};
     ghost use Rattle.scc_owned_cache.specs.Caches.{Cached, cached_code, IsCacheState};
@@ -60,7 +72,7 @@ impl<K: Eq + Hash, V, H: BuildHasher> Model for Owned<K, V, H> {
         (record { contents = c.table; maximum = c.maximum }) };
 }
 
-impl<K: Eq + Hash, V, H: BuildHasher> Owned<K, V, H> {
+impl<K: Eq + Hash, V, H: BuildHasher, R: Rule<K, V>> Owned<K, V, H, R> {
     /// Returns the allocator of the cache.
     pub fn allocator(&self) -> Global {
         self.table.allocator()
@@ -137,12 +149,13 @@ impl<K: Eq + Hash, V, H: BuildHasher> Owned<K, V, H> {
     /// Returns the result of `f` on the pair of `k`. If no key equals `k`, returns `None` and doesn't call `f`. The
     /// order of the pairs stays.
     #[inline(always)]
-    pub fn read_sync<R, F: FnOnce(&K, &V) -> R>(&self, k: &K, f: F) -> Option<R>
+    pub fn read_sync<A, F: FnOnce(&K, &V) -> A>(&self, k: &K, f: F) -> Option<A>
         requires { (a : Bor K) (b : Bor V) → IsPresent (hash_in ⟦<H as Hashes<K>>⟧.hash_of self.now.contents) K.eq
-            self.now.contents k.now (a.now, b.now) → F.pre f a b }
+            self.now.contents k.now (a.now, b.now) → R.holds a.now b.now → F.pre f a b }
         ensures answer { MatchOption result (IsAbsent (hash_in ⟦<H as Hashes<K>>⟧.hash_of self.now.contents) K.eq
             self.now.contents k.now) (AnswersOn (hash_in ⟦<H as Hashes<K>>⟧.hash_of self.now.contents) K.eq F.FnOnce f
             self.now.contents k.now) }
+        ensures kept { IfSome result (ReadsKept K.eq R.holds F.FnOnce f k.now) }
     {
         let hash = self.table.hash(k);
         match self.place_of(hash, k) {
@@ -164,7 +177,9 @@ impl<K: Eq + Hash, V, H: BuildHasher> Owned<K, V, H> {
     /// refused doubling away.
     #[inline(always)]
     pub fn put_sync(&mut self, k: K, v: V) -> Result<EvictedEntry<K, V>, InsertError<K, V>>
-        ensures { PutsByRule K.eq ⟦<H as Hashes<K>>⟧.hash_of self.old (k, v) result self.new }
+        requires { R.holds k v }
+        ensures puts { PutsByRule K.eq ⟦<H as Hashes<K>>⟧.hash_of self.old (k, v) result self.new }
+        ensures evicted { IfOk result (IsEvictedFor K.eq R.holds k) }
     {
         let hash = self.table.hash(&k);
         match self.place_of(hash, &k) {
@@ -180,7 +195,8 @@ impl<K: Eq + Hash, V, H: BuildHasher> Owned<K, V, H> {
     /// left, the array may shrink, and then every bucket of the new array waits.
     #[inline(always)]
     pub fn remove_sync(&mut self, k: &K) -> Option<(K, V)>
-        ensures { RemovesByRule K.eq ⟦<H as Hashes<K>>⟧.hash_of self.old k.now result self.new }
+        ensures removes { RemovesByRule K.eq ⟦<H as Hashes<K>>⟧.hash_of self.old k.now result self.new }
+        ensures kept { IfSome result (IsKeptAt K.eq R.holds k.now) }
     {
         let hash = self.table.hash(k);
         match self.place_of(hash, k) {
@@ -191,17 +207,22 @@ impl<K: Eq + Hash, V, H: BuildHasher> Owned<K, V, H> {
 
     /// Calls `f` on the value of `k`. If `f` returns true, removes the pair, with what `f` wrote, and returns it. If
     /// `f` returns false, what it wrote stays, the result is `None`, and the order of the pairs stays. If no key
-    /// equals `k`, `f` isn't called and the result is `None`. If few pairs are left after a removal, the array may
-    /// shrink.
+    /// equals `k`, `f` isn't called and the result is `None`. What `f` leaves must keep the rule in both cases.
+    /// If few pairs are left after a removal, the array may shrink.
     #[inline(always)]
     pub fn remove_if_sync<F: FnOnce(&mut V) -> bool>(&mut self, k: &K, f: F) -> Option<(K, V)>
-        requires { (p : K × V) → IsPresent (hash_in ⟦<H as Hashes<K>>⟧.hash_of self.old.contents) K.eq
-            self.old.contents k.now p → FnOnceTakesAtMut F.FnOnce f p.1 }
-        ensures { RemovesIfByRule K.eq ⟦<H as Hashes<K>>⟧.hash_of F.FnOnce f self.old k.now result self.new }
+        requires callable { (p : K × V) → IsPresent (hash_in ⟦<H as Hashes<K>>⟧.hash_of self.old.contents) K.eq
+            self.old.contents k.now p → R.holds p.0 p.1 → FnOnceTakesAtMut F.FnOnce f p.1 }
+        requires keeps { (p : K × V) (b : Bool) (w : V)
+            → IsPresent (hash_in ⟦<H as Hashes<K>>⟧.hash_of self.old.contents) K.eq self.old.contents k.now p
+            → R.holds p.0 p.1 → FnOnceReturnsAtMut F.FnOnce f p.1 b w → R.holds p.0 w }
+        ensures removes { RemovesIfByRule K.eq ⟦<H as Hashes<K>>⟧.hash_of F.FnOnce f self.old k.now result self.new }
+        ensures kept { IfSome result (IsKeptAt K.eq R.holds k.now) }
+        ensures tested { IfSome result (RemovesKept R.holds F.FnOnce f k.now) }
     {
         let hash = self.table.hash(k);
         let place = self.place_of(hash, k)?;
-        if f(self.value_mut_at(place)) {
+        if self.modify_at(place, f) {
             Some(self.remove_at(place))
         } else {
             None

@@ -9,7 +9,7 @@ ghost use Rattle.std.specs.Prelude.{◌≤◌, List, IfOk, OnOk};
 
 use crate::{DEFAULT_MAXIMUM_CAPACITY, Owned};
 use scc_buckets::sizes::slots_for;
-use scc_common::{Hashes, InsertError, MakeError, Shared};
+use scc_common::{Hashes, InsertError, MakeError, Rule, Shared};
 use scc_table::Table;
 use std::alloc::Global;
 use std::hash::{BuildHasher, BuildHasherDefault, Hash};
@@ -31,7 +31,7 @@ impl<K: Eq + Hash, V> Owned<K, V> {
     }
 }
 
-impl<K: Eq + Hash, V, H: BuildHasher> Owned<K, V, Shared<H>> {
+impl<K: Eq + Hash, V, H: BuildHasher, R: Rule<K, V>> Owned<K, V, Shared<H>, R> {
     /// Returns an empty cache that skips `skipped` bits of each hash and shares `hasher` with the other parts.
     /// Otherwise as `with_capacity_and_hasher`.
     pub fn part(
@@ -47,6 +47,31 @@ impl<K: Eq + Hash, V, H: BuildHasher> Owned<K, V, Shared<H>> {
         ensures { MakesEmptyCache (λ _. arc_value hasher) skipped capacity maximum result }
     {
         Owned::skipping(alloc, skipped, capacity, maximum, Shared::new(hasher))
+    }
+}
+
+impl<K: Eq + Hash, V, H: BuildHasher, R: Rule<K, V>> Owned<K, V, H, R> {
+    /// Makes what `with_capacity_and_hasher` makes, but skips `skipped` bits of each hash.
+    pub fn skipping(
+        alloc: Global,
+        skipped: u32,
+        capacity: usize,
+        maximum: usize,
+        hasher: H,
+    ) -> Result<Self, MakeError>
+    where
+        H: Drop,
+        requires { skipped ≤ 4 }
+        ensures made { MakesEmptyCache (λ _. hasher) skipped capacity maximum result }
+        ensures state { IfOk result (λ c. IsCacheState K.eq (hash_in ⟦<H as Hashes<K>>⟧.hash_of c.contents) c) }
+    {
+        match Table::with_capacity(alloc, skipped, capacity, hasher) {
+            Ok(table) => {
+                let maximum = slots_for(maximum.max(32 * table.bucket_count()));
+                Ok(Owned { table, maximum })
+            }
+            Err(e) => Err(e),
+        }
     }
 }
 
@@ -76,29 +101,6 @@ impl<K: Eq + Hash, V, H: BuildHasher> Owned<K, V, H> {
         ensures { MakesEmptyCache (λ _. hasher) 0 capacity maximum result }
     {
         Owned::skipping(alloc, 0, capacity, maximum, hasher)
-    }
-
-    /// Makes what `with_capacity_and_hasher` makes, but skips `skipped` bits of each hash.
-    pub fn skipping(
-        alloc: Global,
-        skipped: u32,
-        capacity: usize,
-        maximum: usize,
-        hasher: H,
-    ) -> Result<Self, MakeError>
-    where
-        H: Drop,
-        requires { skipped ≤ 4 }
-        ensures made { MakesEmptyCache (λ _. hasher) skipped capacity maximum result }
-        ensures state { IfOk result (λ c. IsCacheState K.eq (hash_in ⟦<H as Hashes<K>>⟧.hash_of c.contents) c) }
-    {
-        match Table::with_capacity(alloc, skipped, capacity, hasher) {
-            Ok(table) => {
-                let maximum = slots_for(maximum.max(32 * table.bucket_count()));
-                Ok(Owned { table, maximum })
-            }
-            Err(e) => Err(e),
-        }
     }
 
     /// Returns a cache of the items, put in their order, so that the first value of a key stays unless it was evicted

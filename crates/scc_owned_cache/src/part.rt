@@ -4,13 +4,13 @@ ghost use Rattle.std.specs.Arc.{arc_value};
 ghost use Rattle.std.specs.Prelude.{◌≤◌, IfOk, Ok};
 
 use crate::Owned;
-use scc_common::{MakeError, Shared};
+use scc_common::{MakeError, Rule, Shared};
 use scc_stripes::{Follow, Part};
 use std::alloc::Global;
 use std::hash::{BuildHasher, Hash};
 use std::sync::Arc;
 
-impl<K: Eq + Hash, V, H: BuildHasher> Follow for Owned<K, V, H> {
+impl<K: Eq + Hash, V, H: BuildHasher, R: Rule<K, V>> Follow for Owned<K, V, H, R> {
     fn count(&self) -> usize {
         self.len()
     }
@@ -22,7 +22,7 @@ impl<K: Eq + Hash, V, H: BuildHasher> Follow for Owned<K, V, H> {
     fn follow(&mut self, _share: usize) {}
 }
 
-impl<K: Eq + Hash, V, H: BuildHasher> Part<H> for Owned<K, V, Shared<H>> {
+impl<K: Eq + Hash, V, R: Rule<K, V>, H: BuildHasher> Part<H> for Owned<K, V, Shared<H>, R> {
     ghost is_made = { λ skipped slots maximum hasher part. MakesEmptyCache {X = Unit {0}} (λ _. hasher) skipped slots maximum
         (Ok part) };
 

@@ -1,23 +1,27 @@
 //! The calls at a place of a cache.
 ghost use Rattle.scc_owned_cache.specs.CacheSteps.{IsFound, IsLacking, IsLastAt, IsPreparedForPut, PutsNew, TakesAt};
 ghost use Rattle.scc_owned_cache.specs.Caches.{IsCacheState};
-ghost use Rattle.scc_owned_cache.specs.Lends.{lends_value, with_key_at, with_value_at};
+ghost use Rattle.scc_owned_cache.specs.Lends.{with_key_at, with_value_at};
+ghost use Rattle.scc_owned_cache.specs.Evictions.{IsEvictedFor};
 ghost use Rattle.scc_owned_cache.specs.LookUps.{FindsAfterPut};
 ghost use Rattle.scc_owned_cache.specs.Relocations.{RelocatesNoneWithin, RelocatesOne, RelocatesTwoWithin};
+ghost use Rattle.scc_common.specs.Closures.{TakesAt as CallableAt, WritesAt};
 ghost use Rattle.scc_common.specs.Contents.{entries, bucket_count, list_of, hash_in, settings_of, waiting_of, IsUnmarked};
+ghost use Rattle.scc_common.specs.PairWalks.{CalledToWrite, TakesToWrite};
 ghost use Rattle.scc_common.specs.Pairs.{FindsInstead};
 ghost use Rattle.scc_common.specs.Routing.{bucket_number};
+ghost use Rattle.scc_common.specs.RuleWalks.{KeepsEachAlways};
 ghost use Rattle.scc_table.specs.Places.{IsPlace, index_of, spot_of};
 ghost use Rattle.scc_table.specs.TwoArrays.{IsWaiting};
-ghost use Rattle.std.specs.Borrow.{sem};
-ghost use Rattle.std.specs.Prelude.{◌≡◌, ◌<◌, true, Some, None, OnSome, MatchOption, IfOk, IfErr, OnOk, slice_get};
+ghost use Rattle.std.specs.Fn.{FnOnceReturnsAtMut, FnOnceTakesAtMut};
+ghost use Rattle.std.specs.Prelude.{◌≡◌, ◌<◌, true, Some, None, OnSome, MatchOption, IfOk, IfErr, IfSome, OnOk, slice_get};
 
 use crate::{EvictedEntry, Owned};
 use scc_buckets::Place;
-use scc_common::Hashes;
+use scc_common::{Hashes, OfPair, OfValue, Put, Rule, Ruled, Valued};
 use std::hash::{BuildHasher, Hash};
 
-impl<K: Eq + Hash, V, H: BuildHasher> Owned<K, V, H> {
+impl<K: Eq + Hash, V, H: BuildHasher, R: Rule<K, V>> Owned<K, V, H, R> {
     /// Returns the hash of `k`.
     pub fn hash_of(&self, k: &K) -> u64
         ensures { result ≡ hash_in ⟦<H as Hashes<K>>⟧.hash_of self.now.contents k.now }
@@ -40,10 +44,11 @@ impl<K: Eq + Hash, V, H: BuildHasher> Owned<K, V, H> {
     #[inline(always)]
     pub fn pair_at(&self, place: Place) -> (&K, &V)
         requires { IsPlace self.now.contents place }
-        ensures { slice_get (list_of self.now.contents (spot_of self.now.contents place).bucket)
+        ensures pair { slice_get (list_of self.now.contents (spot_of self.now.contents place).bucket)
             (spot_of self.now.contents place).slot ≡ Some (result.0.now, result.1.now) }
+        ensures kept { R.holds result.0.now result.1.now }
     {
-        self.table.pair_at(place)
+        self.table.entry_at(place).parts()
     }
 
     /// Puts in a pair whose key is new, and returns the evicted pair, if any, and the new pair's place. `hash` must be
@@ -53,6 +58,7 @@ impl<K: Eq + Hash, V, H: BuildHasher> Owned<K, V, H> {
     pub fn put_new(&mut self, hash: u64, k: K, v: V) -> Result<(EvictedEntry<K, V>, Place), (K, V)>
         requires hashed { hash ≡ hash_in ⟦<H as Hashes<K>>⟧.hash_of self.old.contents k }
         requires lacking { IsLacking (hash_in ⟦<H as Hashes<K>>⟧.hash_of self.old.contents) K.eq self.old.contents k }
+        requires kept { R.holds k v }
         ensures step { IfOk result (λ r. PutsNew (hash_in ⟦<H as Hashes<K>>⟧.hash_of self.old.contents) K.eq self.old (k, v)
             r.0 self.new) }
         ensures here { IfOk result (λ r. IsPlace self.new.contents r.1 × (slice_get
@@ -68,12 +74,13 @@ impl<K: Eq + Hash, V, H: BuildHasher> Owned<K, V, H> {
         ensures unmarked { OnOk result (IsUnmarked self.new.contents) }
         ensures finds { IfOk result (λ r. FindsAfterPut K.eq (entries self.old.contents) (k, v) r.0
             (entries self.new.contents)) }
+        ensures evicted { IfOk result (λ r. IsEvictedFor K.eq R.holds k r.0) }
     {
         match self.table.bucket_for_new(hash, self.maximum) {
             Ok(bucket) => {
                 self.table.drop_mark();
-                let (evicted, slot) = self.table.put_within(bucket, hash, (k, v));
-                Ok((evicted, Place { bucket, slot }))
+                let (evicted, slot) = self.table.put_within(bucket, hash, Ruled::new(k, v));
+                Ok((pair_out(evicted), Place { bucket, slot }))
             }
             Err(_) => Err((k, v)),
         }
@@ -155,46 +162,79 @@ impl<K: Eq + Hash, V, H: BuildHasher> Owned<K, V, H> {
         ensures state { IsCacheState K.eq (hash_in ⟦<H as Hashes<K>>⟧.hash_of self.new.contents) self.new }
         ensures relocates { RelocatesNoneWithin (λ p. hash_in ⟦<H as Hashes<K>>⟧.hash_of self.old.contents p.0)
             self.old.contents self.new.contents }
+        ensures kept { R.holds result.0 result.1 }
     {
-        let pair = self.table.take_in(place);
+        let entry = self.table.take_in(place);
         self.table.shrink_within();
-        pair
+        entry.into_pair()
     }
 
-    /// Returns the value at `place`, to write. The order of the pairs stays.
-    pub fn value_mut_at(&mut self, place: Place) -> &mut V
-        requires { IsPlace self.old.contents place }
-        ensures* writes_back { sem 𝓛 (lends_value K.row V.row H.row H.Hasher.row K.Hash H.BuildHasher H.Hasher.Hasher
-            self.entry place result) }
-        ensures value { (p : K × V) × (slice_get (list_of self.old.contents (spot_of self.old.contents place).bucket)
-            (spot_of self.old.contents place).slot ≡ Some p) × (result.now ≡ p.1) }
-        ensures state { (v : V) → IsCacheState K.eq
-            (hash_in ⟦<H as Hashes<K>>⟧.hash_of (with_value_at self.old place v).contents)
-            (with_value_at self.old place v) }
-    {
-        self.table.value_mut_at(place)
-    }
-
-    /// Returns the key at `place`, and the value to write. The order of the pairs stays.
-    pub fn parts_mut_at(&mut self, place: Place) -> (&K, &mut V)
-        requires { IsPlace self.old.contents place }
-        ensures* writes_back { sem 𝓛 (lends_value K.row V.row H.row H.Hasher.row K.Hash H.BuildHasher H.Hasher.Hasher
-            self.entry place result.1) }
-        ensures parts { slice_get (entries self.old.contents) (index_of self.old.contents place)
-            ≡ Some (result.0.now, result.1.now) }
-    {
-        self.table.parts_mut_at(place)
-    }
-
-    /// Writes `value` at `place`, and returns the old value.
+    /// Writes `value`, which must keep the rule, at `place`, and returns the old value.
     pub fn write_at(&mut self, place: Place, value: V) -> V
-        requires { IsPlace self.old.contents place }
+        requires within { IsPlace self.old.contents place }
+        requires kept { (p : K × V) → slice_get (list_of self.old.contents (spot_of self.old.contents place).bucket)
+            (spot_of self.old.contents place).slot ≡ Some p → R.holds p.0 value }
         ensures old { (p : K × V) × (slice_get (list_of self.old.contents (spot_of self.old.contents place).bucket)
-            (spot_of self.old.contents place).slot ≡ Some p) × (result ≡ p.1) }
+            (spot_of self.old.contents place).slot ≡ Some p) × (result ≡ p.1) × R.holds p.0 p.1 }
         ensures new { self.new ≡ with_value_at self.old place value }
         ensures state { IsCacheState K.eq (hash_in ⟦<H as Hashes<K>>⟧.hash_of self.new.contents) self.new }
     {
-        std::mem::replace(self.value_mut_at(place), value)
+        self.table.write_at(place, Put { value })
+    }
+
+    /// Calls `f` on the pair at `place`, with the value to write, and returns what `f` returns. What `f` leaves must
+    /// keep the rule. The order of the pairs stays.
+    pub fn update_at<A, F: FnOnce(&K, &mut V) -> A>(&mut self, place: Place, f: F) -> A
+        requires within { IsPlace self.old.contents place }
+        requires callable { (p : K × V)
+            → slice_get (list_of self.old.contents (spot_of self.old.contents place).bucket)
+            (spot_of self.old.contents place).slot ≡ Some p → R.holds p.0 p.1 → CallableAt F.FnOnce f p }
+        requires keeps { (p : K × V) (r : A) (w : V)
+            → slice_get (list_of self.old.contents (spot_of self.old.contents place).bucket)
+            (spot_of self.old.contents place).slot ≡ Some p → R.holds p.0 p.1
+            → WritesAt F.FnOnce f p r w → R.holds p.0 w }
+        ensures step { (p : K × V) × (w : V)
+            × (slice_get (list_of self.old.contents (spot_of self.old.contents place).bucket)
+            (spot_of self.old.contents place).slot ≡ Some p) × WritesAt F.FnOnce f p result w
+            × (self.new ≡ with_value_at self.old place w) × R.holds p.0 p.1 }
+        ensures state { IsCacheState K.eq (hash_in ⟦<H as Hashes<K>>⟧.hash_of self.new.contents) self.new }
+    {
+        self.table.write_at(place, OfPair { f })
+    }
+
+    /// Calls `f` on the value at `place`, to write, and returns what `f` returns. What `f` leaves must keep the rule.
+    /// The order of the pairs stays.
+    pub fn modify_at<A, F: FnOnce(&mut V) -> A>(&mut self, place: Place, f: F) -> A
+        requires within { IsPlace self.old.contents place }
+        requires callable { (p : K × V)
+            → slice_get (list_of self.old.contents (spot_of self.old.contents place).bucket)
+            (spot_of self.old.contents place).slot ≡ Some p → R.holds p.0 p.1 → FnOnceTakesAtMut F.FnOnce f p.1 }
+        requires keeps { (p : K × V) (r : A) (w : V)
+            → slice_get (list_of self.old.contents (spot_of self.old.contents place).bucket)
+            (spot_of self.old.contents place).slot ≡ Some p → R.holds p.0 p.1
+            → FnOnceReturnsAtMut F.FnOnce f p.1 r w → R.holds p.0 w }
+        ensures step { (p : K × V) × (w : V)
+            × (slice_get (list_of self.old.contents (spot_of self.old.contents place).bucket)
+            (spot_of self.old.contents place).slot ≡ Some p) × FnOnceReturnsAtMut F.FnOnce f p.1 result w
+            × (self.new ≡ with_value_at self.old place w) × R.holds p.0 p.1 × R.holds p.0 w }
+        ensures state { IsCacheState K.eq (hash_in ⟦<H as Hashes<K>>⟧.hash_of self.new.contents) self.new }
+    {
+        self.table.write_at(place, OfValue { f })
+    }
+
+    /// Calls `f` on the pair at `place`, with the value to write. The closure is lent. What it leaves must keep the
+    /// rule.
+    #[inline(always)]
+    pub(crate) fn visit<A, F: FnMut(&K, &mut V) -> A>(&mut self, place: Place, f: &mut F) -> A
+        requires within { IsPlace self.old.contents place }
+        requires callable { (p : K × V) → slice_get (entries self.old.contents) (index_of self.old.contents place)
+            ≡ Some p → R.holds p.0 p.1 → TakesToWrite F.FnMut f.old p }
+        requires keeps { KeepsEachAlways R.holds F.FnMut }
+        ensures { (p : K × V) × (w : V) × (slice_get (entries self.old.contents) (index_of self.old.contents place)
+            ≡ Some p) × CalledToWrite F.FnMut f.old p result w f.new × (self.new ≡ with_value_at self.old place w)
+            × R.holds p.0 p.1 × R.holds p.0 w }
+    {
+        self.table.visit_at(place, f)
     }
 
     /// Puts `key` in the place of the key at `place`, which must equal it, and returns the old key.
@@ -211,5 +251,16 @@ impl<K: Eq + Hash, V, H: BuildHasher> Owned<K, V, H> {
         ensures state { IsCacheState K.eq (hash_in ⟦<H as Hashes<K>>⟧.hash_of self.new.contents) self.new }
     {
         self.table.replace_key_at(place, key)
+    }
+}
+
+/// Returns the pair of the entry, if there is one. It keeps the rule.
+fn pair_out<K: Eq, V, R: Rule<K, V>>(entry: Option<Ruled<K, V, R>>) -> Option<(K, V)>
+    ensures same { result ≡ entry }
+    ensures kept { IfSome result (λ p. R.holds p.0 p.1) }
+{
+    match entry {
+        Some(entry) => Some(entry.into_pair()),
+        None => None,
     }
 }

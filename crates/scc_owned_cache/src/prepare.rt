@@ -7,10 +7,10 @@ ghost use Rattle.std.specs.Prelude.{◌≡◌, ◌<◌, ◌≤◌, length, Some,
 
 use crate::Owned;
 use scc_buckets::Place;
-use scc_common::{Hashes, MakeError};
+use scc_common::{Hashes, MakeError, Rule, Valued};
 use std::hash::{BuildHasher, Hash};
 
-impl<K: Eq + Hash, V, H: BuildHasher> Owned<K, V, H> {
+impl<K: Eq + Hash, V, H: BuildHasher, R: Rule<K, V>> Owned<K, V, H, R> {
     /// Makes what a put of `k` would have to make first, at most one resize: the first array, or an array of twice as
     /// many buckets if a doubling is due; then all buckets wait. No pair moves. If a key equals `k`, nothing is made.
     /// A doubling whose memory is refused is noted and marked: the put of `k` that follows doesn't try the doubling
@@ -89,7 +89,6 @@ impl<K: Eq + Hash, V, H: BuildHasher> Owned<K, V, H> {
         if self.table.list_len(bucket) < 32 {
             return None;
         }
-        let pair = self.table.first_entry(bucket);
-        Some((&pair.0, &pair.1))
+        Some(self.table.first_entry(bucket).parts())
     }
 }

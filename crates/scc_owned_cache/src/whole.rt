@@ -9,11 +9,11 @@ ghost use Rattle.std.specs.Option.{option_eq};
 ghost use Rattle.std.specs.Prelude.{◌≡◌, Some, IfOk, OnErr};
 
 use crate::Owned;
-use scc_common::Hashes;
+use scc_common::{Hashes, Rule, Valued};
 use std::alloc::AllocError;
 use std::hash::{BuildHasher, Hash};
 
-impl<K: Eq + Hash, V, H: BuildHasher> Owned<K, V, H> {
+impl<K: Eq + Hash, V, H: BuildHasher, R: Rule<K, V>> Owned<K, V, H, R> {
     /// Returns a clone of the value of `k`, or `None` if no key equals `k`.
     pub fn cloned_value(&self, k: &K) -> Result<Option<V>, AllocError>
     where
@@ -112,7 +112,7 @@ impl<K: Eq + Hash, V: PartialEq, H: BuildHasher> Owned<K, V, H> {
     {
         let hash = self.table.hash(k);
         match self.table.search(hash, k) {
-            Some(place) => *v == *self.table.pair_at(place).1,
+            Some(place) => *v == *self.table.entry_at(place).parts().1,
             None => false,
         }
     }
@@ -122,6 +122,6 @@ impl<K: Eq + Hash, V: PartialEq, H: BuildHasher> Owned<K, V, H> {
         ensures { result ≡ list_all (λ p. option_eq (λ p q. V.eq p.1 q.1) (Some p)
             (find K.eq (entries other.now.contents) p.0)) (entries self.now.contents) }
     {
-        self.table.walk(|k, v| other.has_pair(k, v))
+        self.iter_lent(&mut |k, v| other.has_pair(k, v))
     }
 }

@@ -5,8 +5,7 @@
 
 pub mod ruled;
 
-pub use scc_common::{KeyError, MakeError, Verdict, WalkError};
+pub use scc_common::{Anything, KeyError, MakeError, Rule, Verdict, WalkError};
 pub use scc_owned_set::{Owned, entry as owned};
-pub use scc_rules::{Anything, Rule};
 pub use scc_shared_set::{HashSet, OccupiedEntry, Reserve, RuledSet};
 pub use scc_table::Reservation;

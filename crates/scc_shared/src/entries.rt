@@ -31,9 +31,10 @@ where
         ensures seat { IsSeatOfKey H.BuildHasher H.Hasher.Hasher E.Key.hash_input (stripes_of self.now) k
             (entry_rest result) }
     {
-        let stripe = self.stripes.route(&k);
+        let hash = self.stripes.hash(&k);
+        let stripe = self.stripes.route_hash(hash);
         let (guard, seat) = self.stripes.hold_to_insert(rt, stripe);
-        HeldEntry::of(guard, k, seat)
+        HeldEntry::of(guard, hash, k, seat)
     }
 
     /// Returns the occupied entry of `k`, or `None` if no key equals `k`.
@@ -44,9 +45,10 @@ where
         ensures seat { IfSome result (λ o. IsSeatOfKey H.BuildHasher H.Hasher.Hasher E.Key.hash_input
             (stripes_of self.now) k.now (occupied_rest o)) }
     {
-        let stripe = self.stripes.route(k);
+        let hash = self.stripes.hash(k);
+        let stripe = self.stripes.route_hash(hash);
         let (guard, seat) = self.stripes.hold(rt, stripe);
-        HeldOccupied::of(guard, k, seat)
+        HeldOccupied::of(guard, hash, k, seat)
     }
 
     /// Returns the first entry of the first stripe that has an entry, or `None` if no stripe has one.

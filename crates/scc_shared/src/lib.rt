@@ -9,6 +9,7 @@ ghost use Rattle.scc_stripes.specs.Stripes.{stripe_bits};
 ghost use Rattle.std.specs.Prelude.{◌≡◌, IfOk};
 
 mod entries;
+mod getting;
 pub mod index;
 pub mod map;
 pub mod paired;

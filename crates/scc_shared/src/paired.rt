@@ -7,9 +7,8 @@ ghost use Rattle.scc_shared.specs.Copying.{HasEqual};
 ghost use Rattle.std.specs.Prelude.{◌≡◌, List, Some, map, slice_get};
 
 use scc_buckets::Place;
-use scc_common::SharedVersion;
+use scc_common::{Rule, Ruled, RuledVersion, SharedVersion};
 use scc_owned::{Owned, Stored};
-use scc_rules::{Rule, Ruled, RuledVersion};
 use std::hash::{BuildHasher, Hash};
 
 /// An entry that is read as a key and a value: a pair or a version, under a rule or under none.

@@ -7,7 +7,7 @@ mod snapshots;
 mod walks;
 
 use crate::HashContainer;
-use scc_rules::RuledVersion;
+use scc_common::RuledVersion;
 pub use snapshots::RuledIter;
 use std::hash::{BuildHasherDefault, FoldHasher};
 

@@ -2,12 +2,11 @@
 //! rule, and what they hand out keeps it.
 
 mod calls;
-mod getting;
 mod make;
 mod walks;
 
 use crate::HashContainer;
-use scc_rules::Ruled;
+use scc_common::Ruled;
 use std::hash::{BuildHasherDefault, FoldHasher};
 
 /// A map from keys to values that threads share by reference, each of whose pairs keeps the rule `R`: what a call stores

@@ -3,7 +3,7 @@ ghost use Rattle.std.specs.List.{FoldsTo};
 ghost use Rattle.std.specs.Prelude.{◌≡◌, false, IfOk, IsTrue};
 ghost use Rattle.scc_common.specs.Contents.{entries};
 ghost use Rattle.scc_common.specs.Routing.{stripe_of};
-ghost use Rattle.scc_rules.specs.Rules.{ClonesKeep};
+ghost use Rattle.scc_common.specs.Rules.{ClonesKeep};
 ghost use Rattle.scc_stripes.specs.Parts.{part_count, parts_hasher, parts_of, parts_owner};
 ghost use Rattle.scc_shared.specs.Copying.{InsertsClones, InsertsMissing, InsertsNothing, InsertsRouted};
 ghost use Rattle.scc_shared.specs.Stripes.{hasher_of};

@@ -1,5 +1,5 @@
 //! Calls on a whole container: clearing, comparing, cloning. They look at the stripes one after another.
-ghost use Rattle.scc_rules.specs.Rules.{ClonesKeep};
+ghost use Rattle.scc_common.specs.Rules.{ClonesKeep};
 ghost use Rattle.std.specs.Prelude.{◌≡◌, ◌<◌, IfOk};
 ghost use Rattle.scc_stripes.specs.Stripes.{stripe_count};
 ghost use Rattle.scc_shared.specs.Stripes.{hasher_of};

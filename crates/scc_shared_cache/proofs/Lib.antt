@@ -1,2 +1,3 @@
 mod Replies
+mod StripeWalks
 pub mod SizesLemmas

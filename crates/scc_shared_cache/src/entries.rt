@@ -11,16 +11,17 @@ ghost use Rattle.scc_shared_cache.specs.Stripes.{stripes_of};
 ghost use Rattle.scc_common.specs.Replies.{HasKey};
 ghost use Rattle.scc_shared_cache.specs.Replies.{ReplacesEqual};
 
-use super::{Entry, HashCache, OccupiedEntry, ReplaceResult};
-use scc_common::Hashes;
+use crate::SharedCache;
+use scc_common::{Hashes, Rule};
 use scc_owned_cache::held::{HeldEntry, HeldOccupied, HeldReplace};
+use scc_owned_cache::locked::{Entry, OccupiedEntry, ReplaceResult};
 use std::hash::{BuildHasher, Hash};
 use std::sync::Wait;
 
-impl<K: Eq + Hash, V, H: BuildHasher> HashCache<K, V, H> {
+impl<K: Eq + Hash, V, R: Rule<K, V>, H: BuildHasher> SharedCache<K, V, R, H> {
     /// Returns the entry of `k`: occupied if a key equals `k`, else vacant with `k`. The pair of an occupied entry
     /// becomes the most recent of its bucket. Inserts nothing and makes no array.
-    pub fn entry_sync(&self, rt: &impl Wait, k: K) -> Entry<'_, K, V, H>
+    pub fn entry_sync(&self, rt: &impl Wait, k: K) -> Entry<'_, K, V, H, R>
     where
         K: Drop,
         ensures key { K.eq k (entry_key result) ≡ true }
@@ -36,7 +37,7 @@ impl<K: Eq + Hash, V, H: BuildHasher> HashCache<K, V, H> {
 
     /// Returns the occupied entry of `k`, whose pair becomes the most recent of its bucket, or `None` if no key equals
     /// `k`. If it returns `None`, nothing changes.
-    pub fn get_sync(&self, rt: &impl Wait, k: &K) -> Option<OccupiedEntry<'_, K, V, H>>
+    pub fn get_sync(&self, rt: &impl Wait, k: &K) -> Option<OccupiedEntry<'_, K, V, H, R>>
         ensures key { IfSome result (λ o. HasKey K.eq k.now (occupied_pair o)) }
         ensures entry { IfSome result (λ o. (before : Cached (K × V) H) × IsRefreshed K.eq before k.now o) }
         ensures state { IfSome result (λ o. IsCacheState K.eq (hash_in ⟦<H as Hashes<K>>⟧.hash_of
@@ -52,7 +53,7 @@ impl<K: Eq + Hash, V, H: BuildHasher> HashCache<K, V, H> {
     /// Puts `k` in the place of the key that equals `k`, keeps the value, makes the pair the most recent of its
     /// bucket, and returns the occupied entry with the old key. If no key equals `k`, changes nothing and returns the
     /// vacant entry.
-    pub fn replace_sync(&self, rt: &impl Wait, k: K) -> ReplaceResult<'_, K, V, H>
+    pub fn replace_sync(&self, rt: &impl Wait, k: K) -> ReplaceResult<'_, K, V, H, R>
         ensures key { ReplacesEqual K.eq k result }
         ensures step { (before : Cached (K × V) H) × Replaces K.eq before k result }
         ensures state { IsCacheState K.eq (hash_in ⟦<H as Hashes<K>>⟧.hash_of

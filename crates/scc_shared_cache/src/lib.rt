@@ -1,4 +1,5 @@
-//! A hash cache that threads share: a fixed number of stripes, each an owned cache behind a lock.
+//! Hash caches that threads share, under a rule or under none: a fixed number of stripes, each an owned cache behind a
+//! lock.
 #![tactic(auto)]
 
 ghost use Rattle.std.specs.Prelude.{◌≡◌, ℕ, max, IfOk};
@@ -6,14 +7,15 @@ ghost use Rattle.scc_common.specs.Sizes.{IsArraySize};
 
 mod calls;
 mod entries;
+mod making;
+pub mod ruled;
 mod sizes;
 mod walks;
 mod whole;
 
 use scc_buckets::sizes::slots_for;
-use scc_common::{MakeError, Shared};
-use scc_owned_cache::locked::{Entry, OccupiedEntry, ReplaceResult, VacantEntry};
-use scc_owned_cache::{DEFAULT_MAXIMUM_CAPACITY, EvictedEntry, Owned};
+use scc_common::{Anything, MakeError, Rule, Shared, Under};
+use scc_owned_cache::{DEFAULT_MAXIMUM_CAPACITY, Owned};
 use scc_stripes::Striped;
 use scc_stripes::shares::sizes_for;
 use std::alloc::Global;
@@ -23,14 +25,28 @@ use std::hash::{BuildHasher, BuildHasherDefault, FoldHasher, Hash};
 /// and a call takes the lock of the stripe of its key. Each stripe has its share of the maximum, and evicts its pairs
 /// on its own.
 ///
-/// A thread that holds an entry and makes a call on the stripe of that entry waits for itself forever.
+/// Each pair keeps the rule `R`: what a call stores keeps it, and so does what a call hands out, an evicted pair too.
+///
+/// A thread that holds an entry, or a closure that a call runs, and that makes a call on the same stripe, waits for
+/// itself forever.
 #[derive(Drop)]
-pub struct HashCache<K: Eq + Hash, V, H: BuildHasher = BuildHasherDefault<FoldHasher>> {
-    stripes: Striped<Owned<K, V, Shared<H>>, H>,
+pub struct SharedCache<K: Eq + Hash, V, R: Rule<K, V>, H: BuildHasher> {
+    stripes: Striped<Owned<K, V, Shared<H>, R>, H>,
     maximum: usize,
 }
 
-impl<K: Eq + Hash + Drop, V: Drop> HashCache<K, V> {
+/// A cache under no rule.
+pub type HashCache<K, V, H = BuildHasherDefault<FoldHasher>> = SharedCache<K, V, Anything, H>;
+
+/// A cache each of whose pairs keeps the rule `R`.
+pub type RuledCache<K, V, R, H = BuildHasherDefault<FoldHasher>> = SharedCache<K, V, Under<R>, H>;
+
+impl<K: Eq + Hash + Drop, V: Drop, R: Rule<K, V>> SharedCache<
+    K,
+    V,
+    R,
+    BuildHasherDefault<FoldHasher>,
+> {
     ghost use Rattle.scc_shared_cache.specs.SharedSizes.{maximum_of};
     ghost use Rattle.scc_shared_cache.specs.Stripes.{hasher_of, stripes_of};
     ghost use Rattle.scc_stripes.specs.Sizes.{IsBitsAsked, IsSlotsAsked};
@@ -41,7 +57,7 @@ impl<K: Eq + Hash + Drop, V: Drop> HashCache<K, V> {
         ensures maximum { IfOk result (λ c. maximum_of c ≡ 256) }
         ensures stripes { IfOk result (λ c. IsBitsAsked 0 256 (stripe_bits (stripes_of c))) }
     {
-        HashCache::with_hasher(alloc, BuildHasherDefault::new())
+        SharedCache::with_hasher(alloc, BuildHasherDefault::new())
     }
 
     /// Returns an empty cache of `capacity` and `maximum`, as `with_capacity_and_hasher` does.
@@ -49,11 +65,11 @@ impl<K: Eq + Hash + Drop, V: Drop> HashCache<K, V> {
         ensures maximum { IfOk result (λ c. (n : ℕ) × IsSlotsAsked capacity n × IsArraySize (max maximum n) (maximum_of c)) }
         ensures stripes { IfOk result (λ c. IsBitsAsked capacity maximum (stripe_bits (stripes_of c))) }
     {
-        HashCache::with_capacity_and_hasher(alloc, capacity, maximum, BuildHasherDefault::new())
+        SharedCache::with_capacity_and_hasher(alloc, capacity, maximum, BuildHasherDefault::new())
     }
 }
 
-impl<K: Eq + Hash + Drop, V: Drop, H: BuildHasher + Drop> HashCache<K, V, H> {
+impl<K: Eq + Hash + Drop, V: Drop, R: Rule<K, V>, H: BuildHasher + Drop> SharedCache<K, V, R, H> {
     ghost use Rattle.scc_shared_cache.specs.SharedSizes.{maximum_of};
     ghost use Rattle.scc_shared_cache.specs.Stripes.{hasher_of, stripes_of};
     ghost use Rattle.scc_stripes.specs.Sizes.{IsBitsAsked, IsSlotsAsked};
@@ -65,7 +81,7 @@ impl<K: Eq + Hash + Drop, V: Drop, H: BuildHasher + Drop> HashCache<K, V, H> {
         ensures stripes { IfOk result (λ c. IsBitsAsked 0 256 (stripe_bits (stripes_of c))) }
         ensures hasher { IfOk result (λ c. hasher_of c ≡ hasher) }
     {
-        HashCache::with_capacity_and_hasher(alloc, 0, DEFAULT_MAXIMUM_CAPACITY, hasher)
+        SharedCache::with_capacity_and_hasher(alloc, 0, DEFAULT_MAXIMUM_CAPACITY, hasher)
     }
 
     /// Returns an empty cache. The slots of its arrays together are the least power of two that is at least `capacity`
@@ -86,6 +102,6 @@ impl<K: Eq + Hash + Drop, V: Drop, H: BuildHasher + Drop> HashCache<K, V, H> {
         let (bits, slots) = sizes_for(capacity, maximum);
         let maximum = slots_for(maximum.max(slots));
         let stripes = Striped::make(alloc, bits, slots, maximum, hasher)?;
-        Ok(HashCache { stripes, maximum })
+        Ok(SharedCache { stripes, maximum })
     }
 }

@@ -5,12 +5,13 @@ ghost use Rattle.scc_stripes.specs.Stripes.{stripe_count};
 ghost use Rattle.scc_shared_cache.specs.SharedSizes.{maximum_of};
 ghost use Rattle.scc_shared_cache.specs.Stripes.{hasher_of, stripes_of};
 
-use super::HashCache;
+use crate::SharedCache;
+use scc_common::Rule;
 use std::hash::{BuildHasher, Hash};
 use std::ops::RangeInclusive;
 use std::sync::Wait;
 
-impl<K: Eq + Hash, V, H: BuildHasher> HashCache<K, V, H> {
+impl<K: Eq + Hash, V, R: Rule<K, V>, H: BuildHasher> SharedCache<K, V, R, H> {
     /// Returns the number of pairs, at most `usize::MAX`. Takes time proportional to the number of stripes.
     pub fn len(&self, rt: &impl Wait) -> usize {
         self.stripes.count(rt)

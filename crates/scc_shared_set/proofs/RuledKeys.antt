@@ -3,7 +3,7 @@ use Rattle.std.proofs.Common.{Bool, List, [], ◌∷◌, subst}
 use Rattle.std.specs.Borrow.{Bor}
 use Rattle.std.specs.Fn.{Once, FnOnceReturnsAt}
 use Rattle.std.specs.Map.{keys_of}
-use Rattle.scc_rules.specs.Rules as rules
+use Rattle.scc_common.specs.Rules as rules
 use Rattle.scc_shared_set.specs.KeyRules.{AllKeep, ReadsKept}
 
 -- the keys of pairs that keep the rule keep it

@@ -7,8 +7,8 @@ mod make;
 mod walks;
 
 use crate::{HeldKey, KeySet};
+use scc_common::Ruled;
 use scc_owned::ruled_map::locked;
-use scc_rules::Ruled;
 use std::hash::{BuildHasherDefault, FoldHasher};
 
 /// A set of keys that threads share by reference, each of which keeps the rule `R`: what a call inserts keeps it, and so

@@ -1,7 +1,7 @@
 //! Calls on a whole set: comparing, cloning, making a set of items. They look at the stripes one after another.
 ghost use Rattle.std.specs.Prelude.{◌≡◌, List, length, IfOk};
 ghost use Rattle.std.specs.Iterator.{Drains, IsFinite};
-ghost use Rattle.scc_rules.specs.Rules.{ClonesKeep};
+ghost use Rattle.scc_common.specs.Rules.{ClonesKeep};
 ghost use Rattle.scc_stripes.specs.Sizes.{IsBitsAsked};
 ghost use Rattle.scc_stripes.specs.Stripes.{stripe_bits};
 ghost use Rattle.scc_shared_set.specs.Stripes.{hasher_of, stripes_of};

@@ -1,6 +1,7 @@
 pub mod Arrays
 pub mod Bounded
 pub mod Growths
+pub mod Hints
 pub mod Insertions
 pub mod Installations
 pub mod LendsTable

@@ -16,6 +16,7 @@ mod remove;
 mod resize;
 mod walk;
 
+pub use lookup::hinted::Hinted;
 pub use resize::reserve::Reservation;
 use scc_buckets::Buckets;
 use scc_common::{Hashes, Keyed};

@@ -2,7 +2,7 @@
 ghost use Rattle.std.specs.Prelude.{◌≡◌, ℕ, IfOk, IsOk};
 
 use scc_common::MakeError;
-use scc_owned_memo::{Memo, Pure};
+use scc_memo::{Memo, Pure};
 use std::alloc::Global;
 use std::hash::{BuildHasherDefault, FoldHasher};
 use std::marker::Model;

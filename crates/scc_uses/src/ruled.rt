@@ -1,9 +1,8 @@
 //! Callers of maps under a rule: squares, sessions that have their token, and a caller that knows no rule.
 ghost use Rattle.std.specs.Prelude.{◌≡◌, ◌≤◌, ◌<◌, ◌*◌, ◌^◌, IfSome};
 
-use scc_common::Verdict;
+use scc_common::{Rule, Verdict};
 use scc_owned::ruled_map::locked::Entry;
-use scc_rules::Rule;
 use scc_shared::ruled_map::RuledMap;
 use std::hash::{BuildHasher, Hash};
 use std::sync::Wait;

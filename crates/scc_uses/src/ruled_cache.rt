@@ -2,8 +2,9 @@
 ghost use Rattle.std.specs.Prelude.{◌≡◌, IfSome};
 
 use crate::shared_requests::Service;
-use scc_ruled_cache::{Entry, RuledCache};
-use scc_rules::Rule;
+use scc_common::Rule;
+use scc_shared_cache::RuledCache;
+use scc_shared_cache::ruled::Entry;
 use std::marker::PhantomData;
 use std::sync::Wait;
 

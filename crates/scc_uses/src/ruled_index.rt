@@ -2,9 +2,8 @@
 ghost use Rattle.std.specs.Arc.{arc_value};
 ghost use Rattle.std.specs.Prelude.{◌≡◌, ◌≤◌, IfErr, IfOk, IfSome, IsTrue};
 
-use scc_common::{MakeError, Version};
+use scc_common::{MakeError, Rule, Version};
 use scc_owned::ruled_index::locked::Entry;
-use scc_rules::Rule;
 use scc_shared::ruled_index::RuledIndex;
 use std::sync::{Arc, Wait};
 

@@ -1,7 +1,7 @@
 //! Callers of a set under a rule: even numbers.
 ghost use Rattle.std.specs.Prelude.{◌≡◌, ◌*◌, ◌%◌, ◌<◌, ◌^◌, IfSome};
 
-use scc_rules::Rule;
+use scc_common::Rule;
 use scc_shared_set::RuledSet;
 use std::sync::Wait;
 

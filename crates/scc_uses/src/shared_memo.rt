@@ -2,7 +2,7 @@
 ghost use Rattle.std.specs.Prelude.{◌≡◌, ◌*◌, ℕ, Some, IfErr, IfOk, slice_get};
 
 use crate::shared_requests::Service;
-use scc_shared_memo::{Memo, Pure, TryMemo, TryPure};
+use scc_memo::shared::{Memo, Pure, TryMemo, TryPure};
 use std::alloc::{AllocError, Global};
 use std::sync::Wait;
 use std::thread::{Threads, map_indices};

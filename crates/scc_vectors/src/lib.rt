@@ -6,6 +6,8 @@ mod cache;
 #[cfg(test)]
 mod expect;
 #[cfg(test)]
+mod hashes;
+#[cfg(test)]
 mod index;
 #[cfg(test)]
 mod made_values;

@@ -1,11 +1,14 @@
 // Tests of a memo of squares. Under `Zero` all keys share a bucket.
-ghost use Rattle.std.specs.Prelude.{◌*◌};
+ghost use Rattle.std.specs.Prelude.{◌≡◌, ℕ, ◌*◌};
 ghost use Rattle.std.proofs.Common.{ap};
 ghost use Rattle.std.proofs.lemmas.Bool.{eqb-true};
 
 use crate::expect::{expect, expect_eq};
 use scc::memo::{Memo, Pure};
+use std::alloc::AllocError;
+use std::marker::Model;
 use std::process::Abort;
+use std::sync::atomic::{AtomicU64, Ordering};
 use test_kit::zero::Zero;
 
 // Computes the square of a number.
@@ -65,4 +68,67 @@ fn memo_of_the_greatest_square(rt: HostRuntime) {
         ),
         Err(_) => expect(&rt, false),
     }
+}
+
+// A number. Memory for its clone is refused if it is odd.
+#[derive(Drop)]
+struct Scarce(u64);
+
+impl Model for Scarce {
+    ghost Value = { ℕ };
+
+    ghost view = { λ s. s.0 };
+}
+
+impl Clone for Scarce {
+    ghost is_clone = { λ s t. t ≡ s };
+
+    fn clone(&self) -> Result<Scarce, AllocError> {
+        if self.0 % 2 == 0 {
+            Ok(Scarce(self.0))
+        } else {
+            Err(AllocError)
+        }
+    }
+}
+
+// Makes a number of a key, and counts how often.
+#[derive(Drop)]
+struct Counted<'a> {
+    calls: &'a AtomicU64,
+}
+
+impl<'a> Pure for Counted<'a> {
+    type Key = u64;
+
+    type Value = Scarce;
+
+    ghost value = { λ _ k. k };
+
+    ghost equal_alike = { λ p j k same. eqb-true j k same };
+
+    fn of(&self, k: &u64) -> Scarce {
+        self.calls.fetch_add(1, Ordering::Relaxed);
+        Scarce(*k)
+    }
+}
+
+/// Returns the value of `k`, and how often the function was called so far.
+fn cloned(memo: &mut Memo<Counted<'_>, Zero>, calls: &AtomicU64, k: u64) -> (u64, u64) {
+    let value = memo.get_cloned(k).0;
+    (value, calls.load(Ordering::Relaxed))
+}
+
+#[test]
+fn memo_clones_what_it_keeps(rt: HostRuntime) {
+    let calls = AtomicU64::new(0);
+    let mut memo = Memo::with_hasher(rt.alloc(), Counted { calls: &calls }, Zero);
+    let even = [cloned(&mut memo, &calls, 2), cloned(&mut memo, &calls, 2)];
+    let odd = [cloned(&mut memo, &calls, 3), cloned(&mut memo, &calls, 3)];
+    let removed = (memo.len(), memo.forget(&3), memo.len());
+    expect_eq(
+        &rt,
+        (even, odd, removed),
+        ([(2, 1), (2, 1)], [(3, 3), (3, 4)], (2, true, 1)),
+    );
 }

@@ -1,10 +1,10 @@
 //! A case, tried in every kind and form of container.
 
 use crate::held::Held;
-use scc_ruled_cache::RuledCache;
-use scc_rules::Anything;
+use scc_common::Anything;
 use scc_shared::ruled_index::RuledIndex;
 use scc_shared::ruled_map::RuledMap;
+use scc_shared_cache::RuledCache;
 use scc_shared_set::RuledSet;
 use std::alloc::AllocError;
 use std::sync::Wait;

@@ -1,9 +1,9 @@
 // The kinds under a rule, made for a job.
 use crate::makers::{Job, Made, Of, item, until_made};
-use scc_ruled_cache::RuledCache;
-use scc_rules::Anything;
+use scc_common::Anything;
 use scc_shared::ruled_index::RuledIndex;
 use scc_shared::ruled_map::RuledMap;
+use scc_shared_cache::RuledCache;
 use scc_shared_set::RuledSet;
 use std::alloc::Global;
 use std::io::Print;

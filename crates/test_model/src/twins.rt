@@ -3,13 +3,12 @@
 
 use crate::draws::{Call, Draws};
 use crate::tally::Tally;
-use scc_ruled_cache::RuledCache;
-use scc_rules::Anything;
+use scc_common::Anything;
 use scc_shared::index::HashIndex;
 use scc_shared::map::HashMap;
 use scc_shared::ruled_index::RuledIndex;
 use scc_shared::ruled_map::RuledMap;
-use scc_shared_cache::HashCache;
+use scc_shared_cache::{HashCache, RuledCache};
 use scc_shared_set::{HashSet, RuledSet};
 use std::alloc::{AllocError, Global};
 use std::sync::Wait;

@@ -1,7 +1,7 @@
 // Caches under a rule: a value is made for a missing key alone, and evictions stay within the maximum and lose no pair.
 use crate::expect::{expect, expect_eq};
-use scc_ruled_cache::RuledCache;
-use scc_rules::Anything;
+use scc_common::Anything;
+use scc_shared_cache::RuledCache;
 use scc_uses::ruled_cache::{Answers, displaced, served, served_once};
 use scc_uses::shared_requests::Service;
 use std::process::Abort;

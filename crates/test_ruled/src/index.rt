@@ -1,8 +1,7 @@
 // Indexes under a rule: a clone of a snapshot goes on where the snapshot is, and a version that a thread keeps stays
 // what it is.
 use crate::expect::{expect, expect_eq};
-use scc_common::MakeError;
-use scc_rules::Anything;
+use scc_common::{Anything, MakeError};
 use scc_shared::ruled_index::RuledIndex;
 use scc_uses::ruled_index::{
     Ways, hops_for_neighbours, lead_there, offer, shorten, way_to, withdraw,

@@ -8,6 +8,8 @@ mod expect;
 #[cfg(test)]
 mod index;
 #[cfg(test)]
+mod made;
+#[cfg(test)]
 mod map;
 #[cfg(test)]
 mod memo;

@@ -1,7 +1,7 @@
 // Maps under a rule: a value is made for a missing key alone, and threads that share such a map find what the rule
 // says.
 use crate::expect::{expect, expect_eq};
-use scc_rules::Anything;
+use scc_common::Anything;
 use scc_shared::ruled_map::RuledMap;
 use scc_uses::ruled::{
     Squares, TokenSessions, are_short, opened, renewed, square_of, sweep_sessions,

@@ -1,6 +1,6 @@
 // A memo that threads share computes each value once, and keeps no failure.
 use crate::expect::{expect, expect_eq};
-use scc_shared_memo::{Memo, Pure, TryMemo};
+use scc_memo::shared::{Memo, Pure, TryMemo};
 use scc_uses::shared_memo::{Half, half_of};
 use std::sync::Wait;
 use std::sync::atomic::{AtomicU64, Ordering};
@@ -73,6 +73,16 @@ fn memo_keeps_no_failure(rt: HostRuntime) -> Result<(), Fail> {
     expect_eq(&rt, half_of(&rt, &halves, 8), Ok(4));
     expect_eq(&rt, (halves.len(&rt), halves.known(&rt, &8)), (1, Some(4)));
     expect(&rt, halves.forget(&rt, &8) && halves.capacity(&rt) <= 256);
+    Ok(())
+}
+
+#[test]
+fn memo_that_may_fail_clones_what_it_keeps(rt: HostRuntime) -> Result<(), Fail> {
+    let halves: TryMemo<Half> = TryMemo::new(rt.alloc(), Half)?;
+    let odd = halves.get_cloned(&rt, 7);
+    let even = [halves.get_cloned(&rt, 8), halves.get_cloned(&rt, 8)];
+    expect_eq(&rt, (odd, even), (Err(7), [Ok(4), Ok(4)]));
+    expect_eq(&rt, (halves.len(&rt), halves.known(&rt, &8)), (1, Some(4)));
     Ok(())
 }
 

@@ -1,7 +1,8 @@
 // Which calls of a cache under a rule refresh a pair.
 use crate::expect::expect_eq;
-use scc_ruled_cache::{Entry, ReplaceResult, RuledCache};
-use scc_rules::Anything;
+use scc_common::Anything;
+use scc_shared_cache::RuledCache;
+use scc_shared_cache::ruled::{Entry, ReplaceResult};
 use std::alloc::Global;
 use std::process::Abort;
 use std::sync::Wait;

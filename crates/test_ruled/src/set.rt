@@ -1,6 +1,6 @@
 // Sets under a rule: threads share such a set, and of equal items the first stays.
 use crate::expect::{expect, expect_eq};
-use scc_rules::Anything;
+use scc_common::Anything;
 use scc_shared_set::RuledSet;
 use scc_uses::ruled_set::{Evens, half_of, insert_double, take_first_half, take_half};
 use std::process::Abort;

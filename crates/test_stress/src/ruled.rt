@@ -3,13 +3,13 @@
 use crate::called::{Called, note_key, note_pair, note_put};
 use crate::counted::{Counted, Counts};
 use crate::tally::Tally;
-use scc_common::InsertError;
+use scc_common::{Anything, InsertError};
 use scc_owned::ruled_index::locked::Entry as IndexEntry;
 use scc_owned::ruled_map::locked::Entry as MapEntry;
-use scc_ruled_cache::{Entry as CacheEntry, RuledCache};
-use scc_rules::Anything;
 use scc_shared::ruled_index::RuledIndex;
 use scc_shared::ruled_map::RuledMap;
+use scc_shared_cache::RuledCache;
+use scc_shared_cache::ruled::Entry as CacheEntry;
 use scc_shared_set::RuledSet;
 use std::alloc::Global;
 use std::sync::{Arc, Wait};

@@ -9,7 +9,7 @@ mod ruled_map;
 mod ruled_set;
 mod set;
 
-use scc_rules::Anything;
+use scc_common::Anything;
 use scc_shared::index::HashIndex;
 use scc_shared::map::HashMap;
 use scc_shared_cache::HashCache;
@@ -32,7 +32,7 @@ pub type RuledSet = scc_shared_set::RuledSet<u64, Anything, Masked>;
 
 pub type RuledIndex = scc_shared::ruled_index::RuledIndex<u64, u64, Anything, Masked>;
 
-pub type RuledCache = scc_ruled_cache::RuledCache<u64, u64, Anything, Masked>;
+pub type RuledCache = scc_shared_cache::RuledCache<u64, u64, Anything, Masked>;
 
 /// The least key of the upper half of all hashes.
 pub const HALF: u64 = 1 << 63;

@@ -1,5 +1,5 @@
-//! Searches of the columns that return the entry itself.
-ghost use Rattle.scc_array.specs.Hints.{IsPassing};
+//! Searches of the columns that return the entry itself, and searches by a hint.
+ghost use Rattle.scc_array.specs.Hints.{IsPassing, IsPassingAt};
 ghost use Rattle.scc_array.specs.Windows.{window_of, IsTagged};
 ghost use Rattle.std.specs.List.{find, position};
 ghost use Rattle.std.specs.Option.{option_copied};
@@ -38,12 +38,27 @@ where
             → position (λ e. E.Key.eq key.now (E.key_of e)) (window_of self.now bucket).slots ≡ None)
             (λ b. IsPassing (λ e. E.Key.eq key.now (E.key_of e)) (window_of self.now bucket).slots b.now) }
     {
+        match self.search_hinted(bucket, key, tag) {
+            Some(slot) => Some(self.entry_at(bucket, slot)),
+            None => None,
+        }
+    }
+
+    /// Returns the slot of an entry of the bucket whose key equals `key`. If the result is `None` and `tag` is the tag of
+    /// `key`, the bucket has no such entry.
+    #[inline(always)]
+    pub(crate) fn search_hinted(&self, bucket: usize, key: &E::Key, tag: u8) -> Option<usize>
+        requires bucket { bucket < length self.now }
+        requires tag { 0 < tag }
+        ensures { MatchOption result (IsTagged (λ e. E.Key.eq key.now (E.key_of e)) tag (window_of self.now bucket)
+            → position (λ e. E.Key.eq key.now (E.key_of e)) (window_of self.now bucket).slots ≡ None)
+            (IsPassingAt (λ e. E.Key.eq key.now (E.key_of e)) (window_of self.now bucket).slots) }
+    {
         let mut bits = self.hits(bucket, tag);
         'hits: while bits != 0 {
             let slot = lowest_bit(bits);
-            let entry = self.entry_at(bucket, slot);
-            if *key == *entry.key() {
-                return Some(entry);
+            if *key == *self.entry_at(bucket, slot).key() {
+                return Some(slot);
             }
             bits = without_lowest_bit(bits);
         }

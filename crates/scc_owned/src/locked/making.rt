@@ -40,8 +40,10 @@ where
     E::Key: Eq + Hash,
 {
     /// Returns the entry of `k` in the container of `guard`: occupied at the stored pair, or vacant with `k`. Allocates
-    /// nothing and makes no array.
-    pub fn of(guard: G, k: E::Key, rest: N) -> Self
+    /// nothing and makes no array. The search begins with `hint`, the hash of `k` under some hasher. If the container's
+    /// own hasher gives the same hash, the entry is there and no bucket waits, `k` isn't hashed again.
+    #[inline(always)]
+    pub fn of(guard: G, hint: u64, k: E::Key, rest: N) -> Self
     where
         E::Key: Drop,
         ensures guard { entry_guard result ≡ guard }
@@ -50,10 +52,9 @@ where
         ensures allowed { AllowsEntry E.value_of E.allows k result }
         ensures unique { IsUniqueBy E.Key.eq E.key_of (G.inner guard) }
     {
-        let hash = guard.look().hash_of(&k);
-        match guard.look().search(hash, &k) {
-            Some(place) => HeldEntry::Occupied(HeldOccupied::read_at(guard, place, rest)),
-            None => HeldEntry::Vacant(HeldVacant::of_key(guard, k, hash, rest)),
+        match guard.look().search_by_hint(hint, &k) {
+            Ok(place) => HeldEntry::Occupied(HeldOccupied::read_at(guard, place, rest)),
+            Err(hash) => HeldEntry::Vacant(HeldVacant::of_key(guard, k, hash, rest)),
         }
     }
 }
@@ -63,8 +64,9 @@ where
     E::Key: Eq + Hash,
 {
     /// Returns the occupied entry of `k` in the container of `guard`. If no key equals `k`, drops the guard and returns
-    /// `None`.
-    pub fn of(guard: G, k: &E::Key, rest: N) -> Option<Self>
+    /// `None`. The search begins with `hint`, as in `HeldEntry::of`.
+    #[inline(always)]
+    pub fn of(guard: G, hint: u64, k: &E::Key, rest: N) -> Option<Self>
     where
         G: Drop,
         N: Drop,
@@ -75,10 +77,9 @@ where
         ensures missing { IfNone result (E.lookups.find (E.Key.eq k.now) (entries (G.inner guard)) ≡ None) }
         ensures unique { IsUniqueBy E.Key.eq E.key_of (G.inner guard) }
     {
-        let hash = guard.look().hash_of(k);
-        match guard.look().search(hash, k) {
-            Some(place) => Some(HeldOccupied::read_at(guard, place, rest)),
-            None => None,
+        match guard.look().search_by_hint(hint, k) {
+            Ok(place) => Some(HeldOccupied::read_at(guard, place, rest)),
+            Err(_) => None,
         }
     }
 }

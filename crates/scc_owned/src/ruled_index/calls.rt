@@ -1,15 +1,19 @@
-//! The calls on an index under a rule that name a key. A contract says what the arguments and the rule decide.
-ghost use Rattle.scc_common.specs.Contents.{entries};
-ghost use Rattle.scc_common.specs.Pairs.{find};
+//! The calls on an index under a rule that name a key. A closure must take what the rule allows; what a call does to the
+//! index, it does as the call of an index without a rule.
+ghost use Rattle.scc_common.specs.Closures.{Reads};
+ghost use Rattle.scc_common.specs.Contents.{entries, hash_in};
+ghost use Rattle.scc_common.specs.Pairs.{find, FindsInstead, IsUnique};
+ghost use Rattle.scc_common.specs.Rules.{IsCalledOn, IsKeptAt, ReadsKept};
 ghost use Rattle.scc_owned.specs.Entries.{Exists, Memory};
+ghost use Rattle.scc_owned.specs.IndexSteps.{Inserts, Removes, RemovesIf};
 ghost use Rattle.scc_owned.specs.RuledReplies.{IsTestedOn, PassesKept};
-ghost use Rattle.scc_rules.specs.Rules.{IsCalledOn, IsKeptAt, ReadsKept};
+ghost use Rattle.scc_table.specs.Arrays.{GrowsByRule, ShrinksByRule};
 ghost use Rattle.std.specs.Arc.{arc_value};
-ghost use Rattle.std.specs.Prelude.{◌≡◌, ◌⊎◌, IfErr, IfOk, IfSome, IsTrue, MatchOption, None, Some};
+ghost use Rattle.std.specs.Prelude.{◌≡◌, ◌⊎◌, IfErr, IfOk, IfSome, IsSome, IsTrue, MatchOption, None, Some};
+ghost use Rattle.std.specs.Result.{OnErr, OnOk};
 
 use crate::ruled_index::RuledIndex;
-use scc_common::{InsertError, MakeError, Version};
-use scc_rules::Rule;
+use scc_common::{Hashes, InsertError, MakeError, Rule, Version};
 use std::hash::{BuildHasher, Hash};
 use std::sync::Arc;
 
@@ -34,7 +38,10 @@ impl<K: Eq + Hash, V, R: Rule<K, V>, H: BuildHasher> RuledIndex<K, V, R, H> {
         hint: u64,
         k: &K,
     ) -> Result<Option<Arc<Version<K, V>>>, MakeError>
-        ensures { IfOk result (λ o. IfSome o (λ a. IsKeptAt K.eq R.holds k.now (arc_value a))) }
+        ensures version { IfOk result (λ o. MatchOption o (find K.eq (entries self.now) k.now ≡ None)
+            (λ a. find K.eq (entries self.now) k.now ≡ Some (arc_value a))) }
+        ensures refused { OnErr result (IsSome (find K.eq (entries self.now) k.now)) }
+        ensures kept { IfOk result (λ o. IfSome o (λ a. IsKeptAt K.eq R.holds k.now (arc_value a))) }
     {
         let Some(entry) = self.table.find_by_hint(hint, k) else {
             return Ok(None);
@@ -51,6 +58,7 @@ impl<K: Eq + Hash, V, R: Rule<K, V>, H: BuildHasher> RuledIndex<K, V, R, H> {
     #[inline(always)]
     pub fn read_by_hint<A, F: FnOnce(&K, &V) -> A>(&self, hint: u64, k: &K, f: F) -> Option<A>
         requires { IsCalledOn K.eq R.holds F.FnOnce f k.now }
+        ensures step { Reads F.FnOnce f (find K.eq (entries self.now) k.now) result }
         ensures answer { IfSome result (ReadsKept K.eq R.holds F.FnOnce f k.now) }
     {
         match self.table.find_by_hint(hint, k) {
@@ -67,6 +75,11 @@ impl<K: Eq + Hash, V, R: Rule<K, V>, H: BuildHasher> RuledIndex<K, V, R, H> {
     #[inline(always)]
     pub fn insert_sync(&mut self, k: K, v: V) -> Result<(), InsertError<K, V>>
         requires { R.holds k v }
+        ensures step { Inserts K.eq self.old (k, v) result self.new }
+        ensures finds { OnOk result (FindsInstead K.eq (entries self.old) k (Some (k, v)) (entries self.new)) }
+        ensures same { OnErr result ((q : K) → find K.eq (entries self.new) q ≡ find K.eq (entries self.old) q) }
+        ensures unique { IsUnique K.eq self.new }
+        ensures array { GrowsByRule (λ p. p.0) (hash_in ⟦<H as Hashes<K>>⟧.hash_of self.old) (find K.eq (entries self.old) k) self.old k result self.new }
         ensures back { IfErr result (λ e. (e ≡ Exists (k, v)) ⊎ (e ≡ Memory (k, v))) }
     {
         let hash = self.table.hash(&k);
@@ -80,11 +93,16 @@ impl<K: Eq + Hash, V, R: Rule<K, V>, H: BuildHasher> RuledIndex<K, V, R, H> {
     }
 
     /// Removes the version whose key equals `k`, and returns whether there was one. Holders of the version keep it.
+    /// After a removal the array may shrink.
     #[inline(always)]
     pub fn remove_sync(&mut self, k: &K) -> bool
     where
         K: Drop,
         V: Drop,
+        ensures step { Removes K.eq self.old k.now result self.new }
+        ensures finds { IsTrue result → FindsInstead K.eq (entries self.old) k.now None (entries self.new) }
+        ensures unique { IsUnique K.eq self.new }
+        ensures array { ShrinksByRule (IsTrue result) self.old self.new }
     {
         let hash = self.table.hash(k);
         match self.table.remove(hash, k) {
@@ -94,13 +112,17 @@ impl<K: Eq + Hash, V, R: Rule<K, V>, H: BuildHasher> RuledIndex<K, V, R, H> {
     }
 
     /// Calls `f` on the value of `k`, removes the version if `f` returns true, and returns the result of `f`. If no key
-    /// equals `k`, `f` isn't called and the result is false.
+    /// equals `k`, `f` isn't called and the result is false. After a removal the array may shrink.
     #[inline(always)]
     pub fn remove_if_sync<F: FnOnce(&V) -> bool>(&mut self, k: &K, f: F) -> bool
     where
         K: Drop,
         V: Drop,
         requires { IsTestedOn R.holds F.FnOnce f k.now }
+        ensures step { RemovesIf F.FnOnce f K.eq self.old k.now result self.new (find K.eq (entries self.old) k.now) }
+        ensures finds { IsTrue result → FindsInstead K.eq (entries self.old) k.now None (entries self.new) }
+        ensures unique { IsUnique K.eq self.new }
+        ensures array { ShrinksByRule (IsTrue result) self.old self.new }
         ensures answer { IsTrue result → PassesKept R.holds F.FnOnce f k.now }
     {
         match self.table.search(self.table.hash(k), k) {

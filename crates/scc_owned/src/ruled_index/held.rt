@@ -8,8 +8,7 @@ ghost use Rattle.std.specs.Prelude.{◌≡◌, IfOk, IfErr, OnOk};
 
 use crate::held::{HeldEntry, HeldOccupied};
 use crate::ruled_index::RuledIndex;
-use scc_common::Guard;
-use scc_rules::{Rule, RuledVersion};
+use scc_common::{Guard, Rule, RuledVersion};
 use std::hash::{BuildHasher, Hash};
 
 impl<

@@ -5,7 +5,7 @@ mod making;
 mod methods;
 
 use crate::locked as generic;
-use scc_rules::RuledVersion;
+use scc_common::RuledVersion;
 use std::hash::{BuildHasherDefault, FoldHasher};
 
 /// The entry of a key. It holds the lock of its stripe.

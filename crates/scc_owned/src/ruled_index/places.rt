@@ -11,8 +11,7 @@ ghost use Rattle.std.specs.Prelude.{◌≡◌, suc, length, ◌<◌, ◌*◌, So
 use crate::ruled_index::RuledIndex;
 use crate::stored::pair_back;
 use scc_buckets::Place;
-use scc_common::{Hashes, Made, SharedVersion};
-use scc_rules::{Rule, Ruled, RuledVersion};
+use scc_common::{Hashes, Made, Rule, Ruled, RuledVersion, SharedVersion};
 use std::hash::{BuildHasher, Hash};
 
 impl<K: Eq + Hash, V, R: Rule<K, V>, H: BuildHasher> RuledIndex<K, V, R, H> {

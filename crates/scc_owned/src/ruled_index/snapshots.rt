@@ -1,13 +1,12 @@
 //! Snapshots of an index under a rule.
 ghost use Rattle.scc_common.specs.Contents.{entries};
 ghost use Rattle.scc_common.specs.Pairs.{IsUnique};
-ghost use Rattle.scc_rules.specs.Rules.{AllKeep};
+ghost use Rattle.scc_common.specs.Rules.{AllKeep};
 ghost use Rattle.std.specs.Arc.{arc_value};
 ghost use Rattle.std.specs.Prelude.{◌≡◌, ◌++◌, ℕ, OnOk, OnErr, map, take};
 
 use crate::ruled_index::RuledIndex;
-use scc_common::{MakeError, Version};
-use scc_rules::Rule;
+use scc_common::{MakeError, Rule, Version};
 use std::hash::{BuildHasher, Hash};
 use std::sync::Arc;
 

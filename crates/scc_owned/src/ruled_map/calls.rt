@@ -1,15 +1,18 @@
-//! The calls on a map under a rule that name a key. A contract says what the arguments and the rule decide.
-ghost use Rattle.scc_common.specs.Contents.{entries};
-ghost use Rattle.scc_common.specs.Pairs.{find};
+//! The calls on a map under a rule that name a key. A closure must take and keep what the rule allows; what a call does to
+//! the map, it does as the call of a map without a rule.
+ghost use Rattle.scc_common.specs.Closures.{Reads, WritesAt};
+ghost use Rattle.scc_common.specs.Contents.{entries, hash_in, notes_of, waiting_of};
+ghost use Rattle.scc_common.specs.Pairs.{find, FindsInstead, HasRoom, IsUnique};
 ghost use Rattle.scc_common.specs.Replies.{HasKey};
+ghost use Rattle.scc_common.specs.Rules.{IsCalledOn, IsCalledToWrite, IsTested, Keeps, KeepsTested, ReadsKept, RemovesKept, WritesKept};
 ghost use Rattle.scc_owned.specs.Entries.{Exists, Memory};
-ghost use Rattle.scc_rules.specs.Rules.{IsCalledOn, IsCalledToWrite, IsTested, Keeps, KeepsTested, ReadsKept, RemovesKept, WritesKept};
-ghost use Rattle.std.specs.Fn.{FnOnceReturnsAt, FnOnceTakesAt};
-ghost use Rattle.std.specs.Prelude.{◌≡◌, ◌⊎◌, IfErr, IfOk, IfSome, MatchOption, None, Some};
+ghost use Rattle.scc_owned.specs.MapSteps.{Inserts, Removes, RemovesIf, UpdatesAt, Upserts};
+ghost use Rattle.scc_table.specs.Arrays.{GrowsByRule, ShrinksByRule};
+ghost use Rattle.std.specs.Prelude.{◌≡◌, ◌⊎◌, IfErr, IfNone, IfOk, IfSome, IsOk, IsSome, MatchOption, None, OnSome, Some, true};
+ghost use Rattle.std.specs.Result.{OnErr, OnOk};
 
 use crate::ruled_map::RuledMap;
-use scc_common::{InsertError, Valued};
-use scc_rules::Rule;
+use scc_common::{Hashes, InsertError, Rule, Valued};
 use std::hash::{BuildHasher, Hash};
 
 impl<K: Eq + Hash, V, R: Rule<K, V>, H: BuildHasher> RuledMap<K, V, R, H> {
@@ -19,6 +22,7 @@ impl<K: Eq + Hash, V, R: Rule<K, V>, H: BuildHasher> RuledMap<K, V, R, H> {
     #[inline(always)]
     pub fn read_by_hint<A, F: FnOnce(&K, &V) -> A>(&self, hint: u64, k: &K, f: F) -> Option<A>
         requires { IsCalledOn K.eq R.holds F.FnOnce f k.now }
+        ensures step { Reads F.FnOnce f (find K.eq (entries self.now) k.now) result }
         ensures answer { IfSome result (ReadsKept K.eq R.holds F.FnOnce f k.now) }
     {
         match self.table.find_by_hint(hint, k) {
@@ -44,10 +48,16 @@ impl<K: Eq + Hash, V, R: Rule<K, V>, H: BuildHasher> RuledMap<K, V, R, H> {
     }
 
     /// Inserts the pair, which must keep the rule, if no key equals `k`. If a key equals `k`, or if memory is refused,
-    /// the pair comes back.
+    /// the pair comes back. Memory is refused only if the bucket of `k` has no room.
     #[inline(always)]
     pub fn insert_sync(&mut self, k: K, v: V) -> Result<(), InsertError<K, V>>
         requires { R.holds k v }
+        ensures step { Inserts K.eq (hash_in ⟦<H as Hashes<K>>⟧.hash_of self.old) self.old (k, v) result self.new }
+        ensures succeeds { find K.eq (entries self.old) k ≡ None → HasRoom (hash_in ⟦<H as Hashes<K>>⟧.hash_of self.old) self.old k → IsOk result }
+        ensures finds { OnOk result (FindsInstead K.eq (entries self.old) k (Some (k, v)) (entries self.new)) }
+        ensures same { OnErr result ((q : K) → find K.eq (entries self.new) q ≡ find K.eq (entries self.old) q) }
+        ensures unique { IsUnique K.eq self.new }
+        ensures array { GrowsByRule (λ p. p.0) (hash_in ⟦<H as Hashes<K>>⟧.hash_of self.old) (find K.eq (entries self.old) k) self.old k result self.new }
         ensures back { IfErr result (λ e. (e ≡ Exists (k, v)) ⊎ (e ≡ Memory (k, v))) }
     {
         let hash = self.table.hash(&k);
@@ -67,6 +77,12 @@ impl<K: Eq + Hash, V, R: Rule<K, V>, H: BuildHasher> RuledMap<K, V, R, H> {
     where
         K: Drop,
         requires { R.holds k v }
+        ensures step { Upserts K.eq (hash_in ⟦<H as Hashes<K>>⟧.hash_of self.old) self.old (k, v) result self.new }
+        ensures succeeds { IsSome (find K.eq (entries self.old) k) → IsOk result }
+        ensures finds { OnOk result ((q : K) × (K.eq k q ≡ true) × FindsInstead K.eq (entries self.old) k (Some (q, v)) (entries self.new)) }
+        ensures same { OnErr result ((q : K) → find K.eq (entries self.new) q ≡ find K.eq (entries self.old) q) }
+        ensures unique { IsUnique K.eq self.new }
+        ensures array { GrowsByRule (λ p. p.0) (hash_in ⟦<H as Hashes<K>>⟧.hash_of self.old) (find K.eq (entries self.old) k) self.old k result self.new }
         ensures back { IfErr result (λ e. e ≡ Memory (k, v)) }
         ensures old { IfOk result (λ o. IfSome o (R.holds k)) }
     {
@@ -86,6 +102,14 @@ impl<K: Eq + Hash, V, R: Rule<K, V>, H: BuildHasher> RuledMap<K, V, R, H> {
     pub fn update_sync<A, U: FnOnce(&K, &mut V) -> A>(&mut self, k: &K, u: U) -> Option<A>
         requires callable { IsCalledToWrite K.eq R.holds U.FnOnce u k.now }
         requires keeps { Keeps K.eq R.holds U.FnOnce u k.now }
+        ensures step { UpdatesAt U.FnOnce u K.eq self.old k.now self.new (find K.eq (entries self.old) k.now) result }
+        ensures finds { IfSome result (λ x. (p : K × V) × (w : V) × (find K.eq (entries self.old) k.now ≡ Some p)
+            × (K.eq k.now p.0 ≡ true) × WritesAt U.FnOnce u p x w
+            × FindsInstead K.eq (entries self.old) k.now (Some (p.0, w)) (entries self.new)) }
+        ensures missing { IfNone result (find K.eq (entries self.old) k.now ≡ None) }
+        ensures noted { notes_of self.new ≡ notes_of self.old }
+        ensures waiting { waiting_of self.new ≡ waiting_of self.old }
+        ensures unique { IsUnique K.eq self.new }
         ensures answer { IfSome result (WritesKept K.eq R.holds U.FnOnce u k.now) }
     {
         let hash = self.table.hash(k);
@@ -94,11 +118,15 @@ impl<K: Eq + Hash, V, R: Rule<K, V>, H: BuildHasher> RuledMap<K, V, R, H> {
 
     /// Calls `f` on the value of `k`. If `f` returns true, removes the pair, with what `f` wrote, and returns it. If `f`
     /// returns false, what it wrote stays and the result is `None`. What `f` leaves must keep the rule in both cases. If
-    /// no key equals `k`, `f` isn't called and the result is `None`.
+    /// no key equals `k`, `f` isn't called and the result is `None`. After a removal the array may shrink.
     #[inline(always)]
     pub fn remove_if_sync<F: FnOnce(&mut V) -> bool>(&mut self, k: &K, f: F) -> Option<(K, V)>
         requires callable { IsTested R.holds F.FnOnce f k.now }
         requires keeps { KeepsTested R.holds F.FnOnce f k.now }
+        ensures step { RemovesIf F.FnOnce f K.eq self.old k.now result self.new (find K.eq (entries self.old) k.now) }
+        ensures finds { OnSome result (FindsInstead K.eq (entries self.old) k.now None (entries self.new)) }
+        ensures unique { IsUnique K.eq self.new }
+        ensures array { ShrinksByRule (IsSome result) self.old self.new }
         ensures key { IfSome result (HasKey K.eq k.now) }
         ensures answer { IfSome result (RemovesKept R.holds F.FnOnce f k.now) }
         ensures kept { IfSome result (λ p. R.holds p.0 p.1 × R.holds k.now p.1) }
@@ -112,36 +140,19 @@ impl<K: Eq + Hash, V, R: Rule<K, V>, H: BuildHasher> RuledMap<K, V, R, H> {
         }
     }
 
-    /// Removes the pair whose key equals `k` and returns it, or returns `None` if there is none.
+    /// Removes the pair whose key equals `k` and returns it, or returns `None` if there is none. After a removal the array
+    /// may shrink.
     #[inline(always)]
     pub fn remove_sync(&mut self, k: &K) -> Option<(K, V)>
+        ensures step { Removes K.eq self.old k.now result self.new }
+        ensures finds { OnSome result (FindsInstead K.eq (entries self.old) k.now None (entries self.new)) }
+        ensures unique { IsUnique K.eq self.new }
+        ensures array { ShrinksByRule (IsSome result) self.old self.new }
         ensures key { IfSome result (HasKey K.eq k.now) }
         ensures kept { IfSome result (λ p. R.holds p.0 p.1 × R.holds k.now p.1) }
     {
         let hash = self.table.hash(k);
         let entry = self.table.remove(hash, k)?;
         Some(entry.into_pair())
-    }
-
-    /// Returns the value of `k`. If no key equals `k`, calls `make` with `k`, inserts the pair unless memory is refused,
-    /// and returns the value.
-    #[inline(always)]
-    pub fn get_or_insert_with<F: FnOnce(&K) -> V>(&mut self, k: K, make: F) -> V
-    where
-        K: Drop,
-        V: Copy,
-        requires callable { FnOnceTakesAt F.FnOnce make k }
-        requires keeps { (v : V) → FnOnceReturnsAt F.FnOnce make k v → R.holds k v }
-        ensures { R.holds k result }
-    {
-        let hash = self.table.hash(&k);
-        match self.table.search(hash, &k) {
-            Some(place) => *self.pair_at(place).1,
-            None => {
-                let value = make(&k);
-                let _ = self.insert_new(hash, k, value);
-                value
-            }
-        }
     }
 }

@@ -7,14 +7,13 @@ ghost use Rattle.scc_owned.specs.Held.{entry_guard, occupied_contents, occupied_
 ghost use Rattle.scc_owned.specs.MapEntries.{IsWritten, Modifies};
 ghost use Rattle.scc_owned.specs.RuledEntries.{KeepsEntry, TakesEntry};
 ghost use Rattle.scc_owned.specs.Seats.{occupied_rest};
-ghost use Rattle.scc_rules.specs.Rules.{IsKept};
+ghost use Rattle.scc_common.specs.Rules.{IsKept};
 ghost use Rattle.std.specs.Fn.{FnOnceReturnsAtMut, FnOnceTakesAtMut};
 ghost use Rattle.std.specs.Prelude.{◌≡◌};
 
 use crate::held::{HeldEntry, HeldOccupied};
 use crate::ruled_map::RuledMap;
-use scc_common::Guard;
-use scc_rules::{Rule, Ruled};
+use scc_common::{Guard, Rule, Ruled};
 use std::hash::{BuildHasher, Hash};
 
 impl<
@@ -49,6 +48,7 @@ impl<
             × (occupied_pair self.new ≡ ((occupied_pair self.old).0, w)) × IsWritten self.old w self.new }
         ensures kept { IsKept R.holds (occupied_pair self.old) }
         ensures seat { occupied_rest self.new ≡ occupied_rest self.old }
+        ensures waiting { waiting_of (occupied_contents self.new) ≡ waiting_of (occupied_contents self.old) }
         ensures unique { IsUnique K.eq (occupied_contents self.new) }
     {
         let place = self.place;
@@ -63,6 +63,7 @@ impl<
             → FnOnceReturnsAtMut F.FnOnce f (occupied_pair self.old).1 r w → R.holds (occupied_pair self.old).0 w }
         ensures answer { (w : V) × FnOnceReturnsAtMut F.FnOnce f (occupied_pair self.old).1 result w
             × IsWritten self.old w self.new }
+        ensures waiting { waiting_of (occupied_contents self.new) ≡ waiting_of (occupied_contents self.old) }
         ensures unique { IsUnique K.eq (occupied_contents self.new) }
     {
         let place = self.place;
@@ -84,6 +85,7 @@ impl<
         requires callable { TakesEntry R.holds F.FnOnce f self }
         requires keeps { KeepsEntry R.holds F.FnOnce f self }
         ensures modifies { Modifies F.FnOnce f self result }
+        ensures waiting { waiting_of (G.inner (entry_guard result)) ≡ waiting_of (G.inner (entry_guard self)) }
         ensures unique { IsUnique K.eq (G.inner (entry_guard result)) }
     {
         match self {

@@ -6,8 +6,7 @@ mod methods;
 
 use crate::held::HeldReplace;
 use crate::locked as generic;
-use scc_common::Shared;
-use scc_rules::Ruled;
+use scc_common::{Ruled, Shared};
 use std::hash::{BuildHasherDefault, FoldHasher};
 
 /// The entry of a key. It holds the lock of its stripe.

@@ -5,7 +5,7 @@ ghost use Rattle.scc_common.specs.Pairs.{find, with_pair_key, with_pair_value, I
 ghost use Rattle.scc_common.specs.PairWalks.{CalledToWrite};
 ghost use Rattle.scc_owned.specs.Insertions.{InsertsInto};
 ghost use Rattle.scc_owned.specs.Shrinking.{RemovesAtByRule, TakesWithNextByRule};
-ghost use Rattle.scc_rules.specs.Walks.{KeepsEachAlways, TakesEachToWrite};
+ghost use Rattle.scc_common.specs.RuleWalks.{KeepsEachAlways, TakesEachToWrite};
 ghost use Rattle.scc_table.specs.Places.{IsPlace, index_of, with_write_at};
 ghost use Rattle.std.specs.Fn.{FnOnceReturnsAtMut, FnOnceTakesAtMut};
 ghost use Rattle.std.specs.Prelude.{◌≡◌, Some, None, false, true, slice_get};
@@ -13,8 +13,7 @@ ghost use Rattle.std.specs.Prelude.{◌≡◌, Some, None, false, true, slice_ge
 use crate::ruled_map::RuledMap;
 use crate::stored::pair_back;
 use scc_buckets::Place;
-use scc_common::{Hashes, OfPair, OfValue, Put, Valued};
-use scc_rules::{Rule, Ruled};
+use scc_common::{Hashes, OfPair, OfValue, Put, Rule, Ruled, Valued};
 use std::hash::{BuildHasher, Hash};
 
 impl<K: Eq + Hash, V, R: Rule<K, V>, H: BuildHasher> RuledMap<K, V, R, H> {

@@ -1,20 +1,20 @@
 //! Walks over the pairs of a map under a rule, from place to place. Each closure is lent, and can go on to other maps. A
 //! walk that stops early has read the pairs up to its stop, and says of these alone that they keep the rule.
-ghost use Rattle.scc_common.specs.Contents.{entries};
+ghost use Rattle.scc_common.specs.Contents.{entries, notes_of, waiting_of};
 ghost use Rattle.scc_common.specs.PairWalks.{CalledToWrite, Declines, PassesFirst, Retains, Takes};
 ghost use Rattle.scc_common.specs.Pairs.{IsUnique};
+ghost use Rattle.scc_common.specs.Steps.{Holds, HoldsExactly};
 ghost use Rattle.scc_common.specs.Walks.{CalledOn, CallableWhile, Walks};
-ghost use Rattle.scc_owned.specs.Shrinking.{TakesIntoByRule};
-ghost use Rattle.scc_rules.specs.Rules.{AllKeep};
-ghost use Rattle.scc_rules.specs.Walks.{KeepsEachAlways, TakesEach, TakesEachToWrite};
+ghost use Rattle.scc_owned.specs.Shrinking.{RetainsByRule, TakesByRule, TakesIntoByRule};
+ghost use Rattle.scc_common.specs.Rules.{AllKeep};
+ghost use Rattle.scc_common.specs.RuleWalks.{KeepsEachAlways, TakesEach, TakesEachToWrite};
 ghost use Rattle.scc_table.specs.Places.{IsPlace, index_of};
 ghost use Rattle.std.specs.Prelude.{◌≡◌, ◌≤◌, ◌<◌, ◌++◌, ℕ, List, length, suc, take, true, IsTrue, MatchOption, OnErr};
 
 use crate::map::Sink;
 use crate::ruled_map::RuledMap;
 use scc_buckets::Place;
-use scc_common::{Verdict, WalkError};
-use scc_rules::Rule;
+use scc_common::{Rule, Verdict, WalkError};
 use std::hash::{BuildHasher, Hash};
 
 impl<K: Eq + Hash, V, R: Rule<K, V>, H: BuildHasher> RuledMap<K, V, R, H> {
@@ -26,15 +26,7 @@ impl<K: Eq + Hash, V, R: Rule<K, V>, H: BuildHasher> RuledMap<K, V, R, H> {
             × (IsTrue result → take n (entries self.now) ≡ entries self.now) }
         ensures unique { IsUnique K.eq self.now }
     {
-        let mut at = self.first_place();
-        while let Some(place) = at {
-            let (key, value) = self.pair_at(place);
-            if !f(key, value) {
-                return false;
-            }
-            at = self.next_place(place);
-        }
-        true
+        self.walk_while(f)
     }
 
     /// Calls `f` on the pairs in the order of the list until `f` returns false. Returns false if it did, else true. `f` may
@@ -44,6 +36,19 @@ impl<K: Eq + Hash, V, R: Rule<K, V>, H: BuildHasher> RuledMap<K, V, R, H> {
         ensures { (last : F) × Walks (CalledOn F.FnMut) f (entries self.now) result last }
     {
         let mut f = f;
+        self.walk_while(&mut f)
+    }
+
+    /// Calls `f` on the pairs in the order of the list until `f` returns false. Returns false if it did, else true. `f` may
+    /// be called on the pairs up to any place if each of them keeps the rule.
+    fn walk_while<F: FnMut(&K, &V) -> bool>(&self, f: &mut F) -> bool
+        requires { (n : ℕ) → AllKeep R.holds (take n (entries self.now))
+            → CallableWhile F.FnMut true f.old (take n (entries self.now)) }
+        ensures walks { (n : ℕ) × AllKeep R.holds (take n (entries self.now))
+            × Walks (CalledOn F.FnMut) f.old (take n (entries self.now)) result f.new
+            × (IsTrue result → take n (entries self.now) ≡ entries self.now) }
+        ensures unique { IsUnique K.eq self.now }
+    {
         let mut at = self.first_place();
         while let Some(place) = at {
             let (key, value) = self.pair_at(place);
@@ -85,9 +90,9 @@ impl<K: Eq + Hash, V, R: Rule<K, V>, H: BuildHasher> RuledMap<K, V, R, H> {
         V: Drop,
         requires callable { TakesEachToWrite R.holds F.FnMut }
         requires keeps { KeepsEachAlways R.holds F.FnMut }
-        ensures calls { (stay : List (K × V)) × AllKeep R.holds (entries self.old) × AllKeep R.holds stay
-            × Retains (CalledToWrite F.FnMut) f.old (entries self.old) stay f.new }
-        ensures unique { IsUnique K.eq self.old }
+        ensures { RetainsByRule (IsUnique K.eq) ((stay : List (K × V)) × AllKeep R.holds (entries self.old)
+            × AllKeep R.holds stay × Retains (CalledToWrite F.FnMut) f.old (entries self.old) stay f.new
+            × Holds self.old stay self.new) self.old self.new }
     {
         self.retain_all(f);
         self.table.shrink();
@@ -100,9 +105,11 @@ impl<K: Eq + Hash, V, R: Rule<K, V>, H: BuildHasher> RuledMap<K, V, R, H> {
         V: Drop,
         requires callable { TakesEachToWrite R.holds F.FnMut }
         requires keeps { KeepsEachAlways R.holds F.FnMut }
-        ensures calls { (stay : List (K × V)) × AllKeep R.holds (entries self.old) × AllKeep R.holds stay
-            × Retains (CalledToWrite F.FnMut) f.old (entries self.old) stay f.new }
-        ensures unique { IsUnique K.eq self.old }
+        ensures step { (stay : List (K × V)) × AllKeep R.holds (entries self.old) × AllKeep R.holds stay
+            × Retains (CalledToWrite F.FnMut) f.old (entries self.old) stay f.new × HoldsExactly self.old stay self.new }
+        ensures noted { notes_of self.new ≡ notes_of self.old }
+        ensures waiting { waiting_of self.new ≡ waiting_of self.old }
+        ensures was_unique { IsUnique K.eq self.old }
     {
         let mut at = self.first_place();
         while let Some(place) = at {
@@ -127,13 +134,12 @@ impl<K: Eq + Hash, V, R: Rule<K, V>, H: BuildHasher> RuledMap<K, V, R, H> {
     ) -> Result<bool, WalkError>
         requires callable { TakesEachToWrite R.holds F.FnMut }
         requires keeps { KeepsEachAlways R.holds F.FnMut }
-        ensures calls { (es : List (K × V)) × (rest : List (K × V)) × (stay : List (K × V)) × (more : List (K × V))
-            × (entries self.old ≡ es ++ rest) × AllKeep R.holds es × AllKeep R.holds stay × AllKeep R.holds more
+        ensures { TakesByRule (IsUnique K.eq) L.pairs (λ list. length (L.pairs list)) L.capacity ((es : List (K × V))
+            × (rest : List (K × V)) × (stay : List (K × V)) × (more : List (K × V)) × (entries self.old ≡ es ++ rest)
+            × AllKeep R.holds es × AllKeep R.holds stay × AllKeep R.holds more
             × Takes (CalledToWrite F.FnMut) f.old es stay more result f.new
-            × (L.pairs taken.new ≡ L.pairs taken.old ++ more) }
-        ensures full { OnErr result (L.capacity taken.new ≤ length (L.pairs taken.new)) }
-        ensures room { L.capacity taken.old ≤ L.capacity taken.new }
-        ensures unique { IsUnique K.eq self.old }
+            × (L.pairs taken.new ≡ L.pairs taken.old ++ more) × Holds self.old (stay ++ rest) self.new) self.old taken.old
+            result self.new taken.new }
     {
         let before = self.len();
         let result = self.take_walk(f, taken);
@@ -151,10 +157,12 @@ impl<K: Eq + Hash, V, R: Rule<K, V>, H: BuildHasher> RuledMap<K, V, R, H> {
     ) -> Result<bool, WalkError>
         requires callable { TakesEachToWrite R.holds F.FnMut }
         requires keeps { KeepsEachAlways R.holds F.FnMut }
-        ensures calls { (es : List (K × V)) × (rest : List (K × V)) × (stay : List (K × V)) × (more : List (K × V))
+        ensures step { (es : List (K × V)) × (rest : List (K × V)) × (stay : List (K × V)) × (more : List (K × V))
             × (entries self.old ≡ es ++ rest) × AllKeep R.holds es × AllKeep R.holds stay × AllKeep R.holds more
             × Takes (CalledToWrite F.FnMut) f.old es stay more result f.new
-            × (L.pairs taken.new ≡ L.pairs taken.old ++ more) }
+            × (L.pairs taken.new ≡ L.pairs taken.old ++ more) × HoldsExactly self.old (stay ++ rest) self.new }
+        ensures noted { notes_of self.new ≡ notes_of self.old }
+        ensures waiting { waiting_of self.new ≡ waiting_of self.old }
         ensures full { OnErr result (L.capacity taken.new ≤ length (L.pairs taken.new)) }
         ensures room { L.capacity taken.old ≤ L.capacity taken.new }
     {

@@ -7,23 +7,24 @@ ghost use Rattle.std.specs.Prelude.{◌≡◌, None, Ok, Err, IfOk, IfErr};
 use crate::EvictedEntry;
 use crate::borrowed::{Entry, OccupiedEntry};
 use crate::held::{HeldEntry, HeldOccupied, HeldVacant};
-use scc_common::{InsertError, TryInsertError};
+use scc_common::{InsertError, Rule, TryInsertError};
 use std::alloc::Global;
 use std::default::MadeWith;
 use std::hash::{BuildHasher, Hash};
 
-impl<'a, K: Eq + Hash, V, H: BuildHasher> Entry<'a, K, V, H> {
-    /// Puts in `default` if the entry is vacant, by the rules of `put_sync`, and returns the evicted pair, if any, and
-    /// the occupied entry. An occupied entry stays as it is, and never fails.
+impl<'a, K: Eq + Hash, V, H: BuildHasher, R: Rule<K, V>> Entry<'a, K, V, H, R> {
+    /// Puts in `default`, which must keep the rule, if the entry is vacant, by the rules of `put_sync`, and returns the
+    /// evicted pair, if any, and the occupied entry. An occupied entry stays as it is, and never fails.
     pub fn or_put(
         self,
         default: V,
-    ) -> Result<(EvictedEntry<K, V>, OccupiedEntry<'a, K, V, H>), InsertError<K, V>>
+    ) -> Result<(EvictedEntry<K, V>, OccupiedEntry<'a, K, V, H, R>), InsertError<K, V>>
     where
         V: Drop,
+        requires { IsVacant self → R.holds (entry_key self) default }
         ensures entry { IfOk result (λ r. OrPuts K.eq self.entry default r.0 r.1) }
         ensures refused { IfErr result (Refuses self.entry default) }
-        ensures* kept { sem 𝓛 (rests_if_refused K.row V.row H.row H.Hasher.row K.Hash H.BuildHasher H.Hasher.Hasher
+        ensures* kept { sem 𝓛 (rests_if_refused K.row V.row H.row R.row H.Hasher.row K.Hash H.BuildHasher R.Rule H.Hasher.Hasher
             (entry_guard self.entry) result) }
     {
         match self {
@@ -35,15 +36,17 @@ impl<'a, K: Eq + Hash, V, H: BuildHasher> Entry<'a, K, V, H> {
         }
     }
 
-    /// Puts in the result of `f` if the entry is vacant, as `or_put` does. `f` isn't called on an occupied entry.
+    /// Puts in the result of `f`, which must keep the rule, if the entry is vacant, as `or_put` does. `f` isn't called
+    /// on an occupied entry.
     pub fn or_put_with<F: FnOnce() -> V>(
         self,
         f: F,
-    ) -> Result<(EvictedEntry<K, V>, OccupiedEntry<'a, K, V, H>), InsertError<K, V>>
-        requires { IsVacant self → F.pre f }
+    ) -> Result<(EvictedEntry<K, V>, OccupiedEntry<'a, K, V, H, R>), InsertError<K, V>>
+        requires callable { IsVacant self → F.pre f }
+        requires keeps { IsVacant self → (v : V) → F.post f v → R.holds (entry_key self) v }
         ensures entry { IfOk result (λ r. OrPutsSome K.eq self.entry (λ k v. F.post f v) r.0 r.1) }
         ensures refused { IfErr result (RefusesSome self.entry (λ k v. F.post f v)) }
-        ensures* kept { sem 𝓛 (rests_if_refused K.row V.row H.row H.Hasher.row K.Hash H.BuildHasher H.Hasher.Hasher
+        ensures* kept { sem 𝓛 (rests_if_refused K.row V.row H.row R.row H.Hasher.row K.Hash H.BuildHasher R.Rule H.Hasher.Hasher
             (entry_guard self.entry) result) }
     {
         match self {
@@ -55,16 +58,18 @@ impl<'a, K: Eq + Hash, V, H: BuildHasher> Entry<'a, K, V, H> {
         }
     }
 
-    /// Puts in the result of `f` on the key if the entry is vacant, as `or_put` does. `f` isn't called on an occupied
-    /// entry.
+    /// Puts in the result of `f` on the key, which must keep the rule, if the entry is vacant, as `or_put` does. `f`
+    /// isn't called on an occupied entry.
     pub fn or_put_with_key<F: FnOnce(&K) -> V>(
         self,
         f: F,
-    ) -> Result<(EvictedEntry<K, V>, OccupiedEntry<'a, K, V, H>), InsertError<K, V>>
-        requires { IsVacant self → FnOnceTakesAt F.FnOnce f (entry_key self) }
+    ) -> Result<(EvictedEntry<K, V>, OccupiedEntry<'a, K, V, H, R>), InsertError<K, V>>
+        requires callable { IsVacant self → FnOnceTakesAt F.FnOnce f (entry_key self) }
+        requires keeps { IsVacant self → (v : V) → FnOnceReturnsAt F.FnOnce f (entry_key self) v
+            → R.holds (entry_key self) v }
         ensures entry { IfOk result (λ r. OrPutsSome K.eq self.entry (FnOnceReturnsAt F.FnOnce f) r.0 r.1) }
         ensures refused { IfErr result (RefusesSome self.entry (FnOnceReturnsAt F.FnOnce f)) }
-        ensures* kept { sem 𝓛 (rests_if_refused K.row V.row H.row H.Hasher.row K.Hash H.BuildHasher H.Hasher.Hasher
+        ensures* kept { sem 𝓛 (rests_if_refused K.row V.row H.row R.row H.Hasher.row K.Hash H.BuildHasher R.Rule H.Hasher.Hasher
             (entry_guard self.entry) result) }
     {
         match self {
@@ -76,18 +81,20 @@ impl<'a, K: Eq + Hash, V, H: BuildHasher> Entry<'a, K, V, H> {
         }
     }
 
-    /// Puts in the value that `f` makes if the entry is vacant, as `or_put` does. If `f` fails, its error comes back, the
-    /// key is dropped and the cache stays as it is. `f` isn't called on an occupied entry.
+    /// Puts in the value that `f` makes, which must keep the rule, if the entry is vacant, as `or_put` does. If `f`
+    /// fails, its error comes back, the key is dropped and the cache stays as it is. `f` isn't called on an occupied
+    /// entry.
     pub fn or_try_put_with<E, F: FnOnce() -> Result<V, E>>(
         self,
         f: F,
-    ) -> Result<(EvictedEntry<K, V>, OccupiedEntry<'a, K, V, H>), TryInsertError<K, V, E>>
+    ) -> Result<(EvictedEntry<K, V>, OccupiedEntry<'a, K, V, H, R>), TryInsertError<K, V, E>>
     where
         K: Drop,
-        requires { IsVacant self → F.pre f }
+        requires callable { IsVacant self → F.pre f }
+        requires keeps { IsVacant self → (v : V) → F.post f (Ok v) → R.holds (entry_key self) v }
         ensures entry { IfOk result (λ r. OrPutsSome K.eq self.entry (λ k v. F.post f (Ok v)) r.0 r.1) }
         ensures refused { IfErr result (FailsOrRefuses self.entry (λ k v. F.post f (Ok v)) (λ k e. F.post f (Err e))) }
-        ensures* kept { sem 𝓛 (rests_if_refused K.row V.row H.row H.Hasher.row K.Hash H.BuildHasher H.Hasher.Hasher
+        ensures* kept { sem 𝓛 (rests_if_refused K.row V.row H.row R.row H.Hasher.row K.Hash H.BuildHasher R.Rule H.Hasher.Hasher
             (entry_guard self.entry) result) }
     {
         self.or_try_put_with_key(
@@ -98,20 +105,23 @@ impl<'a, K: Eq + Hash, V, H: BuildHasher> Entry<'a, K, V, H> {
         )
     }
 
-    /// Puts in the value that `f` makes of the key if the entry is vacant, as `or_put` does. If `f` fails, its error
-    /// comes back, the key is dropped and the cache stays as it is. `f` isn't called on an occupied entry.
+    /// Puts in the value that `f` makes of the key, which must keep the rule, if the entry is vacant, as `or_put` does.
+    /// If `f` fails, its error comes back, the key is dropped and the cache stays as it is. `f` isn't called on an
+    /// occupied entry.
     pub fn or_try_put_with_key<E, F: FnOnce(&K) -> Result<V, E>>(
         self,
         f: F,
-    ) -> Result<(EvictedEntry<K, V>, OccupiedEntry<'a, K, V, H>), TryInsertError<K, V, E>>
+    ) -> Result<(EvictedEntry<K, V>, OccupiedEntry<'a, K, V, H, R>), TryInsertError<K, V, E>>
     where
         K: Drop,
-        requires { IsVacant self → FnOnceTakesAt F.FnOnce f (entry_key self) }
+        requires callable { IsVacant self → FnOnceTakesAt F.FnOnce f (entry_key self) }
+        requires keeps { IsVacant self → (v : V) → FnOnceReturnsAt F.FnOnce f (entry_key self) (Ok v)
+            → R.holds (entry_key self) v }
         ensures entry { IfOk result (λ r. OrPutsSome K.eq self.entry (λ k v. FnOnceReturnsAt F.FnOnce f k (Ok v))
             r.0 r.1) }
         ensures refused { IfErr result (FailsOrRefuses self.entry (λ k v. FnOnceReturnsAt F.FnOnce f k (Ok v))
             (λ k e. FnOnceReturnsAt F.FnOnce f k (Err e))) }
-        ensures* kept { sem 𝓛 (rests_if_refused K.row V.row H.row H.Hasher.row K.Hash H.BuildHasher H.Hasher.Hasher
+        ensures* kept { sem 𝓛 (rests_if_refused K.row V.row H.row R.row H.Hasher.row K.Hash H.BuildHasher R.Rule H.Hasher.Hasher
             (entry_guard self.entry) result) }
     {
         match self {
@@ -153,15 +163,16 @@ impl<'a, K: Eq + Hash, V, H: BuildHasher> Entry<'a, K, V, H> {
         }
     }
 
-    /// Puts in the default value if the entry is vacant, as `or_put` does.
+    /// Puts in the default value, which must keep the rule, if the entry is vacant, as `or_put` does.
     pub fn or_default(
         self,
-    ) -> Result<(EvictedEntry<K, V>, OccupiedEntry<'a, K, V, H>), InsertError<K, V>>
+    ) -> Result<(EvictedEntry<K, V>, OccupiedEntry<'a, K, V, H, R>), InsertError<K, V>>
     where
         V: MadeWith<Global>,
+        requires { IsVacant self → (v : V) → V.is_made_with v → R.holds (entry_key self) v }
         ensures entry { IfOk result (λ r. OrPutsSome K.eq self.entry (λ k v. V.is_made_with v) r.0 r.1) }
         ensures refused { IfErr result (RefusesSome self.entry (λ k v. V.is_made_with v)) }
-        ensures* kept { sem 𝓛 (rests_if_refused K.row V.row H.row H.Hasher.row K.Hash H.BuildHasher H.Hasher.Hasher
+        ensures* kept { sem 𝓛 (rests_if_refused K.row V.row H.row R.row H.Hasher.row K.Hash H.BuildHasher R.Rule H.Hasher.Hasher
             (entry_guard self.entry) result) }
     {
         match self {
@@ -174,16 +185,17 @@ impl<'a, K: Eq + Hash, V, H: BuildHasher> Entry<'a, K, V, H> {
     }
 
     /// Sets the value of an occupied entry, which keeps its key and its place, or puts in `value` at a vacant entry,
-    /// as `or_put` does.
+    /// as `or_put` does. `value` must keep the rule.
     pub fn put_entry(
         self,
         value: V,
-    ) -> Result<(EvictedEntry<K, V>, OccupiedEntry<'a, K, V, H>), InsertError<K, V>>
+    ) -> Result<(EvictedEntry<K, V>, OccupiedEntry<'a, K, V, H, R>), InsertError<K, V>>
     where
         V: Drop,
+        requires { R.holds (entry_key self) value }
         ensures entry { IfOk result (λ r. SetsEntry K.eq self.entry value r.0 r.1) }
         ensures refused { IfErr result (Refuses self.entry value) }
-        ensures* kept { sem 𝓛 (rests_if_refused K.row V.row H.row H.Hasher.row K.Hash H.BuildHasher H.Hasher.Hasher
+        ensures* kept { sem 𝓛 (rests_if_refused K.row V.row H.row R.row H.Hasher.row K.Hash H.BuildHasher R.Rule H.Hasher.Hasher
             (entry_guard self.entry) result) }
     {
         match self {
@@ -210,11 +222,13 @@ impl<'a, K: Eq + Hash, V, H: BuildHasher> Entry<'a, K, V, H> {
     }
 }
 
-impl<'a, K: Eq + Hash, V, H: BuildHasher> OccupiedEntry<'a, K, V, H> {
+impl<'a, K: Eq + Hash, V, H: BuildHasher, R: Rule<K, V>> OccupiedEntry<'a, K, V, H, R> {
     /// Returns the entry as it is, as the result of a put that evicts nothing.
-    fn as_it_is(self) -> Result<(EvictedEntry<K, V>, OccupiedEntry<'a, K, V, H>), InsertError<K, V>>
+    fn as_it_is(
+        self,
+    ) -> Result<(EvictedEntry<K, V>, OccupiedEntry<'a, K, V, H, R>), InsertError<K, V>>
         ensures same { result ≡ Ok (None, self.entry) }
-        ensures* kept { sem 𝓛 (rests_if_refused K.row V.row H.row H.Hasher.row K.Hash H.BuildHasher H.Hasher.Hasher
+        ensures* kept { sem 𝓛 (rests_if_refused K.row V.row H.row R.row H.Hasher.row K.Hash H.BuildHasher R.Rule H.Hasher.Hasher
             (occupied_guard self.entry) result) }
     {
         let HeldOccupied {

@@ -12,14 +12,14 @@ ghost use Rattle.std.specs.Prelude.{◌≡◌, IfOk, IfErr, IfSome, IfNone};
 use crate::borrowed::{Entry, OccupiedEntry, ReplaceResult, VacantEntry};
 use crate::held::{HeldEntry, HeldOccupied, HeldReplace, HeldVacant};
 use crate::{EvictedEntry, Owned};
-use scc_common::{Hashes, InsertError};
+use scc_common::{Hashes, InsertError, Rule};
 use std::hash::{BuildHasher, Hash};
 
-impl<K: Eq + Hash, V, H: BuildHasher> Owned<K, V, H> {
+impl<K: Eq + Hash, V, H: BuildHasher, R: Rule<K, V>> Owned<K, V, H, R> {
     /// Returns the entry of `k`: occupied at the stored pair, which becomes the most recent of its bucket, or vacant
     /// with `k`, and then nothing changes. Allocates nothing and makes no array. If the bucket of a stored pair waits,
     /// it is relocated first, and no other bucket is.
-    pub fn entry_sync(&mut self, k: K) -> Entry<'_, K, V, H>
+    pub fn entry_sync(&mut self, k: K) -> Entry<'_, K, V, H, R>
     where
         K: Drop,
         ensures same_cache { (entry_guard result).ghost_name ≡ self.entry.ghost_name }
@@ -37,12 +37,12 @@ impl<K: Eq + Hash, V, H: BuildHasher> Owned<K, V, H> {
     /// Returns the occupied entry of `k`, whose pair becomes the most recent of its bucket. If no key equals `k`,
     /// returns `None`, and nothing changes. Allocates nothing. If the bucket of the pair waits, it is relocated first,
     /// and no other bucket is.
-    pub fn get_sync(&mut self, k: &K) -> Option<OccupiedEntry<'_, K, V, H>>
+    pub fn get_sync(&mut self, k: &K) -> Option<OccupiedEntry<'_, K, V, H, R>>
         ensures same_cache { IfSome result (λ o. (occupied_guard o).ghost_name ≡ self.entry.ghost_name) }
         ensures entry { IfSome result (IsRefreshed K.eq self.old k.now) }
         ensures missing { IfNone result (IsAbsent (hash_in ⟦<H as Hashes<K>>⟧.hash_of self.old.contents) K.eq
             self.old.contents k.now) }
-        ensures* kept { sem 𝓛 (rests_if_none K.row V.row H.row H.Hasher.row K.Hash H.BuildHasher H.Hasher.Hasher
+        ensures* kept { sem 𝓛 (rests_if_none K.row V.row H.row R.row H.Hasher.row K.Hash H.BuildHasher R.Rule H.Hasher.Hasher
             self.entry result) }
     {
         let hash = self.table.hash(k);
@@ -56,7 +56,7 @@ impl<K: Eq + Hash, V, H: BuildHasher> Owned<K, V, H> {
     /// and returns the entry with the old key. If no key equals `k`, nothing changes, and the vacant entry is
     /// returned. Allocates nothing. If the bucket of a stored pair waits, it is relocated first, and no other bucket
     /// is.
-    pub fn replace_sync(&mut self, k: K) -> ReplaceResult<'_, K, V, H>
+    pub fn replace_sync(&mut self, k: K) -> ReplaceResult<'_, K, V, H, R>
         ensures same_cache { (replaced_guard result).ghost_name ≡ self.entry.ghost_name }
         ensures step { Replaces K.eq self.old k result }
     {
@@ -71,13 +71,21 @@ impl<K: Eq + Hash, V, H: BuildHasher> Owned<K, V, H> {
     }
 }
 
-impl<'a, N, K: Eq + Hash, V, H: BuildHasher> HeldOccupied<&'a mut Owned<K, V, H>, N, K, V, H> {
+impl<'a, N, K: Eq + Hash, V, H: BuildHasher, R: Rule<K, V>> HeldOccupied<
+    &'a mut Owned<K, V, H, R>,
+    N,
+    K,
+    V,
+    H,
+    R,
+> {
     /// Removes the pair, and returns its value. The array may shrink.
     pub fn remove(self) -> V
     where
         N: Drop,
         K: Drop,
         ensures value { result ≡ (occupied_pair self.entry).1 }
+        ensures kept { R.holds (occupied_pair self.entry).0 result }
         ensures removed { TakesAt (hash_in ⟦<H as Hashes<K>>⟧.hash_of (occupied_cache self.entry).contents)
             (occupied_cache self.entry) (occupied_place self.entry) self.exit.0.now }
         ensures state { IsCacheState K.eq (hash_in ⟦<H as Hashes<K>>⟧.hash_of self.exit.0.now.contents)
@@ -94,6 +102,7 @@ impl<'a, N, K: Eq + Hash, V, H: BuildHasher> HeldOccupied<&'a mut Owned<K, V, H>
     where
         N: Drop,
         ensures pair { result ≡ occupied_pair self.entry }
+        ensures kept { R.holds result.0 result.1 }
         ensures removed { TakesAt (hash_in ⟦<H as Hashes<K>>⟧.hash_of (occupied_cache self.entry).contents)
             (occupied_cache self.entry) (occupied_place self.entry) self.exit.0.now }
         ensures state { IsCacheState K.eq (hash_in ⟦<H as Hashes<K>>⟧.hash_of self.exit.0.now.contents)
@@ -106,7 +115,7 @@ impl<'a, N, K: Eq + Hash, V, H: BuildHasher> HeldOccupied<&'a mut Owned<K, V, H>
     }
 }
 
-impl<'a, K: Eq + Hash, V, H: BuildHasher> VacantEntry<'a, K, V, H> {
+impl<'a, K: Eq + Hash, V, H: BuildHasher, R: Rule<K, V>> VacantEntry<'a, K, V, H, R> {
     /// Returns the key, and leaves the cache as it is.
     pub fn into_key(self) -> K
         ensures key { result ≡ vacant_key self.entry }
@@ -115,8 +124,10 @@ impl<'a, K: Eq + Hash, V, H: BuildHasher> VacantEntry<'a, K, V, H> {
         self.key
     }
 
-    /// Puts in the key with `value`, as `put_entry` does, ends the borrow, and returns the evicted pair, if any.
+    /// Puts in the key with `value`, which must keep the rule, as `put_entry` does, ends the borrow, and returns the
+    /// evicted pair, if any.
     pub fn put(self, value: V) -> Result<EvictedEntry<K, V>, InsertError<K, V>>
+        requires { R.holds (vacant_key self) value }
         ensures { PutsByRule K.eq ⟦<H as Hashes<K>>⟧.hash_of (vacant_guard self.entry).now
             (vacant_key self.entry, value) result self.exit.0.now }
     {
@@ -128,17 +139,18 @@ impl<'a, K: Eq + Hash, V, H: BuildHasher> VacantEntry<'a, K, V, H> {
         }
     }
 
-    /// Puts in the key with `value` as the most recent pair of its bucket, by the rules of `put_sync`, and returns the
-    /// evicted pair, if any, and the new pair's entry. Memory is refused only if there is no array; then key and value
-    /// come back and nothing changes.
+    /// Puts in the key with `value`, which must keep the rule, as the most recent pair of its bucket, by the rules of
+    /// `put_sync`, and returns the evicted pair, if any, and the new pair's entry. Memory is refused only if there is
+    /// no array; then key and value come back and nothing changes.
     pub fn put_entry(
         self,
         value: V,
-    ) -> Result<(EvictedEntry<K, V>, OccupiedEntry<'a, K, V, H>), InsertError<K, V>>
+    ) -> Result<(EvictedEntry<K, V>, OccupiedEntry<'a, K, V, H, R>), InsertError<K, V>>
+        requires { R.holds (vacant_key self) value }
         ensures put { IfOk result (λ r. IsPut K.eq self.entry value r.0 r.1) }
         ensures refused { IfErr result (λ e. (e ≡ Memory (vacant_key self.entry, value))
             × (bucket_count (vacant_guard self.entry).now.contents ≡ 0)) }
-        ensures* kept { sem 𝓛 (rests_if_refused K.row V.row H.row H.Hasher.row K.Hash H.BuildHasher H.Hasher.Hasher
+        ensures* kept { sem 𝓛 (rests_if_refused K.row V.row H.row R.row H.Hasher.row K.Hash H.BuildHasher R.Rule H.Hasher.Hasher
             (vacant_guard self.entry) result) }
     {
         let HeldVacant {

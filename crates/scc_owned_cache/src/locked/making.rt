@@ -1,5 +1,6 @@
 //! How an entry is made from the guard of a cache. The pair of the key first becomes the most recent of its bucket. The
-//! guard may be of any kind, but the owned form, whose contracts say more of a guard that goes, makes its entries itself.
+//! guard may be of any kind, but the owned form, whose contracts say more of a guard that goes, makes its entries
+//! itself.
 ghost use Rattle.scc_owned_cache.specs.CacheSteps.{IsAbsent};
 ghost use Rattle.scc_owned_cache.specs.Caches.{IsCacheState};
 ghost use Rattle.scc_owned_cache.specs.Entries.{entry_guard, occupied_cache, IsEntryOf, IsRefreshed, replaced_guard, Replaces, occupied_guard};
@@ -9,16 +10,17 @@ ghost use Rattle.std.specs.Prelude.{◌≡◌, IfSome, IfNone};
 
 use crate::Owned;
 use crate::held::{HeldEntry, HeldOccupied, HeldReplace, HeldVacant};
-use scc_common::{Guard, Hashes};
+use scc_common::{Guard, Hashes, Rule};
 use std::hash::{BuildHasher, Hash};
 
-impl<G: Guard<Inner = Owned<K, V, H>>, N, K: Eq + Hash, V, H: BuildHasher> HeldEntry<
-    G,
+impl<
+    G: Guard<Inner = Owned<K, V, H, R>>,
     N,
-    K,
+    K: Eq + Hash,
     V,
-    H,
-> {
+    H: BuildHasher,
+    R: Rule<K, V>,
+> HeldEntry<G, N, K, V, H, R> {
     /// Returns the entry of `k` in the cache of `guard`: occupied at the stored pair, which becomes the most recent of
     /// its bucket, or vacant with `k`. Allocates nothing and makes no array.
     pub fn of(guard: G, k: K, rest: N) -> Self
@@ -39,13 +41,14 @@ impl<G: Guard<Inner = Owned<K, V, H>>, N, K: Eq + Hash, V, H: BuildHasher> HeldE
     }
 }
 
-impl<G: Guard<Inner = Owned<K, V, H>>, N, K: Eq + Hash, V, H: BuildHasher> HeldOccupied<
-    G,
+impl<
+    G: Guard<Inner = Owned<K, V, H, R>>,
     N,
-    K,
+    K: Eq + Hash,
     V,
-    H,
-> {
+    H: BuildHasher,
+    R: Rule<K, V>,
+> HeldOccupied<G, N, K, V, H, R> {
     /// Returns the occupied entry of `k` in the cache of `guard`, whose pair becomes the most recent of its bucket. If
     /// no key equals `k`, changes nothing, drops the guard and returns `None`.
     pub fn of(guard: G, k: &K, rest: N) -> Option<Self>
@@ -69,13 +72,14 @@ impl<G: Guard<Inner = Owned<K, V, H>>, N, K: Eq + Hash, V, H: BuildHasher> HeldO
     }
 }
 
-impl<G: Guard<Inner = Owned<K, V, H>>, N, K: Eq + Hash, V, H: BuildHasher> HeldReplace<
-    G,
+impl<
+    G: Guard<Inner = Owned<K, V, H, R>>,
     N,
-    K,
+    K: Eq + Hash,
     V,
-    H,
-> {
+    H: BuildHasher,
+    R: Rule<K, V>,
+> HeldReplace<G, N, K, V, H, R> {
     /// Puts `k` in the place of the key that equals it, makes the pair the most recent of its bucket, and returns the
     /// entry with the old key. If no key equals `k`, returns the vacant entry of `k`.
     pub fn of(guard: G, k: K, rest: N) -> Self

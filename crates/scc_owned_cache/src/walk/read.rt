@@ -1,36 +1,22 @@
 //! Walks over the pairs of a cache. No walk makes a pair more recent.
 ghost use Rattle.scc_owned_cache.specs.CacheSteps.{Clears};
-ghost use Rattle.scc_owned_cache.specs.CacheWalks.{GoesOver};
 ghost use Rattle.scc_owned_cache.specs.Caches.{IsCacheState};
 ghost use Rattle.scc_owned_cache.specs.Relocations.{RelocatesNoneWithin};
 ghost use Rattle.scc_owned_cache.specs.TakingWalks.{TakesOutWithNext};
 ghost use Rattle.scc_common.specs.Contents.{entries, notes_of, waiting_of, hash_in};
 ghost use Rattle.scc_common.specs.Pairs.{IsUnique};
+ghost use Rattle.scc_common.specs.RuleWalks.{CallableOnKept, CalledOnKept};
 ghost use Rattle.scc_common.specs.Steps.{HoldsExactly};
-ghost use Rattle.scc_common.specs.Walks.{CalledOn, CallableWhile, Walks};
+ghost use Rattle.scc_common.specs.Walks.{Walks};
 ghost use Rattle.scc_table.specs.Places.{IsPlace, StandsAt, index_of};
-ghost use Rattle.std.specs.List.Sorted.{IsPermutation};
-ghost use Rattle.std.specs.Prelude.{◌≡◌, suc, List, [], length, true, Some, MatchOption};
+ghost use Rattle.std.specs.Prelude.{◌≡◌, suc, [], length, true, MatchOption};
 
 use crate::Owned;
 use scc_buckets::Place;
-use scc_common::Hashes;
+use scc_common::{Hashes, Rule, Valued};
 use std::hash::{BuildHasher, Hash};
 
-impl<K: Eq + Hash, V, H: BuildHasher> Owned<K, V, H> {
-    /// Calls `f` on the pairs, each at most once, until `f` returns false. Returns false if it did, else true. Goes
-    /// over each bucket from its least to its most recent pair; the order of the pairs stays.
-    #[inline(always)]
-    pub fn iter_sync<F: FnMut(&K, &V) -> bool>(&self, f: F) -> bool
-        requires { (es : List (K × V)) → IsPermutation (entries self.now.contents) es
-            → CallableWhile F.FnMut true f es }
-        ensures { (es : List (K × V)) × (last : F)
-            × GoesOver (hash_in ⟦<H as Hashes<K>>⟧.hash_of self.now.contents) self.now.contents es
-            × Walks (CalledOn F.FnMut) f es result last }
-    {
-        self.table.walk(f)
-    }
-
+impl<K: Eq + Hash, V, H: BuildHasher, R: Rule<K, V>> Owned<K, V, H, R> {
     /// Removes all pairs. Then the array may shrink, and every bucket of the new array waits.
     pub fn clear_sync(&mut self)
     where
@@ -75,21 +61,24 @@ impl<K: Eq + Hash, V, H: BuildHasher> Owned<K, V, H> {
     /// Removes the pair at `place` without a resize, and returns it with the place of the pair that followed.
     pub fn take_with_next(&mut self, place: Place) -> ((K, V), Option<Place>)
         requires { IsPlace self.old.contents place }
-        ensures { TakesOutWithNext self.old place result self.new }
+        ensures takes { TakesOutWithNext self.old place result self.new }
+        ensures kept { R.holds result.0.0 result.0.1 }
     {
-        self.table.take_with_next(place)
+        let (entry, next) = self.table.take_with_next(place);
+        (entry.into_pair(), next)
     }
 
     /// Calls `f` on the pairs in the order of the lists until `f` returns false. Returns false if it did, else true.
     /// The closure is lent, and can go on to other caches.
     pub fn iter_lent<F: FnMut(&K, &V) -> bool>(&self, f: &mut F) -> bool
-        requires { CallableWhile F.FnMut true f.old (entries self.now.contents) }
-        ensures walks { Walks (CalledOn F.FnMut) f.old (entries self.now.contents) result f.new }
+        requires { CallableOnKept R.holds F.FnMut true f.old (entries self.now.contents) }
+        ensures walks { Walks (CalledOnKept R.holds F.FnMut) f.old (entries self.now.contents) result f.new }
         ensures unique { IsUnique K.eq self.now.contents }
+        ensures state { IsCacheState K.eq (hash_in ⟦<H as Hashes<K>>⟧.hash_of self.now.contents) self.now }
     {
         let mut at = self.table.first_place();
         while let Some(place) = at {
-            let (key, value) = self.table.pair_at(place);
+            let (key, value) = self.table.entry_at(place).parts();
             if !f(key, value) {
                 return false;
             }

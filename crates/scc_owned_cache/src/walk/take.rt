@@ -3,55 +3,36 @@ ghost use Rattle.scc_owned_cache.specs.CacheWalks.{GoesOver, LeavesPairs, Shrink
 ghost use Rattle.scc_owned_cache.specs.Caches.{Cached};
 ghost use Rattle.scc_owned_cache.specs.TakingWalks.{MovesOut, TakesByRule, TakesInOrder};
 ghost use Rattle.scc_common.specs.Contents.{entries, hash_in};
-ghost use Rattle.scc_common.specs.PairWalks.{CallableToWrite, CalledToWrite, GoesOn, Takes};
+ghost use Rattle.scc_common.specs.PairWalks.{GoesOn, Takes};
+ghost use Rattle.scc_common.specs.RuleWalks.{CallableToWriteKept, CalledToWriteKept, KeepsEachAlways};
 ghost use Rattle.scc_common.specs.Steps.{HoldsExactly};
 ghost use Rattle.scc_table.specs.Places.{IsPlace};
-ghost use Rattle.std.specs.List.Sorted.{IsPermutation};
 ghost use Rattle.std.specs.Prelude.{◌≡◌, ◌<◌, ◌++◌, List, Some};
 ghost use Rattle.std.specs.Vec.{vec_len, vec_capacity};
 
 use crate::Owned;
 use scc_buckets::Place;
-use scc_common::{Hashes, Verdict, WalkError};
+use scc_common::{Hashes, Rule, Verdict, WalkError};
 use std::hash::{BuildHasher, Hash};
 
-impl<K: Eq + Hash, V, H: BuildHasher> Owned<K, V, H> {
-    /// Calls `f` on the pairs in some order, each at most once, with the value to write, until `f` stops the walk.
-    /// Returns false if `f` stopped it, else true. A pair on which `f` returns `Take` or `TakeStop` goes to the end of
-    /// `taken`; the other pairs keep the order of their list. Before each call of `f`, room for one pair is made in
-    /// `taken`; if its memory is refused, the walk ends with an error, and what the walk did so far stays. If a pair
-    /// was taken, the array may shrink, and then every bucket of the new array waits.
-    pub fn iter_mut_sync<F: FnMut(&K, &mut V) -> Verdict>(
-        &mut self,
-        f: F,
-        taken: &mut Vec<(K, V)>,
-    ) -> Result<bool, WalkError>
-        requires { (es : List (K × V)) → IsPermutation (entries self.old.contents) es
-            → CallableToWrite F.FnMut GoesOn f es }
-        ensures { TakesByRule K.eq ⟦<H as Hashes<K>>⟧.hash_of ((es : List (K × V)) × (stay : List (K × V))
-            × (more : List (K × V)) × (last : F) × (left : Cached (K × V) H)
-            × GoesOver (hash_in ⟦<H as Hashes<K>>⟧.hash_of self.old.contents) self.old.contents es
-            × Takes (CalledToWrite F.FnMut) f es stay more result last × (taken.new.items ≡ taken.old.items ++ more)
-            × LeavesPairs (hash_in ⟦<H as Hashes<K>>⟧.hash_of self.old.contents) self.old stay left
-            × ShrinksIfTaken (hash_in ⟦<H as Hashes<K>>⟧.hash_of self.old.contents) more left self.new) self.old
-            taken.old result self.new taken.new }
-    {
-        let mut f = f;
-        self.iter_mut_lent(&mut f, taken)
-    }
-
-    /// As `iter_mut_sync`, but the closure is lent, and can go on to other caches.
+impl<K: Eq + Hash, V, H: BuildHasher, R: Rule<K, V>> Owned<K, V, H, R> {
+    /// Calls `f` on the pairs in the order of the lists, with the value to write, until `f` stops the walk. Returns
+    /// false if `f` stopped it, else true. A pair on which `f` returns `Take` or `TakeStop` goes to the end of `taken`.
+    /// What `f` leaves must keep the rule, also in a pair that is taken. Before each call of `f`, room for one pair is
+    /// made in `taken`; if its memory is refused, the walk ends with an error, and what the walk did so far stays. If a
+    /// pair was taken, the array may shrink, and then every bucket of the new array waits. The closure is lent, and can
+    /// go on to other caches.
     pub fn iter_mut_lent<F: FnMut(&K, &mut V) -> Verdict>(
         &mut self,
         f: &mut F,
         taken: &mut Vec<(K, V)>,
     ) -> Result<bool, WalkError>
-        requires { (es : List (K × V)) → IsPermutation (entries self.old.contents) es
-            → CallableToWrite F.FnMut GoesOn f.old es }
+        requires callable { CallableToWriteKept R.holds F.FnMut GoesOn f.old (entries self.old.contents) }
+        requires keeps { KeepsEachAlways R.holds F.FnMut }
         ensures { TakesByRule K.eq ⟦<H as Hashes<K>>⟧.hash_of ((es : List (K × V)) × (stay : List (K × V))
             × (more : List (K × V)) × (left : Cached (K × V) H)
             × GoesOver (hash_in ⟦<H as Hashes<K>>⟧.hash_of self.old.contents) self.old.contents es
-            × Takes (CalledToWrite F.FnMut) f.old es stay more result f.new
+            × Takes (CalledToWriteKept R.holds F.FnMut) f.old es stay more result f.new
             × (taken.new.items ≡ taken.old.items ++ more)
             × LeavesPairs (hash_in ⟦<H as Hashes<K>>⟧.hash_of self.old.contents) self.old stay left
             × ShrinksIfTaken (hash_in ⟦<H as Hashes<K>>⟧.hash_of self.old.contents) more left self.new) self.old
@@ -71,9 +52,10 @@ impl<K: Eq + Hash, V, H: BuildHasher> Owned<K, V, H> {
         f: &mut F,
         taken: &mut Vec<(K, V)>,
     ) -> Result<bool, WalkError>
-        requires { CallableToWrite F.FnMut GoesOn f.old (entries self.old.contents) }
+        requires callable { CallableToWriteKept R.holds F.FnMut GoesOn f.old (entries self.old.contents) }
+        requires keeps { KeepsEachAlways R.holds F.FnMut }
         ensures { TakesInOrder ((stay : List (K × V)) × (more : List (K × V))
-            × Takes (CalledToWrite F.FnMut) f.old (entries self.old.contents) stay more result f.new
+            × Takes (CalledToWriteKept R.holds F.FnMut) f.old (entries self.old.contents) stay more result f.new
             × (taken.new.items ≡ taken.old.items ++ more) × HoldsExactly self.old.contents stay self.new.contents)
             self.old taken.old result self.new taken.new }
     {

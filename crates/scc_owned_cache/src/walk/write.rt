@@ -2,55 +2,31 @@
 ghost use Rattle.scc_owned_cache.specs.CacheSteps.{ShrinksTo};
 ghost use Rattle.scc_owned_cache.specs.CacheWalks.{GoesOver, LeavesPairs};
 ghost use Rattle.scc_owned_cache.specs.Caches.{Cached, IsCacheState};
-ghost use Rattle.scc_owned_cache.specs.Lends.{with_value_at};
 ghost use Rattle.scc_owned_cache.specs.Relocations.{RelocatesNoneWithin};
 ghost use Rattle.scc_common.specs.Contents.{entries, hash_in, notes_of, waiting_of};
-ghost use Rattle.scc_common.specs.PairWalks.{CallableToWrite, CalledToWrite, Retains, TakesToWrite};
+ghost use Rattle.scc_common.specs.PairWalks.{Retains};
 ghost use Rattle.scc_common.specs.Pairs.{IsUnique};
+ghost use Rattle.scc_common.specs.RuleWalks.{CallableToWriteKept, CalledToWriteKept, KeepsEachAlways};
 ghost use Rattle.scc_common.specs.Steps.{HoldsExactly};
-ghost use Rattle.scc_table.specs.Places.{IsPlace, index_of};
-ghost use Rattle.std.specs.List.Sorted.{IsPermutation};
-ghost use Rattle.std.specs.Prelude.{◌≡◌, List, Some, slice_get, ⊤};
+ghost use Rattle.std.specs.Prelude.{◌≡◌, List, ⊤};
 
 use crate::Owned;
-use scc_buckets::Place;
-use scc_common::Hashes;
+use scc_common::{Hashes, Rule};
 use std::hash::{BuildHasher, Hash};
 
-impl<K: Eq + Hash, V, H: BuildHasher> Owned<K, V, H> {
-    /// Calls `f` on every pair once, in some order, with the value to write, and removes the pairs on which `f`
-    /// returns false. The other pairs keep the order of their list. Then the array may shrink, and every bucket of the
-    /// new array waits.
-    pub fn retain_sync<F: FnMut(&K, &mut V) -> bool>(&mut self, f: F)
-    where
-        K: Drop,
-        V: Drop,
-        requires { (es : List (K × V)) → IsPermutation (entries self.old.contents) es
-            → CallableToWrite F.FnMut (λ answer. ⊤) f es }
-        ensures step { (es : List (K × V)) × (stay : List (K × V)) × (last : F) × (left : Cached (K × V) H)
-            × GoesOver (hash_in ⟦<H as Hashes<K>>⟧.hash_of self.old.contents) self.old.contents es
-            × Retains (CalledToWrite F.FnMut) f es stay last
-            × LeavesPairs (hash_in ⟦<H as Hashes<K>>⟧.hash_of self.old.contents) self.old stay left
-            × ShrinksTo (λ e. hash_in ⟦<H as Hashes<K>>⟧.hash_of self.old.contents e.0) left self.new }
-        ensures was_unique { IsUnique K.eq self.old.contents }
-        ensures state { IsCacheState K.eq (hash_in ⟦<H as Hashes<K>>⟧.hash_of self.new.contents) self.new }
-        ensures relocates { RelocatesNoneWithin (λ p. hash_in ⟦<H as Hashes<K>>⟧.hash_of self.old.contents p.0)
-            self.old.contents self.new.contents }
-    {
-        let mut f = f;
-        self.retain_lent(&mut f);
-    }
-
-    /// As `retain_sync`, but the closure is lent, and can go on to other caches.
+impl<K: Eq + Hash, V, H: BuildHasher, R: Rule<K, V>> Owned<K, V, H, R> {
+    /// Calls `f` on every pair once, in the order of the lists, with the value to write, and removes the pairs on which
+    /// `f` returns false. What `f` leaves must keep the rule, also in a pair that goes. Then the array may shrink, and
+    /// every bucket of the new array waits. The closure is lent, and can go on to other caches.
     pub fn retain_lent<F: FnMut(&K, &mut V) -> bool>(&mut self, f: &mut F)
     where
         K: Drop,
         V: Drop,
-        requires { (es : List (K × V)) → IsPermutation (entries self.old.contents) es
-            → CallableToWrite F.FnMut (λ answer. ⊤) f.old es }
+        requires callable { CallableToWriteKept R.holds F.FnMut (λ answer. ⊤) f.old (entries self.old.contents) }
+        requires keeps { KeepsEachAlways R.holds F.FnMut }
         ensures step { (es : List (K × V)) × (stay : List (K × V)) × (left : Cached (K × V) H)
             × GoesOver (hash_in ⟦<H as Hashes<K>>⟧.hash_of self.old.contents) self.old.contents es
-            × Retains (CalledToWrite F.FnMut) f.old es stay f.new
+            × Retains (CalledToWriteKept R.holds F.FnMut) f.old es stay f.new
             × LeavesPairs (hash_in ⟦<H as Hashes<K>>⟧.hash_of self.old.contents) self.old stay left
             × ShrinksTo (λ e. hash_in ⟦<H as Hashes<K>>⟧.hash_of self.old.contents e.0) left self.new }
         ensures was_unique { IsUnique K.eq self.old.contents }
@@ -67,8 +43,9 @@ impl<K: Eq + Hash, V, H: BuildHasher> Owned<K, V, H> {
     where
         K: Drop,
         V: Drop,
-        requires { CallableToWrite F.FnMut (λ answer. ⊤) f.old (entries self.old.contents) }
-        ensures step { (stay : List (K × V)) × Retains (CalledToWrite F.FnMut) f.old (entries self.old.contents) stay
+        requires callable { CallableToWriteKept R.holds F.FnMut (λ answer. ⊤) f.old (entries self.old.contents) }
+        requires keeps { KeepsEachAlways R.holds F.FnMut }
+        ensures step { (stay : List (K × V)) × Retains (CalledToWriteKept R.holds F.FnMut) f.old (entries self.old.contents) stay
             f.new × HoldsExactly self.old.contents stay self.new.contents }
         ensures refused { notes_of self.new.contents ≡ notes_of self.old.contents }
         ensures maximum { self.new.maximum ≡ self.old.maximum }
@@ -84,17 +61,5 @@ impl<K: Eq + Hash, V, H: BuildHasher> Owned<K, V, H> {
                 at = next;
             }
         }
-    }
-
-    /// Calls `f` on the pair at `place`, with the value to write.
-    pub fn visit<R, F: FnMut(&K, &mut V) -> R>(&mut self, place: Place, f: &mut F) -> R
-        requires within { IsPlace self.old.contents place }
-        requires callable { (p : K × V) → slice_get (entries self.old.contents) (index_of self.old.contents place)
-            ≡ Some p → TakesToWrite F.FnMut f.old p }
-        ensures { (p : K × V) × (w : V) × (slice_get (entries self.old.contents) (index_of self.old.contents place)
-            ≡ Some p) × CalledToWrite F.FnMut f.old p result w f.new × (self.new ≡ with_value_at self.old place w) }
-    {
-        let (key, value) = self.parts_mut_at(place);
-        f(key, value)
     }
 }

@@ -17,8 +17,11 @@ impl<K: Eq + Hash, V, H: BuildHasher> HashIndex<K, V, H> {
     pub fn insert_sync(&self, rt: &impl Wait, k: K, v: V) -> Result<(), InsertError<K, V>>
         ensures back { IfErr result (λ e. (e ≡ Exists (k, v)) ⊎ (e ≡ Memory (k, v))) }
     {
-        let stripe = self.stripes.route(&k);
-        self.stripes.write_to_insert(rt, stripe).insert_sync(k, v)
+        let hash = self.stripes.hash(&k);
+        let stripe = self.stripes.route_hash(hash);
+        self.stripes
+            .write_to_insert(rt, stripe)
+            .insert_by_hint(hash, k, v)
     }
 
     /// Returns the version of `k` with one more owner, or `None` if no key equals `k`. The version never changes and

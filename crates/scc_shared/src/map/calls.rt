@@ -49,9 +49,10 @@ impl<K: Eq + Hash, V, H: BuildHasher> HashMap<K, V, H> {
         requires { U.IsAlwaysCallable u }
         ensures answer { IfSome result (WritesEqual K.eq U.FnOnce u k.now) }
     {
+        let hash = self.stripes.hash(k);
         self.stripes
-            .write(rt, self.stripes.route(k))
-            .update_sync(k, u)
+            .write(rt, self.stripes.route_hash(hash))
+            .update_by_hint(hash, k, u)
     }
 
     /// Calls `f` on the pair of `k`, and returns what `f` returns. Returns `None` without calling `f` if no key equals
@@ -115,9 +116,10 @@ impl<K: Eq + Hash, V, H: BuildHasher> HashMap<K, V, H> {
         ensures seat { IsSeatOfKey H.BuildHasher H.Hasher.Hasher K.hash_input (stripes_of self.now) k
             (replaced_rest result) }
     {
-        let stripe = self.stripes.route(&k);
+        let hash = self.stripes.hash(&k);
+        let stripe = self.stripes.route_hash(hash);
         let (guard, seat) = self.stripes.hold_to_insert(rt, stripe);
-        ReplaceResult::of(guard, k, seat)
+        ReplaceResult::of(guard, hash, k, seat)
     }
 
     /// Returns whether the stripe of `k` has an array in which the bucket of `k` holds fewer than 32 pairs.

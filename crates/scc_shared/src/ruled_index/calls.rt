@@ -2,13 +2,12 @@
 //! owned call of its name does.
 ghost use Rattle.scc_owned.specs.Entries.{Exists, Memory};
 ghost use Rattle.scc_owned.specs.RuledReplies.{IsTestedOn, PassesKept};
-ghost use Rattle.scc_rules.specs.Rules.{IsCalledOn, IsKeptAt, ReadsKept};
+ghost use Rattle.scc_common.specs.Rules.{IsCalledOn, IsKeptAt, ReadsKept};
 ghost use Rattle.std.specs.Arc.{arc_value};
 ghost use Rattle.std.specs.Prelude.{◌≡◌, ◌⊎◌, IfErr, IfOk, IfSome, IsTrue};
 
 use crate::ruled_index::RuledIndex;
-use scc_common::{InsertError, MakeError, Version};
-use scc_rules::Rule;
+use scc_common::{InsertError, MakeError, Rule, Version};
 use std::hash::{BuildHasher, Hash};
 use std::sync::{Arc, Wait};
 

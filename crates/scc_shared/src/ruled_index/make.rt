@@ -1,14 +1,13 @@
 //! How a index under a rule is made of items.
 ghost use Rattle.std.specs.Iterator.{Drains, IsFinite};
 ghost use Rattle.std.specs.Prelude.{◌≡◌, List, length, IfOk};
-ghost use Rattle.scc_rules.specs.Rules.{AllKeep};
+ghost use Rattle.scc_common.specs.Rules.{AllKeep};
 ghost use Rattle.scc_shared.specs.Stripes.{hasher_of, stripes_of};
 ghost use Rattle.scc_stripes.specs.Sizes.{IsBitsAsked};
 ghost use Rattle.scc_stripes.specs.Stripes.{stripe_bits};
 
 use crate::ruled_index::RuledIndex;
-use scc_common::{InsertError, MakeError};
-use scc_rules::Rule;
+use scc_common::{InsertError, MakeError, Rule};
 use std::alloc::Global;
 use std::hash::{BuildHasher, Hash};
 use std::sync::Wait;

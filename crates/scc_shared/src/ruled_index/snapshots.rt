@@ -1,13 +1,12 @@
 //! `RuledIter`: a snapshot of an index under a rule.
 ghost use Rattle.scc_owned.specs.RuledReplies.{YieldsKept};
-ghost use Rattle.scc_rules.specs.Rules.{AllKeep};
+ghost use Rattle.scc_common.specs.Rules.{AllKeep};
 ghost use Rattle.std.specs.Arc.{arc_value};
 ghost use Rattle.std.specs.Iterator.{item_count};
 ghost use Rattle.std.specs.Prelude.{◌≡◌, IfOk, map};
 
 use scc_common::snapshot::Iter;
-use scc_common::{MakeError, Version};
-use scc_rules::Rule;
+use scc_common::{MakeError, Rule, Version};
 use std::iter::FusedIterator;
 use std::marker::{Model, PhantomData};
 use std::sync::Arc;
@@ -22,7 +21,7 @@ pub struct RuledIter<K: Eq, V, R: Rule<K, V>> {
 
 impl<K: Eq, V, R: Rule<K, V>> Model for RuledIter<K, V, R> {
     ghost use Rattle.std.specs.Prelude.{List};
-    ghost use Rattle.scc_rules.specs.Rules.{AllKeep};
+    ghost use Rattle.scc_common.specs.Rules.{AllKeep};
 
     ghost Value = { List (K × V) };
 

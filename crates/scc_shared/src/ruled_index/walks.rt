@@ -7,16 +7,15 @@ ghost use Rattle.scc_owned.specs.Held.{occupied_contents, occupied_front, occupi
 ghost use Rattle.scc_owned.specs.IndexWalks.{Retains};
 ghost use Rattle.scc_owned.specs.Seats.{occupied_stripe, HasSeatIn};
 ghost use Rattle.scc_shared.specs.Stripes.{stripes_of};
-ghost use Rattle.scc_rules.specs.Rules.{AllKeep, IsKept};
-ghost use Rattle.scc_rules.specs.Walks.{TakesEach};
+ghost use Rattle.scc_common.specs.Rules.{AllKeep, IsKept};
+ghost use Rattle.scc_common.specs.RuleWalks.{TakesEach};
 ghost use Rattle.scc_stripes.specs.Stripes.{stripe_count};
 ghost use Rattle.scc_stripes.specs.Walks.{AreOfStripes};
 ghost use Rattle.std.specs.Prelude.{IfOk, IfSome, List};
 
 use crate::ruled_index::{RuledIndex, RuledIter};
-use scc_common::MakeError;
+use scc_common::{MakeError, Rule};
 use scc_owned::ruled_index::locked::OccupiedEntry;
-use scc_rules::Rule;
 use std::hash::{BuildHasher, Hash};
 use std::sync::Wait;
 

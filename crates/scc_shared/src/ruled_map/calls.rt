@@ -10,12 +10,11 @@ ghost use Rattle.std.specs.Prelude.{◌≡◌, ◌⊎◌, IfErr, IfOk, IfSome, I
 ghost use Rattle.std.specs.Sync.RwLock.{write_guard_value};
 ghost use Rattle.scc_owned.specs.Entries.{Exists, Memory};
 ghost use Rattle.scc_common.specs.Replies.{HasKey};
-ghost use Rattle.scc_rules.specs.Rules.{IsCalledOn, IsCalledToWrite, Keeps, KeepsTested, IsTested, ReadsKept, WritesKept, RemovesKept};
+ghost use Rattle.scc_common.specs.Rules.{IsCalledOn, IsCalledToWrite, Keeps, KeepsTested, IsTested, ReadsKept, WritesKept, RemovesKept};
 
 use crate::ruled_map::RuledMap;
-use scc_common::InsertError;
+use scc_common::{InsertError, Rule};
 use scc_owned::ruled_map::locked::ReplaceResult;
-use scc_rules::Rule;
 use std::hash::{BuildHasher, Hash};
 use std::sync::Wait;
 

@@ -10,14 +10,13 @@ ghost use Rattle.scc_common.specs.Pairs.{IsUnique};
 ghost use Rattle.scc_owned.specs.EntrySteps.{StandsIn};
 ghost use Rattle.scc_owned.specs.Held.{occupied_contents, occupied_front, occupied_pair};
 ghost use Rattle.scc_owned.specs.Seats.{occupied_stripe, HasSeatIn};
-ghost use Rattle.scc_rules.specs.Rules.{AllKeep, IsKept};
-ghost use Rattle.scc_rules.specs.Walks.{KeepsEachAlways, TakesEach, TakesEachToWrite};
+ghost use Rattle.scc_common.specs.Rules.{AllKeep, IsKept};
+ghost use Rattle.scc_common.specs.RuleWalks.{KeepsEachAlways, TakesEach, TakesEachToWrite};
 
 use crate::ruled_map::RuledMap;
-use scc_common::{Verdict, WalkError};
+use scc_common::{Rule, Verdict, WalkError};
 use scc_owned::map::Sink;
 use scc_owned::ruled_map::locked::OccupiedEntry;
-use scc_rules::Rule;
 use std::hash::{BuildHasher, Hash};
 use std::sync::Wait;
 

@@ -5,9 +5,8 @@ ghost use Rattle.std.specs.Fn.{FnOnceReturnsAt, FnOnceTakesAt};
 ghost use Rattle.std.specs.Prelude.{◌≡◌, ◌⊎◌, true, IfErr, IfOk, IfSome, IsTrue};
 
 use crate::RuledSet;
-use scc_common::{InsertError, KeyError};
+use scc_common::{InsertError, KeyError, Rule};
 use scc_owned::ruled_map::locked::ReplaceResult;
-use scc_rules::Rule;
 use std::hash::{BuildHasher, Hash};
 use std::sync::Wait;
 

@@ -9,7 +9,7 @@ ghost use Rattle.scc_stripes.specs.Walks.{AreOfStripes};
 
 use crate::ruled::OccupiedEntry;
 use crate::{HeldKey, RuledSet};
-use scc_rules::Rule;
+use scc_common::Rule;
 use std::hash::{BuildHasher, Hash};
 use std::sync::Wait;
 

@@ -7,8 +7,7 @@ ghost use Rattle.std.specs.Iterator.{Drains, IsFinite};
 ghost use Rattle.std.specs.Prelude.{◌≡◌, List, length, IfOk};
 
 use crate::RuledSet;
-use scc_common::{KeyError, MakeError};
-use scc_rules::Rule;
+use scc_common::{KeyError, MakeError, Rule};
 use std::alloc::Global;
 use std::hash::{BuildHasher, Hash};
 use std::sync::Wait;

@@ -9,8 +9,7 @@ ghost use Rattle.std.specs.Prelude.{◌≡◌, ◌≤◌, ◌++◌, List, OnErr}
 ghost use Rattle.std.specs.Vec.{vec_len, vec_capacity};
 
 use crate::RuledSet;
-use scc_common::{Verdict, WalkError};
-use scc_rules::Rule;
+use scc_common::{Rule, Verdict, WalkError};
 use std::hash::{BuildHasher, Hash};
 use std::sync::Wait;
 

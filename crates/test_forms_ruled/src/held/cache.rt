@@ -1,10 +1,10 @@
 //! `Form` for the cache under a rule.
 
 use crate::held::Held;
-use scc_common::{InsertError, TryInsertError};
+use scc_common::{Anything, InsertError, TryInsertError};
 use scc_owned_cache::EvictedEntry;
-use scc_ruled_cache::{Entry, OccupiedEntry, ReplaceResult, RuledCache};
-use scc_rules::Anything;
+use scc_shared_cache::RuledCache;
+use scc_shared_cache::ruled::{Entry, OccupiedEntry, ReplaceResult};
 use std::alloc::Global;
 use std::sync::Wait;
 use test_forms::answers::{Answer, Kind, Rule, raise_and_keep, refused, tried, untried, verdict};

@@ -1,9 +1,8 @@
 //! `Form` for the index under a rule.
 
 use crate::held::Held;
-use scc_common::{InsertError, TryInsertError};
+use scc_common::{Anything, InsertError, TryInsertError};
 use scc_owned::ruled_index::locked::{Entry, OccupiedEntry};
-use scc_rules::Anything;
 use scc_shared::ruled_index::RuledIndex;
 use std::sync::Wait;
 use test_forms::answers::{Answer, Kind, refused, tried, untried, walked};

@@ -1,9 +1,8 @@
 //! `Form` for the map under a rule.
 
 use crate::held::Held;
-use scc_common::{InsertError, TryInsertError};
+use scc_common::{Anything, InsertError, TryInsertError};
 use scc_owned::ruled_map::locked::{Entry, OccupiedEntry, ReplaceResult};
-use scc_rules::Anything;
 use scc_shared::ruled_map::RuledMap;
 use std::alloc::Global;
 use std::sync::Wait;

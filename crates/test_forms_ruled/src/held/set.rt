@@ -1,7 +1,7 @@
 //! `Form` for the set under a rule.
 
 use crate::held::Held;
-use scc_rules::Anything;
+use scc_common::Anything;
 use scc_shared_set::RuledSet;
 use scc_shared_set::ruled::OccupiedEntry;
 use std::alloc::Global;

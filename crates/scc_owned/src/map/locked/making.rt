@@ -50,8 +50,9 @@ impl<G: Guard<Inner = Map<K, V, H>>, N, K: Eq + Hash, V, H: BuildHasher> HeldRep
     H,
 > {
     /// Puts `k` in the place of the key that equals it, and returns the entry with the old key. If no key equals `k`,
-    /// returns the vacant entry of `k`.
-    pub fn of(guard: G, k: K, rest: N) -> Self
+    /// returns the vacant entry of `k`. The search begins with `hint`, as in `HeldEntry::of`.
+    #[inline(always)]
+    pub fn of(guard: G, hint: u64, k: K, rest: N) -> Self
         ensures rest { replaced_rest result ≡ rest }
         ensures step { Replaces K.eq (G.inner guard) k result }
         ensures noted { notes_of (G.inner (replaced_guard result)) ≡ notes_of (G.inner guard) }
@@ -59,13 +60,12 @@ impl<G: Guard<Inner = Map<K, V, H>>, N, K: Eq + Hash, V, H: BuildHasher> HeldRep
         ensures unique { IsUnique K.eq (G.inner (replaced_guard result)) }
     {
         let mut guard = guard;
-        let hash = guard.look().hash_of(&k);
-        match guard.look().search(hash, &k) {
-            Some(place) => {
+        match guard.look().search_by_hint(hint, &k) {
+            Ok(place) => {
                 let old = guard.lend().replace_key_at(place, k);
                 HeldReplace::Replaced(HeldOccupied::at(guard, place, rest), old)
             }
-            None => HeldReplace::NotReplaced(HeldVacant::of_key(guard, k, hash, rest)),
+            Err(hash) => HeldReplace::NotReplaced(HeldVacant::of_key(guard, k, hash, rest)),
         }
     }
 }

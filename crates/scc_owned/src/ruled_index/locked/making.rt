@@ -6,14 +6,13 @@ ghost use Rattle.scc_common.specs.Walks.{CalledOn};
 ghost use Rattle.scc_owned.specs.EntrySteps.{StandsIn};
 ghost use Rattle.scc_owned.specs.Held.{occupied_front, occupied_guard, occupied_pair};
 ghost use Rattle.scc_owned.specs.Seats.{occupied_rest};
-ghost use Rattle.scc_rules.specs.Rules.{AllKeep, IsKept};
-ghost use Rattle.scc_rules.specs.Walks.{TakesEach};
+ghost use Rattle.scc_common.specs.Rules.{AllKeep, IsKept};
+ghost use Rattle.scc_common.specs.RuleWalks.{TakesEach};
 ghost use Rattle.std.specs.Prelude.{◌≡◌, IfErr, IfOk};
 
 use crate::held::HeldOccupied;
 use crate::ruled_index::RuledIndex;
-use scc_common::Guard;
-use scc_rules::{Rule, RuledVersion};
+use scc_common::{Guard, Rule, RuledVersion};
 use std::hash::{BuildHasher, Hash};
 
 impl<

@@ -3,13 +3,13 @@ ghost use Rattle.scc_common.specs.Pairs.{IsUnique};
 ghost use Rattle.scc_owned.specs.EntrySteps.{IsNextPastRemoved, StandsIn};
 ghost use Rattle.scc_owned.specs.Held.{occupied_back, occupied_contents, occupied_front, occupied_pair};
 ghost use Rattle.scc_owned.specs.Seats.{HasLaterSeat, HasSameRest};
-ghost use Rattle.scc_rules.specs.Rules.{IsKept};
+ghost use Rattle.scc_common.specs.Rules.{IsKept};
 ghost use Rattle.std.specs.Prelude.{◌≡◌, [], IfSome, IsSomeAnd};
 
 use crate::held::HeldOccupied;
 use crate::locked::first_later;
 use crate::ruled_index::locked::OccupiedEntry;
-use scc_rules::Rule;
+use scc_common::Rule;
 use std::hash::{BuildHasher, Hash};
 use std::sync::Wait;
 

@@ -1,5 +1,5 @@
 //! How an entry is made from the guard of a map under a rule.
-ghost use Rattle.scc_common.specs.Contents.{entries};
+ghost use Rattle.scc_common.specs.Contents.{entries, notes_of, waiting_of};
 ghost use Rattle.scc_common.specs.PairWalks.{Declines, PassesAt};
 ghost use Rattle.scc_common.specs.Pairs.{IsUnique};
 ghost use Rattle.scc_common.specs.Walks.{CalledOn};
@@ -7,14 +7,13 @@ ghost use Rattle.scc_owned.specs.EntrySteps.{StandsIn};
 ghost use Rattle.scc_owned.specs.Held.{occupied_front, occupied_guard, occupied_pair};
 ghost use Rattle.scc_owned.specs.MapEntries.{replaced_guard, Replaces};
 ghost use Rattle.scc_owned.specs.Seats.{occupied_rest, replaced_rest};
-ghost use Rattle.scc_rules.specs.Rules.{AllKeep, IsKept};
-ghost use Rattle.scc_rules.specs.Walks.{TakesEach};
+ghost use Rattle.scc_common.specs.Rules.{AllKeep, IsKept};
+ghost use Rattle.scc_common.specs.RuleWalks.{TakesEach};
 ghost use Rattle.std.specs.Prelude.{◌≡◌, IfErr, IfOk};
 
 use crate::held::{HeldOccupied, HeldReplace, HeldVacant};
 use crate::ruled_map::RuledMap;
-use scc_common::Guard;
-use scc_rules::{Rule, Ruled};
+use scc_common::{Guard, Rule, Ruled};
 use std::hash::{BuildHasher, Hash};
 
 impl<
@@ -60,6 +59,8 @@ impl<
     pub fn of(guard: G, k: K, rest: N) -> Self
         ensures rest { replaced_rest result ≡ rest }
         ensures step { Replaces K.eq (G.inner guard) k result }
+        ensures noted { notes_of (G.inner (replaced_guard result)) ≡ notes_of (G.inner guard) }
+        ensures waiting { waiting_of (G.inner (replaced_guard result)) ≡ waiting_of (G.inner guard) }
         ensures unique { IsUnique K.eq (G.inner (replaced_guard result)) }
     {
         let mut guard = guard;

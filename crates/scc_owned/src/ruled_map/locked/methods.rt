@@ -6,14 +6,13 @@ ghost use Rattle.scc_owned.specs.Insertions.{InsertsThrough, Refuses};
 ghost use Rattle.scc_owned.specs.Lookups.{pair_lookups};
 ghost use Rattle.scc_owned.specs.MapEntries.{SetsEntry};
 ghost use Rattle.scc_owned.specs.Seats.{HasLaterSeat, HasSameRest};
-ghost use Rattle.scc_rules.specs.Rules.{IsKept};
+ghost use Rattle.scc_common.specs.Rules.{IsKept};
 ghost use Rattle.std.specs.Prelude.{◌≡◌, [], false, IfSome, IsSomeAnd};
 
 use crate::held::{HeldEntry, HeldOccupied};
 use crate::locked::first_later;
 use crate::ruled_map::locked::{Entry, OccupiedEntry};
-use scc_common::{Hashes, InsertError};
-use scc_rules::Rule;
+use scc_common::{Hashes, InsertError, Rule};
 use std::hash::{BuildHasher, Hash};
 use std::sync::Wait;
 

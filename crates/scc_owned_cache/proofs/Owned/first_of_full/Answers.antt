@@ -18,4 +18,4 @@ returns-clause-some g c =
     let t = c.self.inside.table in
     let at : c.bucket_at-bucket.result ≡ bucket_number (settings_of t).skipped (bucket_count t) c.args.hash = c.bucket_at-bucket.ensures.value in
     let many : 32 ≤ length (list_of t c.bucket_at-bucket.result) = omega (arith, c.list_len.ensures.len, c.if-list_len-lt32.false) in
-    rw (← c.self.view_is) (subst (λ i. (32 ≤ length (list_of t i)) × (slice_get (list_of t i) 0 ≡ Some (c.first_entry-pair.result.now.0, c.first_entry-pair.result.now.1))) at (many, c.first_entry-pair.ensures))
+    rw (← c.self.view_is) (subst (λ i. (32 ≤ length (list_of t i)) × (slice_get (list_of t i) 0 ≡ Some (c.parts.result.0.now, c.parts.result.1.now))) at (many, rw (c.parts.ensures.key, c.parts.ensures.value) c.first_entry.ensures))

@@ -1,4 +1,5 @@
-use Rattle.std.proofs.Common.{refl, ap, true, false, length, suc}
+use Rattle.std.proofs.Common.{◌≡◌, Some, refl, ap, true, false, length, suc}
+use Rattle.std.specs.List.{slice_get}
 use Rattle.scc_common.specs.Contents.{entries}
 use Rattle.scc_table.specs.Places.{IsPlace, index_of}
 use Rattle.scc_common.specs.Walks.{ended, stopped, went_on}
@@ -12,8 +13,8 @@ loop-at-init g c =
     let start = reached-first c.args.self.now.contents c.first_place-at.result (rw (ap (λ x. x.contents) c.self.view_is) at c.first_place-at.ensures.place) in
     record { callable = rw start.0 c.requires; within = start.1; calls = λ b last r. rw start.0 at r }
 
-pub pair_at-requires : goal.pair_at-requires
-pair_at-requires g c =
+pub entry_at-requires : goal.entry_at-requires
+entry_at-requires g c =
     let within : IsPlace c.args.self.now.contents c.in-Some.place = rw c.in-Some.is at c.loop-at.invariant.within in
     rw (ap (λ x. x.contents) c.self.view_is) within
 
@@ -21,15 +22,15 @@ pub f-requires : goal.f-requires
 f-requires g c =
     let m = c.args.self.now.contents in
     let callable = rw c.in-Some.is at c.loop-at.invariant.callable in
-    let here = rw (ap (λ x. x.contents) c.self.view_is) at c.pair_at.ensures in
-    turn-first _ _ (rw (drop-here (entries m) (index_of m c.in-Some.place) _ here) at callable) _ _ refl
+    let here : slice_get (entries m) (index_of m c.in-Some.place) ≡ Some (c.parts.result.0.now, c.parts.result.1.now) = rw (c.parts.ensures.key, c.parts.ensures.value) (rw (ap (λ x. x.contents) c.self.view_is) at c.entry_at.ensures.entry) in
+    turn-first _ _ (rw (drop-here (entries m) (index_of m c.in-Some.place) _ here) at callable) c.parts.ensures.allowed _ _ refl
 
 pub returns-then-not-f-clause-walks : goal.returns-then-not-f-clause-walks
 returns-then-not-f-clause-walks g c =
     let m = c.args.self.now.contents in
     let calls = rw c.in-Some.is at c.loop-at.invariant.calls in
-    let here = rw (ap (λ x. x.contents) c.self.view_is) at c.pair_at.ensures in
-    calls false _ (rw (drop-here (entries m) (index_of m c.in-Some.place) _ here) (stopped record { key = _; value = _; shows = refl; called = c.if-not-f.ensures }))
+    let here : slice_get (entries m) (index_of m c.in-Some.place) ≡ Some (c.parts.result.0.now, c.parts.result.1.now) = rw (c.parts.ensures.key, c.parts.ensures.value) (rw (ap (λ x. x.contents) c.self.view_is) at c.entry_at.ensures.entry) in
+    calls false _ (rw (drop-here (entries m) (index_of m c.in-Some.place) _ here) (stopped (record { key = _; value = _; shows = refl; called = c.if-not-f.ensures }, c.parts.ensures.allowed)))
 
 pub loop-at-smaller : goal.loop-at-smaller
 loop-at-smaller g c =
@@ -43,12 +44,12 @@ loop-at-preserved g c =
     let m = c.args.self.now.contents in
     let calls = rw c.in-Some.is at c.loop-at.invariant.calls in
     let callable = rw c.in-Some.is at c.loop-at.invariant.callable in
-    let here = rw (ap (λ x. x.contents) c.self.view_is) at c.pair_at.ensures in
+    let here : slice_get (entries m) (index_of m c.in-Some.place) ≡ Some (c.parts.result.0.now, c.parts.result.1.now) = rw (c.parts.ensures.key, c.parts.ensures.value) (rw (ap (λ x. x.contents) c.self.view_is) at c.entry_at.ensures.entry) in
     let next = reached-at m (suc (index_of m c.in-Some.place)) c.next_place-at.result c.next_place-at.ensures in
     record {
       callable = rw next.0 (turn-others _ _ (rw (drop-here (entries m) (index_of m c.in-Some.place) _ here) at callable) record { key = _; value = _; shows = refl; called = c.if-not-f.ensures });
       within = next.1;
-      calls = λ b last run. calls b last (rw (drop-here (entries m) (index_of m c.in-Some.place) _ here) (went_on record { key = _; value = _; shows = refl; called = c.if-not-f.ensures } (rw next.0 at run)));
+      calls = λ b last run. calls b last (rw (drop-here (entries m) (index_of m c.in-Some.place) _ here) (went_on (record { key = _; value = _; shows = refl; called = c.if-not-f.ensures }, c.parts.ensures.allowed) (rw next.0 at run)));
     }
 
 pub returns-clause-walks : goal.returns-clause-walks

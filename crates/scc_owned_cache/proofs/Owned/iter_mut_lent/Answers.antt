@@ -1,5 +1,5 @@
 use Rattle.std.proofs.Common.{ℕ, ◌≡◌, ◌<◌, ◌≤◌, length, refl, ap, subst, arith, rules}
-use Rattle.std.proofs.lemmas.List.Sorted.{IsPermutation-refl, length_permutation}
+use Rattle.std.proofs.lemmas.List.Sorted.{length_permutation}
 use Rattle.scc_buckets.specs.Bounded.{MayShrinkWithin, ShrinksBounded}
 use Rattle.scc_common.specs.Contents.{entries}
 use Rattle.scc_common.specs.Hashing.{hash_of}
@@ -9,9 +9,6 @@ use Rattle.scc_owned_cache.proofs.Relocations.{kept-none, shrunk-none}
 use Rattle.scc_owned_cache.proofs.Caching.{shrunk-within, state-after}
 use Rattle.scc_owned_cache.proofs.Walked.{goes-over, leaves-pairs, listed-same, shrinks-taken, rests-untaken}
 use Rattle.scc_owned_cache.proofs.Owned.iter_mut_lent.Goals as goal
-
-pub take_walk-result-requires : goal.take_walk-result-requires
-take_walk-result-requires g c = c.requires (entries c.args.self.now.contents) (IsPermutation-refl _)
 
 pub invariant_of-self : goal.invariant_of-self
 invariant_of-self g c =

@@ -13,6 +13,7 @@ use Rattle.scc_buckets.proofs.Resizes.{absent-permuted, rests-resizes}
 use Rattle.scc_owned_cache.proofs.Caching.{at-spot, grown-within, missing-grown, once-grown, put-place, puts-count, puts-pair, puts-refused, state-after}
 use Rattle.scc_owned_cache.specs.Caches.{Cached, IsCacheState}
 use Rattle.scc_owned_cache.specs.ListSteps.{PutsPair}
+use Rattle.scc_owned_cache.proofs.Kept.{evicts}
 use Rattle.scc_owned_cache.proofs.LookUps.{finds-put}
 use Rattle.scc_owned_cache.proofs.Relocations.{put-relocates}
 use Rattle.scc_owned_cache.proofs.Owned.put_new.Goals as goal
@@ -25,14 +26,14 @@ put_within-evicted-requires-clause-new g c =
     let n = count-same m u r.lists in
     let hashed = rw (← c.self.view_is) at c.requires.hashed in
     let lacking = rw (← c.self.view_is) at c.requires.lacking in
-    record {
+    rw c.new.ensures (record {
       within = omega (arith, c.in-Ok.ensures.finds.within, n);
       routed = c.in-Ok.ensures.finds.routed ∙ ap (λ s. bucket_number s.skipped (bucket_count m) c.args.hash) (sym r.settings) ∙ ap (λ k. bucket_number (settings_of u).skipped k c.args.hash) (sym n);
       hashed = hashed ∙ ap (λ s. hash_of g.H.BuildHasher g.H.Hasher.Hasher s.hasher (g.K.Hash.hash_input c.args.k)) (sym (r.settings ∙ (rests-resizes c.self.inside.table c.bucket_for_new.new.self c.bucket_for_new.ensures.finds.rests).settings));
       absent =
           ap (position (λ (e : g.row.K.Denot × g.row.V.Denot). g.K.PartialEq.eq c.args.k e.0)) (entries-same m u r.lists)
           ∙ absent-permuted (λ e. g.K.PartialEq.eq c.args.k e.0) (entries c.self.inside.table) (entries m) (rests-resizes c.self.inside.table c.bucket_for_new.new.self c.bucket_for_new.ensures.finds.rests).same lacking.all;
-    }
+    })
 
 pub invariant_of-self : goal.invariant_of-self
 invariant_of-self g c =
@@ -62,11 +63,11 @@ returns-in-Ok-clause-step g c =
     let same = count-same m u r.lists in
     let routed = c.in-Ok.ensures.finds.routed ∙ ap (λ s. bucket_number s.skipped (bucket_count m) c.args.hash) (rests-resizes c.self.inside.table c.bucket_for_new.new.self c.bucket_for_new.ensures.finds.rests).settings ∙ ap (bucket_number (settings_of t).skipped (bucket_count m)) hashed ∙ ap (λ n. number n c.args.k) (sym same) in
     let put = puts-count u d _ _ c.put_within-evicted.result.0 c.put_within-evicted.ensures.step in
-    rw (← c.self.view_is) (
+    rw (c.pair_out.ensures.same, ← c.self.view_is) (
       record { contents = m; maximum = c.self.inside.maximum },
       record { grows = grows; listed = listed; settings = (rests-resizes c.self.inside.table c.bucket_for_new.new.self c.bucket_for_new.ensures.finds.rests).settings; maximum = refl },
       record {
-        lists = subst (λ ls. PutsPair number g.K.PartialEq.eq (c.args.k, c.args.v) c.put_within-evicted.result.0 ls (lists_of d)) r.lists (puts-pair g.K.PartialEq.eq number u d _ (c.args.k, c.args.v) c.put_within-evicted.result.0 later routed (omega (arith, c.in-Ok.ensures.finds.within, same)) c.put_within-evicted.ensures.step);
+        lists = subst (λ ls. PutsPair number g.K.PartialEq.eq (c.args.k, c.args.v) c.put_within-evicted.result.0 ls (lists_of d)) r.lists (puts-pair g.K.PartialEq.eq number u d _ (c.args.k, c.args.v) c.put_within-evicted.result.0 later routed (omega (arith, c.in-Ok.ensures.finds.within, same)) (rw c.new.ensures at c.put_within-evicted.ensures.step));
         settings = put.1 ∙ r.settings;
         refused = puts-refused g.K.PartialEq.eq u d _ _ c.put_within-evicted.result.0 c.put_within-evicted.ensures.step ∙ r.noted;
         maximum = refl;
@@ -79,7 +80,7 @@ returns-in-Ok-clause-here g c =
     let n = count-same c.bucket_for_new.new.self u c.drop_mark.ensures.lists in
     let l : c.in-Ok.bucket < bucket_count u = omega (arith, c.in-Ok.ensures.finds.within) in
     at-spot c.put_within-evicted.new.self (record { bucket = c.in-Ok.bucket; slot = c.put_within-evicted.result.1 }) (c.args.k, c.args.v)
-    (put-place u c.put_within-evicted.new.self c.in-Ok.bucket (c.args.k, c.args.v) c.put_within-evicted.result.0 c.put_within-evicted.ensures.step l c.put_within-evicted.result.1 c.put_within-evicted.ensures.slot) c.put_within-evicted.ensures.not_waiting
+    (put-place u c.put_within-evicted.new.self c.in-Ok.bucket (c.args.k, c.args.v) c.put_within-evicted.result.0 (rw c.new.ensures at c.put_within-evicted.ensures.step) l c.put_within-evicted.result.1 c.put_within-evicted.ensures.slot) c.put_within-evicted.ensures.not_waiting
 
 pub returns-in-Ok-clause-state : goal.returns-in-Ok-clause-state
 returns-in-Ok-clause-state g c =
@@ -147,4 +148,7 @@ returns-in-Ok-clause-finds g c =
     let lists = c.drop_mark.ensures.lists in
     let n = count-same m u lists in
     let perm = subst (λ es. IsPermutation (entries t) es) (sym (entries-same m u lists)) (rests-resizes c.self.inside.table c.bucket_for_new.new.self c.bucket_for_new.ensures.finds.rests).same in
-    rw (← c.self.view_is) (finds-put g.met.K.Eq.laws t u d c.in-Ok.bucket (c.args.k, c.args.v) c.put_within-evicted.result.0 (omega (arith, c.in-Ok.ensures.finds.within, n)) perm c.self.invariant.unique c.put_within-evicted.ensures.step c.put_within-evicted.ensures.unique)
+    rw (c.pair_out.ensures.same, ← c.self.view_is) (finds-put g.met.K.Eq.laws t u d c.in-Ok.bucket (c.args.k, c.args.v) c.put_within-evicted.result.0 (omega (arith, c.in-Ok.ensures.finds.within, n)) perm c.self.invariant.unique (rw c.new.ensures at c.put_within-evicted.ensures.step) c.put_within-evicted.ensures.unique)
+
+pub returns-in-Ok-clause-evicted : goal.returns-in-Ok-clause-evicted
+returns-in-Ok-clause-evicted g c = evicts g.K.PartialEq.eq g.R.Rule.holds _ _ _ (c.args.k, c.args.v) c.pair_out.result (returns-in-Ok-clause-step g c) c.pair_out.ensures.kept

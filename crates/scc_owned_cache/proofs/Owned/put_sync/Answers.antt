@@ -1,8 +1,8 @@
 use Rattle.std.proofs.Common.{refl, rules}
 use Rattle.scc_owned_cache.proofs.Owned.put_sync.Goals as goal
 
-pub returns-in-Some : goal.returns-in-Some
-returns-in-Some g c =
+pub returns-in-Some-clause-puts : goal.returns-in-Some-clause-puts
+returns-in-Some-clause-puts g c =
     record {
       step = (refl, (c.in-Some.ensures.pair, (_, c.in-Some.ensures.there)), refl);
       finds = (search rules);

@@ -2,22 +2,23 @@ use Rattle.std.proofs.Common.{◌≡◌, ◌-◌, ◌++◌, List, length, take, 
 use Rattle.std.specs.Prelude.{⊤}
 use Rattle.scc_common.specs.Contents.{entries, bucket_count, settings_of, notes_of, waiting_of}
 use Rattle.scc_table.specs.Places.{IsPlace}
-use Rattle.scc_common.specs.PairWalks.{CallableToWrite, CalledToWrite, Retains}
+use Rattle.scc_common.specs.PairWalks.{Retains}
+use Rattle.scc_common.specs.RuleWalks.{CallableToWriteKept, CalledToWriteKept}
 use Rattle.scc_table.proofs.walks.Steps.{reached}
 use Rattle.scc_table.proofs.walks.Reach.{walk_spot}
 use Rattle.scc_owned_cache.proofs.Owned.retain_all.Given as goal
 
 abbrev pub invariant-loop-at : goal.invariant-loop-at
 invariant-loop-at g l = record {
-  callable : CallableToWrite g.F.FnMut (λ answer. ⊤) l.f (drop (reached l.self.contents (walk_spot l.self.contents l.at)) (entries l.self.contents));
+  callable : CallableToWriteKept g.R.Rule.holds g.F.FnMut (λ answer. ⊤) l.f (drop (reached l.self.contents (walk_spot l.self.contents l.at)) (entries l.self.contents));
   within : IfSome l.at (IsPlace l.self.contents);
   buckets : bucket_count l.self.contents ≡ bucket_count l.fn.self.contents;
   settings : settings_of l.self.contents ≡ settings_of l.fn.self.contents;
   refused : notes_of l.self.contents ≡ notes_of l.fn.self.contents;
   maximum : l.self.maximum ≡ l.fn.self.maximum;
   waiting : waiting_of l.self.contents ≡ waiting_of l.fn.self.contents;
-  calls : (stay : List (g.row.K.Denot × g.row.V.Denot)) (last : g.row.F.Denot) → Retains (CalledToWrite g.F.FnMut) l.f (drop (reached l.self.contents (walk_spot l.self.contents l.at)) (entries l.self.contents)) stay last
-      → Retains (CalledToWrite g.F.FnMut) l.fn.f (entries l.fn.self.contents) (take (reached l.self.contents (walk_spot l.self.contents l.at)) (entries l.self.contents) ++ stay) last;
+  calls : (stay : List (g.row.K.Denot × g.row.V.Denot)) (last : g.row.F.Denot) → Retains (CalledToWriteKept g.R.Rule.holds g.F.FnMut) l.f (drop (reached l.self.contents (walk_spot l.self.contents l.at)) (entries l.self.contents)) stay last
+      → Retains (CalledToWriteKept g.R.Rule.holds g.F.FnMut) l.fn.f (entries l.fn.self.contents) (take (reached l.self.contents (walk_spot l.self.contents l.at)) (entries l.self.contents) ++ stay) last;
 }
 
 abbrev pub decreases-loop-at : goal.decreases-loop-at

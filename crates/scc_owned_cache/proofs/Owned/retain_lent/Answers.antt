@@ -1,5 +1,4 @@
 use Rattle.std.proofs.Common.{ℕ, refl, subst, arith}
-use Rattle.std.proofs.lemmas.List.Sorted.{IsPermutation-refl}
 use Rattle.scc_buckets.specs.Bounded.{MayShrinkWithin, ShrinksBounded}
 use Rattle.scc_common.specs.Contents.{entries}
 use Rattle.scc_common.specs.Hashing.{hash_of}
@@ -8,9 +7,6 @@ use Rattle.scc_owned_cache.proofs.Relocations.{shrunk-none}
 use Rattle.scc_owned_cache.proofs.Caching.{shrunk-within, state-after}
 use Rattle.scc_owned_cache.proofs.Walked.{goes-over, leaves-pairs, listed-same}
 use Rattle.scc_owned_cache.proofs.Owned.retain_lent.Goals as goal
-
-pub retain_all-requires : goal.retain_all-requires
-retain_all-requires g c = c.requires (entries c.args.self.now.contents) (IsPermutation-refl _)
 
 pub invariant_of-self : goal.invariant_of-self
 invariant_of-self g c =

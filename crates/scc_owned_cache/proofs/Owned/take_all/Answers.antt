@@ -11,4 +11,4 @@ loop-at-init g c =
 pub loop-at-smaller : goal.loop-at-smaller
 loop-at-smaller g c =
     let within = rw c.in-Some.is at c.loop-at.invariant.within in
-    left-shorter c.loop-at.self.contents c.take_with_next-pair.new.self.contents c.in-Some.place within c.take_with_next-pair.ensures.others
+    left-shorter c.loop-at.self.contents c.take_with_next-pair.new.self.contents c.in-Some.place within c.take_with_next-pair.ensures.takes.others

@@ -1,6 +1,7 @@
 use Rattle.std.proofs.Common.{◌≡◌, ◌∙◌, ◌++◌, ◌∷◌, [], sym, ap, refl, length, drop, take, subst, append-nil, append_assoc, arith, true, Ok, rules}
 use Rattle.scc_common.specs.Contents.{entries}
-use Rattle.scc_common.specs.PairWalks.{CalledToWrite, Takes, ended}
+use Rattle.scc_common.specs.PairWalks.{Takes, ended}
+use Rattle.scc_common.specs.RuleWalks.{CalledToWriteKept}
 use Rattle.scc_buckets.proofs.Placed.{drop-all}
 use Rattle.scc_table.proofs.walks.Steps.{take-all}
 use Rattle.scc_table.specs.Places.{spot_of}
@@ -14,7 +15,7 @@ use Rattle.scc_owned_cache.proofs.Owned.take_walk.Goals as goal
 pub loop-at-init : goal.loop-at-init
 loop-at-init g c =
     let start = first-spot c.self.inside.table c.first_place-at.result c.first_place-at.ensures.place in
-    let callable = rw (← c.self.view_is) at c.requires in
+    let callable = rw (← c.self.view_is) at c.requires.callable in
     rw (← c.self.view_is) record { callable = rw start.0 callable; within = start.1; buckets = refl; settings = refl; refused = refl; maximum = refl; waiting = refl; room = omega arith; calls = ([], sym (append-nil _), λ stay next r last run. rw start.0 (rw start.0 at run)) }
 
 pub visit-requires-clause-callable : goal.visit-requires-clause-callable
@@ -53,7 +54,7 @@ loop-at-preserved-in-Keep g c =
       maximum = s.maximum ∙ c.loop-at.invariant.maximum;
       waiting = s.waiting ∙ c.loop-at.invariant.waiting;
       room = omega (arith, c.loop-at.invariant.room, c.reserve.ensures.capacity);
-      calls = (calls.0, c.reserve.ensures.items ∙ calls.1, takes-kept c.args.f.now (entries c.args.self.now.contents) c.loop-at.self.contents (spot_of c.loop-at.self.contents c.in-Some.place) c.loop-at.f calls.0 calls.2 c.visit.new.f x.0 x.1 c.visit.new.self.contents v x.3 (walk_spot c.visit.new.self.contents c.next_place-at.result) next.0);
+      calls = (calls.0, c.reserve.ensures.items ∙ calls.1, takes-kept c.args.f.now (entries c.args.self.now.contents) c.loop-at.self.contents (spot_of c.loop-at.self.contents c.in-Some.place) c.loop-at.f calls.0 calls.2 c.visit.new.f x.0 x.1 c.visit.new.self.contents v (x.3, x.5, x.6) (walk_spot c.visit.new.self.contents c.next_place-at.result) next.0);
     }
 
 pub take_into-at-requires-clause-within : goal.take_into-at-requires-clause-within
@@ -98,7 +99,7 @@ loop-at-preserved g c =
       calls = (
         calls.0 ++ (x.0.0, x.1) ∷ [],
         out.2 ∙ ap (λ z. c.reserve.new.self.items ++ z ∷ []) pair ∙ ap (λ z. z ++ (x.0.0, x.1) ∷ []) (c.reserve.ensures.items ∙ calls.1) ∙ append_assoc (c.args.taken.now.items) calls.0 _,
-        takes-took c.args.f.now (entries c.args.self.now.contents) c.loop-at.self.contents (spot_of c.loop-at.self.contents c.in-Some.place) c.loop-at.f calls.0 calls.2 c.visit.new.f x.0 x.1 c.visit.new.self.contents v d others x.3 (walk_spot d c.take_into-at.result) next.0,
+        takes-took c.args.f.now (entries c.args.self.now.contents) c.loop-at.self.contents (spot_of c.loop-at.self.contents c.in-Some.place) c.loop-at.f calls.0 calls.2 c.visit.new.f x.0 x.1 c.visit.new.self.contents v d others (x.3, x.5, x.6) (walk_spot d c.take_into-at.result) next.0,
       );
     }
 
@@ -139,7 +140,7 @@ returns-in-KeepStop g c =
           let v = s.now in (
             entries c.visit.new.self.contents,
             calls.0,
-            takes-kept_last c.args.f.now (entries c.args.self.now.contents) c.loop-at.self.contents (spot_of c.loop-at.self.contents c.in-Some.place) c.loop-at.f calls.0 calls.2 c.visit.new.f x.0 x.1 c.visit.new.self.contents v x.3,
+            takes-kept_last c.args.f.now (entries c.args.self.now.contents) c.loop-at.self.contents (spot_of c.loop-at.self.contents c.in-Some.place) c.loop-at.f calls.0 calls.2 c.visit.new.f x.0 x.1 c.visit.new.self.contents v (x.3, x.5, x.6),
             c.reserve.ensures.items ∙ calls.1,
             record { exact = refl; buckets = v.buckets ∙ c.loop-at.invariant.buckets; settings = v.settings ∙ c.loop-at.invariant.settings },
           ));
@@ -174,7 +175,7 @@ returns-in-TakeStop g c =
           let pair = pair-out c.loop-at.self.contents c.in-Some.place x.0 x.1 c.visit.new.self.contents s.made v out.0 out.1 in (
             entries d,
             calls.0 ++ (x.0.0, x.1) ∷ [],
-            takes-took_last c.args.f.now (entries c.args.self.now.contents) c.loop-at.self.contents (spot_of c.loop-at.self.contents c.in-Some.place) c.loop-at.f calls.0 calls.2 c.visit.new.f x.0 x.1 c.visit.new.self.contents v d others x.3,
+            takes-took_last c.args.f.now (entries c.args.self.now.contents) c.loop-at.self.contents (spot_of c.loop-at.self.contents c.in-Some.place) c.loop-at.f calls.0 calls.2 c.visit.new.f x.0 x.1 c.visit.new.self.contents v d others (x.3, x.5, x.6),
             out.2 ∙ ap (λ z. c.reserve.new.self.items ++ z ∷ []) pair ∙ ap (λ z. z ++ (x.0.0, x.1) ∷ []) (c.reserve.ensures.items ∙ calls.1) ∙ append_assoc (c.args.taken.now.items) calls.0 _,
             record { exact = refl; buckets = others.buckets ∙ v.buckets ∙ c.loop-at.invariant.buckets; settings = others.settings ∙ v.settings ∙ c.loop-at.invariant.settings },
           ));
@@ -200,10 +201,10 @@ returns g c =
       step = (
           let es = entries c.loop-at.self.contents in
           let calls = rw c.in_default.is at c.loop-at.invariant.calls in
-          let run : Takes (CalledToWrite g.F.FnMut) c.loop-at.f (drop (length es) es) [] [] (Ok true) c.loop-at.f = rw (drop-all es (length es) refl) ended in
+          let run : Takes (CalledToWriteKept g.R.Rule.holds g.F.FnMut) c.loop-at.f (drop (length es) es) [] [] (Ok true) c.loop-at.f = rw (drop-all es (length es) refl) ended in
           let front : take (length es) es ++ [] ≡ es = append-nil _ ∙ take-all es (length es) refl in
-          let all = subst (λ z. Takes (CalledToWrite g.F.FnMut) c.args.f.now (entries c.args.self.now.contents) z (calls.0 ++ []) (Ok true) c.loop-at.f) front (calls.2 [] [] (Ok true) c.loop-at.f run) in
-          (es, calls.0, subst (λ z. Takes (CalledToWrite g.F.FnMut) c.args.f.now (entries c.args.self.now.contents) es z (Ok true) c.loop-at.f) (append-nil calls.0) all, calls.1, record { exact = refl; buckets = c.loop-at.invariant.buckets; settings = c.loop-at.invariant.settings }));
+          let all = subst (λ z. Takes (CalledToWriteKept g.R.Rule.holds g.F.FnMut) c.args.f.now (entries c.args.self.now.contents) z (calls.0 ++ []) (Ok true) c.loop-at.f) front (calls.2 [] [] (Ok true) c.loop-at.f run) in
+          (es, calls.0, subst (λ z. Takes (CalledToWriteKept g.R.Rule.holds g.F.FnMut) c.args.f.now (entries c.args.self.now.contents) es z (Ok true) c.loop-at.f) (append-nil calls.0) all, calls.1, record { exact = refl; buckets = c.loop-at.invariant.buckets; settings = c.loop-at.invariant.settings }));
       refused = c.loop-at.invariant.refused;
       maximum = c.loop-at.invariant.maximum;
       waiting = c.loop-at.invariant.waiting;

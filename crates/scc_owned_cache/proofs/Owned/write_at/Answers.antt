@@ -1,7 +1,38 @@
-use Rattle.std.proofs.Common.{◌∙◌}
+use Rattle.std.proofs.Common.{sym, ap, subst}
+use Rattle.scc_common.specs.Hashing.{hash_of}
+use Rattle.scc_common.specs.Pairs.{with_pair_value}
+use Rattle.scc_table.specs.Places.{IsPlace, spot_of}
+use Rattle.scc_owned_cache.specs.Caches.{Cached}
+use Rattle.scc_owned_cache.proofs.Writing.{get-listed, value-state-after}
 use Rattle.scc_owned_cache.proofs.Owned.write_at.Goals as goal
+
+pub write_at-requires-clause-within : goal.write_at-requires-clause-within
+write_at-requires-clause-within g c = subst (λ z. IsPlace z.contents c.args.place) (sym c.self.view_is) c.requires.within
+
+pub write_at-requires-clause-keeps : goal.write_at-requires-clause-keeps
+write_at-requires-clause-keeps g c =
+    let within = subst (λ z. IsPlace z.contents c.args.place) (sym c.self.view_is) c.requires.within in
+    λ e r v got allowed gives. rw gives.1 (c.requires.kept e (rw (← c.self.view_is) (get-listed with_pair_value c.self.inside.table (spot_of c.self.inside.table c.args.place) within e.1 e got)))
+
+pub invariant_of-self : goal.invariant_of-self
+invariant_of-self g c =
+    let within = subst (λ z. IsPlace z.contents c.args.place) (sym c.self.view_is) c.requires.within in
+    let s = c.write_at.ensures.step in
+    value-state-after g.K.PartialEq.eq (λ s k. hash_of g.H.BuildHasher g.H.Hasher.Hasher s.hasher (g.K.Hash.hash_input k)) (record { contents = c.self.inside.table; maximum = c.self.inside.maximum }) c.args.place within c.self.invariant s.1 c.write_at.new.self s.4
 
 pub returns-clause-old : goal.returns-clause-old
 returns-clause-old g c =
-    let v = c.value_mut_at.ensures.value in
-    (v.0, v.1, c.replace.ensures.value ∙ v.2)
+    let within = subst (λ z. IsPlace z.contents c.args.place) (sym c.self.view_is) c.requires.within in
+    let s = c.write_at.ensures.step in
+    rw (← c.self.view_is) (s.0, get-listed with_pair_value c.self.inside.table (spot_of c.self.inside.table c.args.place) within s.0.1 s.0 s.2, s.3.0, s.5)
+
+pub returns-clause-new : goal.returns-clause-new
+returns-clause-new g c =
+    let s = c.write_at.ensures.step in
+    rw (← c.self.view_is) (ap (λ x. let r : Cached _ _ = record { contents = x; maximum = c.self.inside.maximum } in r) (rw s.3.1 at s.4))
+
+pub returns-clause-state : goal.returns-clause-state
+returns-clause-state g c =
+    let within = subst (λ z. IsPlace z.contents c.args.place) (sym c.self.view_is) c.requires.within in
+    let s = c.write_at.ensures.step in
+    value-state-after g.K.PartialEq.eq (λ s k. hash_of g.H.BuildHasher g.H.Hasher.Hasher s.hasher (g.K.Hash.hash_input k)) (record { contents = c.self.inside.table; maximum = c.self.inside.maximum }) c.args.place within c.self.invariant s.1 c.write_at.new.self s.4

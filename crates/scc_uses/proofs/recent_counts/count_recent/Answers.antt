@@ -12,7 +12,7 @@ pub returns-in-Ok-clause-again : goal.returns-in-Ok-clause-again
 returns-in-Ok-clause-again g c = λ p there.
     let a = c.args.counts.now in
     let hash = key_hash g.H.BuildHasher g.H.Hasher.Hasher fed.u64 a.contents in
-    let h = counted-again a c.args.word _ _ (λ m n says. search rules) c.in-Ok.evicted c.in-Ok._entry c.entry_sync.result c.and_modify.result c.entry_sync.ensures.entry c.and_modify.ensures c.in-Ok.ensures.entry p there in
+    let h = counted-again a c.args.word _ _ (λ m n says. search rules) c.in-Ok.evicted c.in-Ok._entry c.entry_sync.result c.and_modify.result c.entry_sync.ensures.entry c.and_modify.ensures.modifies c.in-Ok.ensures.entry p there in
     let last = c.counts-1.given.1 (search rules) in
     (ap Ok h.0, subst (λ (d : Cached (ℕ × ℕ) g.row.H.Denot). ChangesLists (RefreshesAs (list_number hash a.contents) nat_eq c.args.word p (p.0, one_more (Some p))) a d) (sym last) h.1)
 
@@ -20,6 +20,6 @@ pub returns-in-Ok-clause-first : goal.returns-in-Ok-clause-first
 returns-in-Ok-clause-first g c = λ none.
     let a = c.args.counts.now in
     let hash = key_hash g.H.BuildHasher g.H.Hasher.Hasher fed.u64 a.contents in
-    let h = counted-first a c.args.word _ _ (λ m n says. search rules) c.in-Ok.evicted c.in-Ok._entry c.entry_sync.result c.and_modify.result c.entry_sync.ensures.entry c.and_modify.ensures c.in-Ok.ensures.entry none in
+    let h = counted-first a c.args.word _ _ (λ m n says. search rules) c.in-Ok.evicted c.in-Ok._entry c.entry_sync.result c.and_modify.result c.entry_sync.ensures.entry c.and_modify.ensures.modifies c.in-Ok.ensures.entry none in
     let last = c.counts-1.given.1 (search rules) in
     subst (λ (d : Cached (ℕ × ℕ) g.row.H.Denot). PutsNew hash nat_eq a (c.args.word, 1) c.in-Ok.evicted d) (sym last) h

@@ -21,19 +21,19 @@ returns-in-Ok g c =
     let s = c.args.self.now in
     let hash : g.row.K.Denot → ℕ = key_hash g.H.BuildHasher g.H.Hasher.Hasher g.K.Hash.hash_input c.args.self.now.contents in
     let eq = g.K.PartialEq.eq in
-    let raw : MovesResized length (CacheMoves eq (list_number hash s.contents)) (CacheResizes (cache_setting s) (list_number hash s.contents)) (lists_of s.contents) (Put c.in-Put.k c.in-Put.v) (Evicted c.in-Ok.evicted) (lists_of c.put_sync.new.self.contents) = put-changes hash eq s c.put_sync.new.self c.in-Put.k c.in-Put.v c.in-Ok.evicted c.in-Ok.ensures.step c.in-Ok.ensures.state.within in
+    let raw : MovesResized length (CacheMoves eq (list_number hash s.contents)) (CacheResizes (cache_setting s) (list_number hash s.contents)) (lists_of s.contents) (Put c.in-Put.k c.in-Put.v) (Evicted c.in-Ok.evicted) (lists_of c.put_sync.new.self.contents) = put-changes hash eq s c.put_sync.new.self c.in-Put.k c.in-Put.v c.in-Ok.evicted c.in-Ok.ensures.puts.step c.in-Ok.ensures.puts.state.within in
     record {
       setting = (search rules);
       ok = (answers-own g.V.Clone.is_clone hash eq s c.put_sync.new.self c.args.call (Put c.in-Put.k c.in-Put.v) c.in-Put.is (Evicted c.in-Ok.evicted) (Evicted c.in-Ok.evicted) refl raw);
       err = (search rules);
       refused = (search rules);
       answer = (
-          λ copy ready. let less : length (lists_of c.put_sync.new.self.contents) ≤ length (lists_of s.contents) = put-once hash eq s c.put_sync.new.self c.in-Put.k c.in-Put.v c.in-Ok.evicted c.in-Ok.ensures.step c.in-Ok.ensures.once (rw c.in-Put.is at ready.0) in
+          λ copy ready. let less : length (lists_of c.put_sync.new.self.contents) ≤ length (lists_of s.contents) = put-once hash eq s c.put_sync.new.self c.in-Put.k c.in-Put.v c.in-Ok.evicted c.in-Ok.ensures.puts.step c.in-Ok.ensures.puts.once (rw c.in-Put.is at ready.0) in
           answers-made c.requires.clones hash eq s c.put_sync.new.self c.args.call (Put c.in-Put.k c.in-Put.v) c.in-Put.is (Evicted c.in-Ok.evicted) raw copy less ready.1);
       made = (
-          λ copy ready. let less : length (lists_of c.put_sync.new.self.contents) ≤ length (lists_of s.contents) = put-once hash eq s c.put_sync.new.self c.in-Put.k c.in-Put.v c.in-Ok.evicted c.in-Ok.ensures.step c.in-Ok.ensures.once (rw c.in-Put.is at ready.0) in
+          λ copy ready. let less : length (lists_of c.put_sync.new.self.contents) ≤ length (lists_of s.contents) = put-once hash eq s c.put_sync.new.self c.in-Put.k c.in-Put.v c.in-Ok.evicted c.in-Ok.ensures.puts.step c.in-Ok.ensures.puts.once (rw c.in-Put.is at ready.0) in
           less);
-      kept = (λ _. put-more hash eq s c.put_sync.new.self c.in-Put.k c.in-Put.v c.in-Ok.evicted c.in-Ok.ensures.step);
+      kept = (λ _. put-more hash eq s c.put_sync.new.self c.in-Put.k c.in-Put.v c.in-Ok.evicted c.in-Ok.ensures.puts.step);
     }
 
 pub returns-in-Err-Exists : goal.returns-in-Err-Exists
@@ -41,7 +41,7 @@ returns-in-Err-Exists g c =
     let s = c.args.self.now in
     let hash : g.row.K.Denot → ℕ = key_hash g.H.BuildHasher g.H.Hasher.Hasher g.K.Hash.hash_input c.args.self.now.contents in
     let eq = g.K.PartialEq.eq in
-    let step = subst (λ (e : InsertError g.row.K.Denot g.row.V.Denot). Puts hash eq s (c.in-Put.k, c.in-Put.v) (Err e) c.put_sync.new.self) c.in-Err-Exists.field-0-is c.in-Err-Exists.ensures.step in
+    let step = subst (λ (e : InsertError g.row.K.Denot g.row.V.Denot). Puts hash eq s (c.in-Put.k, c.in-Put.v) (Err e) c.put_sync.new.self) c.in-Err-Exists.field-0-is c.in-Err-Exists.ensures.puts.step in
     let raw : MovesResized length (CacheMoves eq (list_number hash s.contents)) (CacheResizes (cache_setting s) (list_number hash s.contents)) (lists_of s.contents) (Put c.in-Put.k c.in-Put.v) (Exists c.in-Err-Exists.k c.in-Err-Exists.v) (lists_of c.put_sync.new.self.contents) = exists-changes hash eq s c.put_sync.new.self c.in-Put.k c.in-Put.v (c.in-Err-Exists.k, c.in-Err-Exists.v) step in
     record {
       setting = (search rules);
@@ -65,7 +65,7 @@ returns-in-Put g c =
           let s = c.args.self.now in
           let hash : g.row.K.Denot → ℕ = key_hash g.H.BuildHasher g.H.Hasher.Hasher g.K.Hash.hash_input c.args.self.now.contents in
           let eq = g.K.PartialEq.eq in
-          let step = subst (λ (e : InsertError g.row.K.Denot g.row.V.Denot). Puts hash eq s (c.in-Put.k, c.in-Put.v) (Err e) c.put_sync.new.self) c.in-Err-Memory.field-0-is c.in-Err-Memory.ensures.step in
+          let step = subst (λ (e : InsertError g.row.K.Denot g.row.V.Denot). Puts hash eq s (c.in-Put.k, c.in-Put.v) (Err e) c.put_sync.new.self) c.in-Err-Memory.field-0-is c.in-Err-Memory.ensures.puts.step in
           inl (rw c.in-Put.is (memory-refused hash eq s c.put_sync.new.self c.in-Put.k c.in-Put.v c.in-Err-Memory.field-0-0 step)));
       answer = (search rules);
       made = (search rules);
@@ -211,8 +211,8 @@ returns-in-Remove g c =
     let s = c.args.self.now in
     let hash : g.row.K.Denot → ℕ = key_hash g.H.BuildHasher g.H.Hasher.Hasher g.K.Hash.hash_input c.args.self.now.contents in
     let eq = g.K.PartialEq.eq in
-    let raw : MovesResized length (CacheMoves eq (list_number hash s.contents)) (CacheResizes (cache_setting s) (list_number hash s.contents)) (lists_of s.contents) (Remove c.in-Remove.k) (Pair c.remove_sync.result) (lists_of c.remove_sync.new.self.contents) = remove-changes hash eq s c.remove_sync.new.self c.in-Remove.k c.remove_sync.result c.remove_sync.ensures.step c.remove_sync.ensures.state.lists.short c.remove_sync.ensures.state.within in
-    let less : length (lists_of c.remove_sync.new.self.contents) ≤ length (lists_of s.contents) = remove-less hash eq s c.remove_sync.new.self c.in-Remove.k c.remove_sync.result c.remove_sync.ensures.step in
+    let raw : MovesResized length (CacheMoves eq (list_number hash s.contents)) (CacheResizes (cache_setting s) (list_number hash s.contents)) (lists_of s.contents) (Remove c.in-Remove.k) (Pair c.remove_sync.result) (lists_of c.remove_sync.new.self.contents) = remove-changes hash eq s c.remove_sync.new.self c.in-Remove.k c.remove_sync.result c.remove_sync.ensures.removes.step c.remove_sync.ensures.removes.state.lists.short c.remove_sync.ensures.removes.state.within in
+    let less : length (lists_of c.remove_sync.new.self.contents) ≤ length (lists_of s.contents) = remove-less hash eq s c.remove_sync.new.self c.in-Remove.k c.remove_sync.result c.remove_sync.ensures.removes.step in
     record {
       setting = (search rules);
       ok = (answers-own g.V.Clone.is_clone hash eq s c.remove_sync.new.self c.args.call (Remove c.in-Remove.k) c.in-Remove.is (Pair c.remove_sync.result) (Pair c.remove_sync.result) refl raw);

@@ -4,15 +4,15 @@ use Rattle.scc_owned.proofs.HeldEntries.{occupied-here}
 use Rattle.scc_owned.proofs.held.HeldOccupied.of.Goals as goal
 
 pub read_at-requires-clause-within : goal.read_at-requires-clause-within
-read_at-requires-clause-within g c = let found = rw c.look-2.ensures at c.in-Some.ensures.place in found.within
+read_at-requires-clause-within g c = let found = rw c.look.ensures at c.in-Ok.ensures.found in found.within
 
-pub returns-in-Some-clause-entry : goal.returns-in-Some-clause-entry
-returns-in-Some-clause-entry g c = occupied-here g.met.E.Stored.lawful g.met.E.Key.Eq.laws c.args.k.now c.read_at.result _ _ c.read_at.ensures.guard c.read_at.ensures.place (rw c.look-2.ensures at c.search.ensures.unique) (rw c.look-2.ensures at c.in-Some.ensures.place)
+pub returns-in-Ok-clause-entry : goal.returns-in-Ok-clause-entry
+returns-in-Ok-clause-entry g c = occupied-here g.met.E.Stored.lawful g.met.E.Key.Eq.laws c.args.k.now c.read_at.result _ _ c.read_at.ensures.guard c.read_at.ensures.place (rw c.look.ensures at c.search_by_hint.ensures.unique) (rw c.look.ensures at c.in-Ok.ensures.found)
 
-pub returns-in-None-clause-missing : goal.returns-in-None-clause-missing
-returns-in-None-clause-missing g c = g.met.E.Stored.lawful.missing (g.E.Key.PartialEq.eq c.args.k.now) (entries (g.G.Guard.inner c.args.guard)) (rw c.look-2.ensures at c.in-None.ensures.place)
+pub returns-in-Err-clause-missing : goal.returns-in-Err-clause-missing
+returns-in-Err-clause-missing g c = g.met.E.Stored.lawful.missing (g.E.Key.PartialEq.eq c.args.k.now) (entries (g.G.Guard.inner c.args.guard)) (rw c.look.ensures at c.in-Err.ensures.missed.1)
 
-pub returns-in-Some-clause-allowed : goal.returns-in-Some-clause-allowed
-returns-in-Some-clause-allowed g c =
-    let e = occupied-here g.met.E.Stored.lawful g.met.E.Key.Eq.laws c.args.k.now c.read_at.result _ _ c.read_at.ensures.guard c.read_at.ensures.place (rw c.look-2.ensures at c.search.ensures.unique) (rw c.look-2.ensures at c.in-Some.ensures.place) in
+pub returns-in-Ok-clause-allowed : goal.returns-in-Ok-clause-allowed
+returns-in-Ok-clause-allowed g c =
+    let e = occupied-here g.met.E.Stored.lawful g.met.E.Key.Eq.laws c.args.k.now c.read_at.result _ _ c.read_at.ensures.guard c.read_at.ensures.place (rw c.look.ensures at c.search_by_hint.ensures.unique) (rw c.look.ensures at c.in-Ok.ensures.found) in
     (c.read_at.ensures.allowed, g.met.E.Stored.alike _ c.args.k.now _ (g.met.E.Key.Eq.laws.symm _ c.args.k.now ∙ e.equal) c.read_at.ensures.allowed)

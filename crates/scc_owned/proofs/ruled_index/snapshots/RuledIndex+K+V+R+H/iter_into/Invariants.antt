@@ -1,7 +1,7 @@
 use Rattle.std.proofs.Common.{◌≡◌, ◌-◌, ◌++◌, length, map, take, IfSome}
 use Rattle.std.specs.Arc.{arc_value}
 use Rattle.scc_common.specs.Contents.{entries}
-use Rattle.scc_rules.specs.Rules.{AllKeep}
+use Rattle.scc_common.specs.Rules.{AllKeep}
 use Rattle.scc_table.specs.Places.{IsPlace}
 use Rattle.scc_table.proofs.walks.Reach.{reached}
 use Rattle.scc_owned.proofs.ruled_index.snapshots.RuledIndex+K+V+R+H.iter_into.Given as goal

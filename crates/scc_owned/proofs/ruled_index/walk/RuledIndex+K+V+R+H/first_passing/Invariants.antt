@@ -2,7 +2,7 @@ use Rattle.std.proofs.Common.{◌-◌, length, take, IfSome}
 use Rattle.scc_common.specs.Contents.{entries}
 use Rattle.scc_common.specs.PairWalks.{Declines}
 use Rattle.scc_common.specs.Walks.{CalledOn}
-use Rattle.scc_rules.specs.Rules.{AllKeep}
+use Rattle.scc_common.specs.Rules.{AllKeep}
 use Rattle.scc_table.specs.Places.{IsPlace}
 use Rattle.scc_table.proofs.walks.Reach.{reached}
 use Rattle.scc_owned.proofs.ruled_index.walk.RuledIndex+K+V+R+H.first_passing.Given as goal

@@ -1,8 +1,8 @@
 use Rattle.std.proofs.Common.{sym, subst}
 use Rattle.std.specs.Fn.{FnOnceReturnsAtMut, FnOnceTakesAtMut}
-use Rattle.scc_rules.specs.Rules.{IsKept}
+use Rattle.scc_common.specs.Rules.{IsKept}
 use Rattle.scc_owned.proofs.HeldEntries.{pair-is}
-use Rattle.scc_owned.proofs.MapEntries.{within-after, written-after}
+use Rattle.scc_owned.proofs.MapEntries.{within-after, written-after, waiting-after}
 use Rattle.scc_owned.proofs.ruled_map.held.HeldOccupied+G+N+Ruled+K+V+R+H.modify.Goals as goal
 
 pub modify_at-requires-clause-callable : goal.modify_at-requires-clause-callable
@@ -26,3 +26,8 @@ returns-clause-answer g c =
     let is = pair-is c.args.self.now c.lend.result.now x.0 c.lend.ensures.value x.2 in
     let written = written-after c.args.self.now c.lend.result.now c.modify_at.new.self x.1 c.lend.ensures.value x.5 _ _ in
     (x.1, subst (λ (q : g.row.K.Denot × g.row.V.Denot). FnOnceReturnsAtMut g.F.FnOnce c.args.f q.1 c.modify_at.result x.1) is x.4, written)
+
+pub returns-clause-waiting : goal.returns-clause-waiting
+returns-clause-waiting g c =
+    let x = c.modify_at.ensures.step in
+    waiting-after c.args.self.now c.lend.result.now c.modify_at.new.self x.1 c.lend.ensures.value x.5

@@ -1,8 +1,8 @@
 use Rattle.std.proofs.Common.{sym, subst}
 use Rattle.scc_common.specs.Closures.{TakesAt, WritesAt}
-use Rattle.scc_rules.specs.Rules.{IsKept}
+use Rattle.scc_common.specs.Rules.{IsKept}
 use Rattle.scc_owned.proofs.HeldEntries.{pair-is}
-use Rattle.scc_owned.proofs.MapEntries.{within-after, written-after}
+use Rattle.scc_owned.proofs.MapEntries.{within-after, written-after, waiting-after}
 use Rattle.scc_owned.proofs.ruled_map.held.HeldOccupied+G+N+Ruled+K+V+R+H.update.Goals as goal
 
 pub update_at-requires-clause-callable : goal.update_at-requires-clause-callable
@@ -31,3 +31,8 @@ pub returns-clause-kept : goal.returns-clause-kept
 returns-clause-kept g c =
     let x = c.update_at.ensures.step in
     subst (IsKept g.R.Rule.holds) (pair-is c.args.self.now c.lend.result.now x.0 c.lend.ensures.value x.2) x.3
+
+pub returns-clause-waiting : goal.returns-clause-waiting
+returns-clause-waiting g c =
+    let x = c.update_at.ensures.step in
+    waiting-after c.args.self.now c.lend.result.now c.update_at.new.self x.1 c.lend.ensures.value x.5

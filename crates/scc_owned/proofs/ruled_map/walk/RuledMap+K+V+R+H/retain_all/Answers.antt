@@ -1,20 +1,24 @@
-use Rattle.std.proofs.Common.{◌∙◌, ap, ◌++◌, ◌∷◌, [], refl, sym, length, drop, subst, append-nil}
-use Rattle.scc_common.specs.Contents.{entries}
+use Rattle.std.proofs.Common.{◌∙◌, ap, ◌++◌, ◌∷◌, [], refl, sym, length, drop, take, subst, append-nil}
+use Rattle.scc_common.specs.Contents.{entries, waiting_of}
+use Rattle.scc_common.specs.Pairs.{with_pair_value}
 use Rattle.scc_common.specs.PairWalks.{ended, kept, removed}
-use Rattle.scc_rules.specs.Rules.{AllKeep}
+use Rattle.scc_common.specs.Rules.{AllKeep}
 use Rattle.scc_buckets.proofs.Placed.{drop-all}
 use Rattle.scc_table.specs.Places.{spot_of}
 use Rattle.scc_table.proofs.walks.Reach.{walk_spot}
+use Rattle.scc_table.proofs.relocations.AfterWrites.{waiting-write}
+use Rattle.scc_table.proofs.walks.Steps.{take-all}
 use Rattle.scc_table.proofs.walks.Lists.{retains-join}
 use Rattle.scc_table.proofs.walks.Visits.{visited, kept-nearer, took-after, took-nearer}
 use Rattle.scc_table.proofs.walks.Spots.{first-spot, place-after, kept-spot, others-out, took-spot}
 use Rattle.scc_owned.proofs.RuledPairs.{keep-more, one-more}
+use Rattle.scc_owned.proofs.RuledWalks.{stays-kept, stays-took}
 use Rattle.scc_owned.proofs.ruled_map.walk.RuledMap+K+V+R+H.retain_all.Goals as goal
 
 pub loop-at-init : goal.loop-at-init
 loop-at-init g c =
     let start = first-spot c.args.self.now c.first_place-at.result c.first_place-at.ensures.place in
-    record { within = start.1; seen = ([], [], rw start.0 refl, tt, tt, ended) }
+    record { buckets = refl; settings = refl; noted = refl; waiting = refl; within = start.1; seen = ([], [], rw start.0 refl, tt, tt, ended, rw start.0 refl) }
 
 pub next_place-at-requires : goal.next_place-at-requires
 next_place-at-requires g c =
@@ -38,6 +42,10 @@ loop-at-preserved-then-visit g c =
     let v = visited c.loop-at.self (spot_of c.loop-at.self c.in-Some.place) x.0 x.1 c.visit.new.self within x.2 x.4 in
     let next = kept-spot c.loop-at.self c.in-Some.place x.0 x.1 c.visit.new.self x.4 v c.next_place-at.result c.next_place-at.ensures.place in
     record {
+      buckets = v.buckets ∙ c.loop-at.invariant.buckets;
+      settings = v.settings ∙ c.loop-at.invariant.settings;
+      noted = v.noted ∙ c.loop-at.invariant.noted;
+      waiting = (ap waiting_of x.4 ∙ waiting-write with_pair_value c.loop-at.self c.in-Some.place x.1) ∙ c.loop-at.invariant.waiting;
       within = next.1;
       seen = (
         seen.0 ++ x.0 ∷ [],
@@ -46,6 +54,7 @@ loop-at-preserved-then-visit g c =
         keep-more g.R.Rule.holds seen.0 x.0 seen.3 x.5,
         keep-more g.R.Rule.holds seen.1 (x.0.0, x.1) seen.4 x.6,
         retains-join seen.5 (kept x.3 ended),
+        ap (λ i. take i (entries c.visit.new.self)) next.0 ∙ stays-kept c.loop-at.self (spot_of c.loop-at.self c.in-Some.place) x.0 x.1 c.visit.new.self v seen.1 seen.6,
       );
     }
 
@@ -77,6 +86,10 @@ loop-at-preserved g c =
     let next = took-spot c.loop-at.self c.in-Some.place x.0 x.1 c.visit.new.self x.4 v d t.others c.take_with_next-pair.result.1 t.next in
     let left = ap (λ i. drop i (entries d)) next.0 ∙ took-after c.loop-at.self (spot_of c.loop-at.self c.in-Some.place) x.0 x.1 c.visit.new.self v d others in
     record {
+      buckets = others.buckets ∙ v.buckets ∙ c.loop-at.invariant.buckets;
+      settings = others.settings ∙ v.settings ∙ c.loop-at.invariant.settings;
+      noted = t.noted ∙ v.noted ∙ c.loop-at.invariant.noted;
+      waiting = t.waiting ∙ (ap waiting_of x.4 ∙ waiting-write with_pair_value c.loop-at.self c.in-Some.place x.1) ∙ c.loop-at.invariant.waiting;
       within = next.1;
       seen = (
         seen.0 ++ x.0 ∷ [],
@@ -85,12 +98,13 @@ loop-at-preserved g c =
         keep-more g.R.Rule.holds seen.0 x.0 seen.3 x.5,
         subst (AllKeep g.R.Rule.holds) (sym (append-nil seen.1)) seen.4,
         retains-join seen.5 (removed x.3 ended),
+        ap (λ i. take i (entries d)) next.0 ∙ stays-took c.loop-at.self (spot_of c.loop-at.self c.in-Some.place) x.0 x.1 c.visit.new.self v seen.1 seen.6 d others,
       );
     }
 
-pub returns-clause-calls : goal.returns-clause-calls
-returns-clause-calls g c =
+pub returns-clause-step : goal.returns-clause-step
+returns-clause-step g c =
     let es = entries c.loop-at.self in
     let seen = rw c.in_default.is at c.loop-at.invariant.seen in
     let all = seen.2 ∙ ap (λ z. seen.0 ++ z) (drop-all es (length es) refl) ∙ append-nil seen.0 in
-    (seen.1, subst (AllKeep g.R.Rule.holds) (sym all) seen.3, seen.4, rw all seen.5)
+    (seen.1, subst (AllKeep g.R.Rule.holds) (sym all) seen.3, seen.4, rw all seen.5, record { exact = sym (take-all es (length es) refl) ∙ seen.6; buckets = c.loop-at.invariant.buckets; settings = c.loop-at.invariant.settings })

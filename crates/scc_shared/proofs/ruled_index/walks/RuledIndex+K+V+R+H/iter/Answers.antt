@@ -1,4 +1,4 @@
-use Rattle.scc_rules.proofs.Lists.{all-append}
+use Rattle.scc_common.proofs.Lists.{all-append}
 use Rattle.scc_stripes.proofs.Walks.{walked-next}
 use Rattle.scc_shared.proofs.ruled_index.walks.RuledIndex+K+V+R+H.iter.Goals as goal
 

@@ -1,6 +1,6 @@
 use Rattle.std.proofs.Common.{map}
 use Rattle.std.specs.Arc.{arc_value}
-use Rattle.scc_rules.specs.Rules.{AllKeep}
+use Rattle.scc_common.specs.Rules.{AllKeep}
 use Rattle.scc_stripes.specs.Walks.{AreOfStripes}
 use Rattle.scc_shared.proofs.ruled_index.walks.RuledIndex+K+V+R+H.iter.Given as goal
 

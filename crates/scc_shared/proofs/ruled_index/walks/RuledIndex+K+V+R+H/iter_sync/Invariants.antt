@@ -1,6 +1,6 @@
 use Rattle.std.proofs.Common.{List, true}
 use Rattle.scc_common.specs.Walks.{CalledOn, Walks}
-use Rattle.scc_rules.specs.Rules.{AllKeep}
+use Rattle.scc_common.specs.Rules.{AllKeep}
 use Rattle.scc_stripes.specs.Walks.{AreOfStripes}
 use Rattle.scc_shared.proofs.ruled_index.walks.RuledIndex+K+V+R+H.iter_sync.Given as goal
 

@@ -1,7 +1,7 @@
 use Rattle.std.proofs.Common.{List}
 use Rattle.scc_common.specs.Walks.{CalledOn}
 use Rattle.scc_owned.specs.IndexWalks.{Retains}
-use Rattle.scc_rules.specs.Rules.{AllKeep}
+use Rattle.scc_common.specs.Rules.{AllKeep}
 use Rattle.scc_stripes.specs.Walks.{AreOfStripes}
 use Rattle.scc_shared.proofs.ruled_index.walks.RuledIndex+K+V+R+H.retain_sync.Given as goal
 

@@ -1,5 +1,5 @@
 use Rattle.std.specs.Vec.Iter.{into_iter_items}
-use Rattle.scc_rules.specs.Rules.{AllKeep}
+use Rattle.scc_common.specs.Rules.{AllKeep}
 use Rattle.scc_shared.proofs.ruled_map.make.RuledMap+K+V+R+H.upsert_all.Given as goal
 
 abbrev pub invariant-loop-k : goal.invariant-loop-k

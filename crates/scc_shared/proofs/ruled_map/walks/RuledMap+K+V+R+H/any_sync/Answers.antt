@@ -1,6 +1,6 @@
 use Rattle.std.proofs.Common.{[]}
 use Rattle.scc_common.specs.PairWalks.{ended}
-use Rattle.scc_rules.proofs.Lists.{all-append}
+use Rattle.scc_common.proofs.Lists.{all-append}
 use Rattle.scc_stripes.proofs.Walks.{walked-next, walked-none}
 use Rattle.scc_table.proofs.walks.Lists.{declines-join}
 use Rattle.scc_shared.proofs.ruled_map.walks.RuledMap+K+V+R+H.any_sync.Goals as goal

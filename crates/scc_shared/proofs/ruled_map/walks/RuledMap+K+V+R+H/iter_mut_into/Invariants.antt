@@ -1,6 +1,6 @@
 use Rattle.std.proofs.Common.{◌≡◌, ◌≤◌, ◌++◌, List, Ok, true}
 use Rattle.scc_common.specs.PairWalks.{CalledToWrite, Takes}
-use Rattle.scc_rules.specs.Rules.{AllKeep}
+use Rattle.scc_common.specs.Rules.{AllKeep}
 use Rattle.scc_stripes.specs.Walks.{AreOfStripes}
 use Rattle.scc_shared.proofs.ruled_map.walks.RuledMap+K+V+R+H.iter_mut_into.Given as goal
 

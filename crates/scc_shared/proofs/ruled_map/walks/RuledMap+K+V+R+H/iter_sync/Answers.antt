@@ -1,7 +1,7 @@
 use Rattle.std.proofs.Common.{[], arith}
 use Rattle.scc_common.specs.Walks.{ended}
 use Rattle.scc_common.proofs.WalkLemmas.{walk-append}
-use Rattle.scc_rules.proofs.Lists.{all-append}
+use Rattle.scc_common.proofs.Lists.{all-append}
 use Rattle.scc_stripes.proofs.Walks.{walked-next, walked-none, walked-short}
 use Rattle.scc_owned.proofs.RuledPairs.{distinct-taken}
 use Rattle.scc_shared.proofs.ruled_map.walks.RuledMap+K+V+R+H.iter_sync.Goals as goal

@@ -1,6 +1,6 @@
 use Rattle.std.proofs.Common.{List}
 use Rattle.scc_common.specs.PairWalks.{CalledToWrite, Retains}
-use Rattle.scc_rules.specs.Rules.{AllKeep}
+use Rattle.scc_common.specs.Rules.{AllKeep}
 use Rattle.scc_stripes.specs.Walks.{AreOfStripes}
 use Rattle.scc_shared.proofs.ruled_map.walks.RuledMap+K+V+R+H.retain_sync.Given as goal
 

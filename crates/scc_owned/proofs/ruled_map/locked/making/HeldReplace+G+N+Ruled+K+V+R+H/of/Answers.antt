@@ -1,10 +1,11 @@
 use Rattle.std.proofs.Common.{◌∙◌, sym, ap, subst, Some}
-use Rattle.scc_common.specs.Contents.{entries}
+use Rattle.scc_common.specs.Contents.{entries, notes_of, waiting_of}
 use Rattle.std.specs.List.{slice_get}
 use Rattle.scc_common.specs.Pairs.{with_pair_key}
 use Rattle.scc_table.specs.Places.{IsPlace, index_of, with_write_at}
 use Rattle.scc_table.specs.Placed.{IsPlace-with_write_at}
-use Rattle.scc_table.proofs.places.Entries.{key-got}
+use Rattle.scc_table.proofs.places.Entries.{key-got, noted-write}
+use Rattle.scc_table.proofs.relocations.AfterWrites.{waiting-write}
 use Rattle.scc_buckets.proofs.Lookups.{find-position_none}
 use Rattle.scc_owned.proofs.Found.{found-equal, found-here, found-swapped, swapped-unique}
 use Rattle.scc_owned.proofs.HeldEntries.{pair-at}
@@ -47,6 +48,16 @@ returns-in-Some-clause-step g c =
 
 pub returns-in-Some-clause-unique : goal.returns-in-Some-clause-unique
 returns-in-Some-clause-unique g c = c.at.result.unique
+
+pub returns-in-Some-clause-noted : goal.returns-in-Some-clause-noted
+returns-in-Some-clause-noted g c =
+    let made = ap g.G.Guard.inner c.at.ensures.guard ∙ g.G.Guard.inner_law c.args.guard c.replace_key_at-old.new.self ∙ c.replace_key_at-old.ensures.new ∙ ap (λ m. with_write_at with_pair_key m c.in-Some.place c.args.k) c.lend.ensures.value in
+    ap notes_of made ∙ noted-write with_pair_key (g.G.Guard.inner c.args.guard) c.in-Some.place c.args.k
+
+pub returns-in-Some-clause-waiting : goal.returns-in-Some-clause-waiting
+returns-in-Some-clause-waiting g c =
+    let made = ap g.G.Guard.inner c.at.ensures.guard ∙ g.G.Guard.inner_law c.args.guard c.replace_key_at-old.new.self ∙ c.replace_key_at-old.ensures.new ∙ ap (λ m. with_write_at with_pair_key m c.in-Some.place c.args.k) c.lend.ensures.value in
+    ap waiting_of made ∙ waiting-write with_pair_key (g.G.Guard.inner c.args.guard) c.in-Some.place c.args.k
 
 pub returns-in-None-clause-step : goal.returns-in-None-clause-step
 returns-in-None-clause-step g c = record {

@@ -1,0 +1,4 @@
+use Rattle.scc_memo.proofs.owned.Memo.get.Goals as goal
+
+pub returns-clause-step : goal.returns-clause-step
+returns-clause-step g c = rw (← c.self.view_is) c.recall.ensures.step

@@ -1,0 +1,17 @@
+use Rattle.std.proofs.Common.{◌-◌, length, take, IfSome, true}
+use Rattle.scc_common.specs.Contents.{entries}
+use Rattle.scc_common.specs.Walks.{CalledOn, Walks}
+use Rattle.scc_common.specs.Rules.{AllKeep}
+use Rattle.scc_table.specs.Places.{IsPlace}
+use Rattle.scc_table.proofs.walks.Reach.{reached}
+use Rattle.scc_owned.proofs.ruled_map.walk.RuledMap+K+V+R+H.walk_while.Given as goal
+
+abbrev pub invariant-loop-at : goal.invariant-loop-at
+invariant-loop-at g l = record {
+  within : IfSome l.at (IsPlace l.self);
+  kept : AllKeep g.R.Rule.holds (take (reached l.self l.at) (entries l.self));
+  walks : Walks (CalledOn g.F.FnMut) l.fn.f (take (reached l.self l.at) (entries l.self)) true l.f;
+}
+
+abbrev pub decreases-loop-at : goal.decreases-loop-at
+decreases-loop-at g l = length (entries l.self) - reached l.self l.at

@@ -1,0 +1,16 @@
+use Rattle.std.proofs.Common.{refl}
+use Rattle.std.specs.Fn.{FnOnceReturnsAt}
+use Rattle.scc_owned_cache.proofs.Entries.{map-ok, map-err, keeps-vacant, evicted-at}
+use Rattle.scc_owned_cache.proofs.locked.insertions.Entry+K+V+H+R.or_put_with_key.Goals as goal
+
+pub returns-in-Vacant-clause-entry : goal.returns-in-Vacant-clause-entry
+returns-in-Vacant-clause-entry g c = rw c.in-Vacant.is (map-ok _ _ c.put_entry.result (λ o i. (c.f-value.result, (_, c.f-value.ensures, refl), i)) c.put_entry.ensures.put)
+
+pub returns-in-Vacant-clause-refused : goal.returns-in-Vacant-clause-refused
+returns-in-Vacant-clause-refused g c = rw c.in-Vacant.is (map-err _ _ c.put_entry.result (λ e i. (i.0, (c.f-value.result, (_, c.f-value.ensures, refl), i.1))) c.put_entry.ensures.refused)
+
+pub put_entry-requires : goal.put_entry-requires
+put_entry-requires g c = keeps-vacant c.args.self c.in-Vacant.entry c.in-Vacant.is (FnOnceReturnsAt g.F.FnOnce c.args.f) g.R.Rule.holds c.f-value.result c.requires.keeps (_, c.f-value.ensures, refl)
+
+pub returns-in-Vacant-clause-evicted : goal.returns-in-Vacant-clause-evicted
+returns-in-Vacant-clause-evicted g c = evicted-at g.K.PartialEq.eq g.R.Rule.holds c.args.self c.in-Vacant.entry c.in-Vacant.is c.put_entry.result c.put_entry.ensures.evicted

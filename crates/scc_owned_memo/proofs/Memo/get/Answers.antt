@@ -1,4 +1,0 @@
-use Rattle.scc_owned_memo.proofs.Memo.get.Goals as goal
-
-pub returns-clause-step : goal.returns-clause-step
-returns-clause-step g c = rw (← c.self.view_is) c.recall.ensures.step

@@ -1,6 +1,0 @@
-mod AtEntries
-mod CachePairs
-mod CacheWalks
-mod KeptPlaces
-mod Resized
-mod SizesLemmas

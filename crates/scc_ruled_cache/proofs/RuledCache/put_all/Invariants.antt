@@ -1,6 +1,0 @@
-use Rattle.std.specs.Vec.Iter.{into_iter_items}
-use Rattle.scc_rules.specs.Rules.{AllKeep}
-use Rattle.scc_ruled_cache.proofs.RuledCache.put_all.Given as goal
-
-abbrev pub invariant-loop-k : goal.invariant-loop-k
-invariant-loop-k g l = AllKeep g.R.Rule.holds (into_iter_items l.k-iterator)

@@ -1,6 +1,0 @@
-use Rattle.std.proofs.Common.{◌∙◌, ap}
-use Rattle.scc_ruled_cache.proofs.AtEntries.{pair-is}
-use Rattle.scc_ruled_cache.proofs.entries.OccupiedEntry.key.Goals as goal
-
-pub returns : goal.returns
-returns g c = ap (λ p. p.0) (pair-is c.args.self.now c.look.result.now (c.pair_at.result.0.now, c.pair_at.result.1.now) (c.look.ensures.same ∙ c.deref.ensures) c.pair_at.ensures)

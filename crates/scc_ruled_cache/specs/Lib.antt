@@ -1,5 +1,0 @@
-pub mod Entries
-pub mod Evictions
-pub mod Places
-pub mod SharedSizes
-pub mod Stripes

@@ -1,7 +1,0 @@
--- The greatest number of slots that a cache may have in all its stripes together.
-use Rattle.std.specs.Prelude.{ℕ}
-use Rattle.scc_ruled_cache.specs.declared.RuledCache.{RuledCache}
-
--- the maximum of a cache: the greatest number of slots of all its stripes together
-abbrev pub maximum_of : {K V R H T : Type 0} → RuledCache K V R H T → ℕ
-maximum_of c = c.maximum

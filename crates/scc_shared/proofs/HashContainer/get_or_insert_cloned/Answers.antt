@@ -1,0 +1,4 @@
+use Rattle.scc_shared.proofs.HashContainer.get_or_insert_cloned.Goals as goal
+
+pub returns-clause-step : goal.returns-clause-step
+returns-clause-step g c = (_, _, c.get_or_insert_cloned.ensures.step)

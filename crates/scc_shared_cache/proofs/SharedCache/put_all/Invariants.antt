@@ -1,0 +1,6 @@
+use Rattle.std.specs.Vec.Iter.{into_iter_items}
+use Rattle.scc_common.specs.Rules.{AllKeep}
+use Rattle.scc_shared_cache.proofs.SharedCache.put_all.Given as goal
+
+abbrev pub invariant-loop-k : goal.invariant-loop-k
+invariant-loop-k g l = AllKeep g.R.Rule.holds (into_iter_items l.k-iterator)
