@@ -2,7 +2,7 @@
 //! callers, and what a finished run was; a hasher with several owners.
 
 pub use scc_calls::{
-    CacheCall, Calls, IndexCall, MapCall, Refused, Reply, Request, SetCall, Setting, Step,
+    CacheCall, Calls, Copied, IndexCall, MapCall, Refused, Reply, Request, SetCall, Setting, Step,
     WholeCalls, every_merge_is_a_run, route, run, runs_mean,
 };
 pub use scc_common::{CloneOwner, Shared};

@@ -13,7 +13,7 @@ module _ {E H : Type 0} where
   pub unchanged-state : (c d : Contents E H) → IsUnchanged c d → state_of d ≡ state_of c
   unchanged-state c d h = let e = h.exact in let b = h.buckets in cc
 
-  lawful-size : (c d : Contents E H) → KeepsSize c d → (bucket_count d ≡ bucket_count c → ⊥) → IsBucketCount (bucket_count d)
+  pub lawful-size : (c d : Contents E H) → KeepsSize c d → (bucket_count d ≡ bucket_count c → ⊥) → IsBucketCount (bucket_count d)
   lawful-size c d h n = elim h.lawful as (λ _. IsBucketCount (bucket_count d)) [ inl e ↦ absurd (n e) | inr a ↦ a ]
 
   module _ {C R : Type 0} (moves : State E → C → R → State E → Type 0) (call : C) (reply : R) where

@@ -8,6 +8,7 @@ pub mod IndexLaws
 pub mod IndexWhole
 pub mod Made
 pub mod MapCalls
+pub mod MapCopied
 pub mod MapLaws
 pub mod MapWhole
 pub mod Means

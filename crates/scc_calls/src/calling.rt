@@ -1,14 +1,14 @@
 //! Containers whose calls are values.
 ghost use Rattle.std.specs.Prelude.{◌≡◌, Bool, ℕ, ◌*◌, ◌<◌, ◌≤◌, List, ◌∷◌, ◌++◌, length, Option, Some, None, IfOk, MatchOption};
 ghost use Rattle.std.specs.Cmp.{IsPartialEquivalence};
-ghost use Rattle.scc_calls.specs.Calling.{CallsByRule, PreparesCallByRule};
+ghost use Rattle.scc_calls.specs.Calling.{CallsByRule, CallsCopiedByRule, PreparesCallByRule};
 ghost use Rattle.scc_calls.specs.Copies.{Alike, ClonesEqual};
 ghost use Rattle.scc_calls.specs.Made.{IsMadeFor};
 ghost use Rattle.scc_calls.specs.Parts.{Routed, KeyRouted, RoutedFrom};
 ghost use Rattle.scc_common.specs.Routing.{stripe_of};
 ghost use Rattle.scc_calls.specs.declared.fixed.Setting.{Setting};
 
-use crate::Refused;
+use crate::{Copied, Refused};
 use scc_common::MakeError;
 use std::alloc::Global;
 use std::hash::{BuildHasher, Hash};
@@ -105,6 +105,18 @@ pub trait Calls: Sized {
         requires clones { ClonesEqual Self.Reply.is_clone Self.Reply.eq }
         ensures { CallsByRule setting state size key_of answer resizes may_refuse adds is_prepared
             Self.Reply.is_infallible moves Self.Reply.eq self.old call result self.new };
+
+    /// Makes the call `call`, and returns its reply with two copies of it, as `ready` and then `call` do. Fails if memory
+    /// or a clone is refused; then the entries are unchanged, but one resize may have been made.
+    fn call_copied(&mut self, call: Self::Call) -> Result<Copied<Self::Reply>, Refused>
+        requires clones { ClonesEqual Self.Reply.is_clone Self.Reply.eq }
+        ensures { CallsCopiedByRule setting state size key_of answer resizes may_refuse
+            Self.Reply.is_infallible moves Self.Reply.eq self.old call result self.new }
+    {
+        let (noted, kept) = self.ready(&call)?;
+        let reply = self.call(call)?;
+        Ok(Copied { reply, noted, kept })
+    }
 
     /// Returns the number of buckets, or 0 if there is no array.
     fn buckets(&self) -> usize

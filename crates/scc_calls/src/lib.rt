@@ -4,10 +4,12 @@
 mod cache_calls;
 mod calling;
 mod calls_as_values;
+mod copied;
 mod fixed;
 mod index_calls;
 mod law;
 mod map_calls;
+mod map_copied;
 mod opening;
 mod refusals;
 mod replies;
@@ -20,6 +22,7 @@ mod whole_kinds;
 
 pub use calling::Calls;
 pub use calls_as_values::{CacheCall, IndexCall, MapCall, SetCall};
+pub use copied::Copied;
 pub use fixed::{Request, Setting};
 pub use law::{every_kind_has_parts, every_merge_is_a_run, runs_mean};
 pub use opening::two_parts;

@@ -1,8 +1,9 @@
 //! The calls of the owned map as values.
 ghost use Rattle.scc_calls.specs.Preparations.{MapPreparesCall, MapPreparesKey};
 
+use crate::map_copied;
 use crate::replies::{CopiesReply, clone_pair, copies, equals};
-use crate::{Calls, MapCall, Refused, Reply};
+use crate::{Calls, Copied, MapCall, Refused, Reply};
 use scc_buckets::Place;
 use scc_common::{Hashes, InsertError, MakeError};
 use scc_owned::map::Owned;
@@ -130,6 +131,19 @@ impl<K: Eq + Hash + Clone, V: Clone + PartialEq, H: BuildHasher> Calls for Owned
                 Ok(Reply::Cleared)
             }
             MapCall::Len => Ok(Reply::Count(self.len())),
+        }
+    }
+
+    fn call_copied(&mut self, call: MapCall<K, V>) -> Result<Copied<Reply<K, V>>, Refused> {
+        match call {
+            MapCall::Insert(k, v) => map_copied::insert(self, k, v),
+            MapCall::Upsert(k, v) => map_copied::upsert(self, k, v),
+            MapCall::Replace(k) => map_copied::replace(self, k),
+            MapCall::Read(k) => map_copied::read(self, k),
+            MapCall::Contains(k) => map_copied::contains(self, k),
+            MapCall::Remove(k) => map_copied::remove(self, k),
+            MapCall::Clear => map_copied::clear(self),
+            MapCall::Len => map_copied::count(self),
         }
     }
 

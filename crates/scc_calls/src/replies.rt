@@ -1,10 +1,11 @@
 //! The replies of calls as values, and copies of a reply that are made before its call.
 ghost use Rattle.scc_buckets.specs.declared.place.Place.{Place};
 ghost use Rattle.std.specs.Prelude.{◌≡◌, Option, true, IfOk, OnErr};
+ghost use Rattle.scc_calls.specs.declared.replies.Reply.TheVariants.{Exists};
 ghost use Rattle.std.specs.Cmp.{IsPartialEquivalence};
 ghost use Rattle.scc_calls.specs.Copies.{ClonesEqual, MayNotClone};
 
-use crate::Refused;
+use crate::{Copied, Refused};
 use scc_buckets::Place;
 use std::fmt::Debug;
 
@@ -93,6 +94,39 @@ pub(crate) fn clone_pair<K: Clone, V: Clone>(k: &K, v: &V) -> Result<(K, V), Ref
         return Err(Refused);
     };
     Ok((key, value))
+}
+
+/// Returns two clones of `x`. Fails if a clone is refused.
+pub(crate) fn clone_twice<X: Clone>(x: &X) -> Result<(X, X), Refused>
+    ensures ok { IfOk result (λ p. X.is_clone x.now p.0 × X.is_clone x.now p.1) }
+    ensures refused { OnErr result (MayNotClone X.is_infallible x.now) }
+{
+    let Ok(one) = x.clone() else {
+        return Err(Refused);
+    };
+    let Ok(other) = x.clone() else {
+        return Err(Refused);
+    };
+    Ok((one, other))
+}
+
+/// Returns `Reply::Exists(k, v)` with two copies. Fails if a clone is refused.
+pub(crate) fn exists_copied<K: Clone, V: Clone>(
+    k: K,
+    v: V,
+) -> Result<Copied<Reply<K, V>>, Refused>
+    ensures reply { IfOk result (λ r. r.reply ≡ Exists k v) }
+    ensures copies { IfOk result (λ r. ⟦<Reply<K, V> as Clone>⟧.is_clone (Exists k v) r.noted
+        × ⟦<Reply<K, V> as Clone>⟧.is_clone (Exists k v) r.kept) }
+    ensures refused { OnErr result (MayNotClone ⟦<Reply<K, V> as Clone>⟧.is_infallible (Exists k v)) }
+{
+    let noted = clone_pair(&k, &v)?;
+    let kept = clone_pair(&k, &v)?;
+    Ok(Copied {
+        reply: Reply::Exists(k, v),
+        noted: Reply::Exists(noted.0, noted.1),
+        kept: Reply::Exists(kept.0, kept.1),
+    })
 }
 
 /// States what `==` is. Does nothing.

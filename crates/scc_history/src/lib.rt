@@ -18,7 +18,7 @@ pub use counting::{count_all_calls, count_calls};
 pub use log::{Log, Receipt};
 pub use matching::{first_difference, records_by_pass};
 pub use order::{Histories, stamp_order};
-use scc_calls::{Calls, Refused, Step};
+use scc_calls::{Calls, Copied, Refused, Step};
 use scc_common::MakeError;
 use std::alloc::Global;
 use std::fmt::Debug;
@@ -104,16 +104,16 @@ impl<C: Calls> Stripe<C> {
             return Err(CallError::Room);
         };
         let before = container.buckets();
-        let Ok((given, told)) = container.ready(&call) else {
-            record_refused(history, before, container.buckets(), stamp);
-            return Err(CallError::Container);
-        };
-        match container.call(call) {
+        match container.call_copied(call) {
             Err(Refused) => {
                 record_refused(history, before, container.buckets(), stamp);
                 Err(CallError::Container)
             }
-            Ok(reply) => {
+            Ok(Copied {
+                reply,
+                noted: given,
+                kept: told,
+            }) => {
                 record_call(
                     history,
                     before,

@@ -5,3 +5,4 @@ mod owned;
 pub mod shared;
 
 pub use owned::{Memo, Pure};
+pub use scc_common::MakeError;

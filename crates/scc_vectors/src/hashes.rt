@@ -1,5 +1,7 @@
 // How often a call of a shared container hashes its key. A contract sees answers, and no hash.
 use crate::expect::{expect, expect_eq};
+use scc::hash_map::Owned;
+use scc::recorded::{Calls, MapCall};
 use scc::{HashIndex, HashMap};
 use std::alloc::{AllocError, Global};
 use std::hash::BuildHasher;
@@ -101,6 +103,40 @@ fn an_index_hashes_a_present_key_once(rt: HostRuntime) {
             }
             Err(_) => expect(&rt, false),
         },
+        Err(_) => expect(&rt, false),
+    }
+}
+
+/// Returns the hashes of a call as a stripe of a recorded map makes it.
+fn on_a_stripe(
+    map: &mut Owned<u64, u64, Counting>,
+    call: MapCall<u64, u64>,
+    built: &AtomicU64,
+) -> u64 {
+    let _ = since(built);
+    let _ = map.call_copied(call);
+    since(built)
+}
+
+/// A stripe hashes the key of a recorded call once, though it copies the reply before it makes the call.
+#[test]
+fn a_recorded_call_is_hashed_once_in_its_stripe(rt: HostRuntime) {
+    match shared_hasher(rt.alloc()) {
+        Ok((hasher, built)) => {
+            let mut map = Owned::with_hasher(rt.alloc(), hasher);
+            let new = on_a_stripe(&mut map, MapCall::Insert(7, 0), &*built);
+            let again = on_a_stripe(&mut map, MapCall::Insert(7, 1), &*built);
+            let upsert = on_a_stripe(&mut map, MapCall::Upsert(7, 2), &*built);
+            let replace = on_a_stripe(&mut map, MapCall::Replace(7), &*built);
+            let read = on_a_stripe(&mut map, MapCall::Read(7), &*built);
+            let contains = on_a_stripe(&mut map, MapCall::Contains(7), &*built);
+            let remove = on_a_stripe(&mut map, MapCall::Remove(7), &*built);
+            expect_eq(
+                &rt,
+                [new, again, upsert, replace, read, contains, remove],
+                [1; 7],
+            );
+        }
         Err(_) => expect(&rt, false),
     }
 }

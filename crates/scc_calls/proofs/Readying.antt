@@ -13,7 +13,8 @@ module _ {S : Type 0} (size : S → ℕ) (resizes : S → ℕ → S → Type 0) 
   parted : (old new : S) → Stays size resizes old new → (new ≡ old) ⊎ ((size new ≢ size old) × resizes old (size new) new)
   parted old new h = split old new (size old == size new) refl h
 
-  joined : (old new : S) → size new ≢ size old → resizes old (size new) new → Stays size resizes old new
+  -- a resize to another number of buckets is at most one resize
+  pub joined : (old new : S) → size new ≢ size old → resizes old (size new) new → Stays size resizes old new
   joined old new ne r = let f : (size old == size new) ≡ false = grind (arith, nat_tests, ne) in rw f r
 
   -- room and then a call are one call with at most one resize, if the call doesn't grow, nor shrink after a growth for room
