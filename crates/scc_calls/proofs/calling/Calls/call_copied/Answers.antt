@@ -29,8 +29,8 @@ returns-in_err-reply g c =
       setting = c.call.ensures.setting ∙ c.ready.ensures.setting;
       ok = (search rules);
       copies = (search rules);
-      err = when_err c.from_residual.result (ready-stays m.size (m.resizes g0) old mid new c.ready.ensures.stays c.ready.ensures.grows (λ ne. c.call.ensures.kept (c.ready.ensures.adds ne)) (c.call.ensures.made c.in_ok-noted.noted c.in_ok-noted.ensures.ready.0) (rw c.ready.ensures.setting at c.in_err-reply.ensures.err));
-      refused = when_err c.from_residual.result (elim (rw c.ready.ensures.setting at c.in_err-reply.ensures.refused) [
+      err = when_err c.from_residual-in_err-reply.result (ready-stays m.size (m.resizes g0) old mid new c.ready.ensures.stays c.ready.ensures.grows (λ ne. c.call.ensures.kept (c.ready.ensures.adds ne)) (c.call.ensures.made c.in_ok-noted.noted c.in_ok-noted.ensures.ready.0) (rw c.ready.ensures.setting at c.in_err-reply.ensures.err));
+      refused = when_err c.from_residual-in_err-reply.result (elim (rw c.ready.ensures.setting at c.in_err-reply.ensures.refused) [
         | inl may ↦ inl (c.ready.ensures.still may)
         | inr clone ↦ inr (clone.0, (mid, c.ready.ensures.stays, clone.1))
       ]);
