@@ -2,11 +2,12 @@
 //! closure is called only then.
 ghost use Rattle.scc_owned_cache.specs.CacheSteps.{AnswersOn, IsAbsent};
 ghost use Rattle.scc_owned_cache.specs.Caches.{IsCacheState};
-ghost use Rattle.scc_owned_cache.specs.KeyCalls.{Recalls};
+ghost use Rattle.scc_owned_cache.specs.KeyCalls.{FailsToRecall, Recalls, RecallsCloned, RefreshesAndReads};
+ghost use Rattle.scc_owned_cache.specs.Relocations.{RelocatesOne};
 ghost use Rattle.scc_common.specs.Contents.{hash_in};
 ghost use Rattle.scc_common.specs.Rules.{IsCalledOn, ReadsKept};
 ghost use Rattle.std.specs.Fn.{FnOnceReturnsAt, FnOnceTakesAt};
-ghost use Rattle.std.specs.Prelude.{◌≡◌, Ok, Err, IfErr, IfOk, IfSome, MatchOption};
+ghost use Rattle.std.specs.Prelude.{◌≡◌, Ok, Err, IfErr, IfOk, IfSome, MatchOption, OnSome};
 
 use crate::Owned;
 use scc_common::{Hashes, Rule};
@@ -22,7 +23,11 @@ impl<K: Eq + Hash, V, H: BuildHasher, R: Rule<K, V>> Owned<K, V, H, R> {
             self.old.contents k.now × (self.new ≡ self.old))
             (AnswersOn (hash_in ⟦<H as Hashes<K>>⟧.hash_of self.old.contents) K.eq F.FnOnce f
             self.old.contents k.now) }
+        ensures step { IfSome result (λ r. RefreshesAndReads (hash_in ⟦<H as Hashes<K>>⟧.hash_of self.old.contents) K.eq
+            F.FnOnce f self.old k.now r self.new) }
         ensures kept { IfSome result (ReadsKept K.eq R.holds F.FnOnce f k.now) }
+        ensures relocates { OnSome result (RelocatesOne (hash_in ⟦<H as Hashes<K>>⟧.hash_of self.old.contents k.now)
+            self.old.contents self.new.contents) }
         ensures state { IsCacheState K.eq (hash_in ⟦<H as Hashes<K>>⟧.hash_of self.new.contents) self.new }
     {
         let hash = self.table.hash(k);
@@ -87,7 +92,7 @@ impl<K: Eq + Hash, V, H: BuildHasher, R: Rule<K, V>> Owned<K, V, H, R> {
     }
 
     /// As `get_or_put_with`, but returns a clone of the value, which must keep the rule if the value does. If memory
-    /// for the clone is refused, calls `make` and returns what it made.
+    /// for the clone is refused, returns what `make` makes, and puts nothing in.
     #[inline(always)]
     pub fn get_or_put_cloned<F: FnOnce(&K) -> V>(&mut self, k: K, make: F) -> V
     where
@@ -96,6 +101,8 @@ impl<K: Eq + Hash, V, H: BuildHasher, R: Rule<K, V>> Owned<K, V, H, R> {
         requires callable { FnOnceTakesAt F.FnOnce make k }
         requires keeps { (v : V) → FnOnceReturnsAt F.FnOnce make k v → R.holds k v }
         requires clones { (v w : V) → R.holds k v → V.is_clone v w → R.holds k w }
+        ensures step { RecallsCloned (hash_in ⟦<H as Hashes<K>>⟧.hash_of self.old.contents) K.eq V.is_clone
+            V.is_infallible (FnOnceReturnsAt F.FnOnce make k) self.old k result self.new }
         ensures kept { R.holds k result }
     {
         let hash = self.table.hash(&k);
@@ -130,8 +137,11 @@ impl<K: Eq + Hash, V, H: BuildHasher, R: Rule<K, V>> Owned<K, V, H, R> {
         requires callable { FnOnceTakesAt F.FnOnce make k }
         requires keeps { (v : V) → FnOnceReturnsAt F.FnOnce make k (Ok v) → R.holds k v }
         requires clones { (v w : V) → R.holds k v → V.is_clone v w → R.holds k w }
+        ensures step { IfOk result (λ v. RecallsCloned (hash_in ⟦<H as Hashes<K>>⟧.hash_of self.old.contents) K.eq
+            V.is_clone V.is_infallible (λ w. FnOnceReturnsAt F.FnOnce make k (Ok w)) self.old k v self.new) }
         ensures kept { IfOk result (R.holds k) }
-        ensures failed { IfErr result (λ e. FnOnceReturnsAt F.FnOnce make k (Err e)) }
+        ensures failed { IfErr result (λ e. FnOnceReturnsAt F.FnOnce make k (Err e) × FailsToRecall (hash_in
+            ⟦<H as Hashes<K>>⟧.hash_of self.old.contents) K.eq V.is_clone V.is_infallible self.old k self.new) }
     {
         let hash = self.table.hash(&k);
         match self.refresh(hash, &k) {
