@@ -17,12 +17,12 @@ ghost use Rattle.std.specs.Result.{OnErr, OnOk};
 ghost use Rattle.scc_table.specs.Arrays.{GrowsByRule, ShrinksByRule};
 ghost use Rattle.scc_table.specs.Places.{IsFoundAt};
 
+mod clone_and_eq;
 pub mod entry;
 mod key_places;
 mod make;
 mod sizes;
 mod walk;
-mod whole;
 
 pub use entry::{OccupiedEntry, Removed};
 use scc_buckets::Place;
