@@ -1,5 +1,6 @@
-// How often a call of a shared container hashes its key. A contract sees answers, and no hash.
+// How often a call of a container hashes its key. A contract sees answers, and no hash.
 use crate::expect::{expect, expect_eq};
+use scc::hash_set::Owned;
 use scc::{HashIndex, HashMap};
 use std::alloc::{AllocError, Global};
 use std::hash::BuildHasher;
@@ -101,6 +102,21 @@ fn an_index_hashes_a_present_key_once(rt: HostRuntime) {
             }
             Err(_) => expect(&rt, false),
         },
+        Err(_) => expect(&rt, false),
+    }
+}
+
+/// A replacement inserts a missing key where its search ended, so it hashes a key once, missing or present.
+#[test]
+fn a_replaced_key_of_an_owned_set_is_hashed_once(rt: HostRuntime) {
+    match shared_hasher(rt.alloc()) {
+        Ok((hasher, built)) => {
+            let mut set = Owned::with_hasher(rt.alloc(), hasher);
+            let new = set.replace_sync(7u64).is_ok();
+            let missing = since(&*built);
+            let old = set.replace_sync(7).is_ok();
+            expect_eq(&rt, (new, missing, old, since(&*built)), (true, 1, true, 1));
+        }
         Err(_) => expect(&rt, false),
     }
 }
