@@ -1,14 +1,14 @@
 //! A recorded index, and the audit of its run.
 ghost use Rattle.std.specs.List.{sum_by};
 ghost use Rattle.std.specs.Prelude.{◌≡◌, IfOk, Some, map};
-ghost use Rattle.scc_history.specs.Stamps.{calls_in};
-ghost use Rattle.scc.specs.Finished.{IsFinishedRun};
-ghost use Rattle.scc.specs.Setups.{request_of};
+ghost use Rattle.scc_recorded.specs.Finished.{IsFinishedRun};
+ghost use Rattle.scc_recorded.specs.Setups.{request_of};
+ghost use Rattle.scc_recorded.specs.Stamps.{calls_in};
 
 use crate::input::Line;
-use scc::hash_index::Owned;
-use scc::recorded::{
-    Calls, Finished, IndexCall, Pass, Recorded, Reply, Setup, Shared, Site, count_all_calls,
+use scc_recorded::{
+    Calls, Finished, IndexCall, OwnedIndex, Pass, Recorded, Reply, Setup, Shared, Site,
+    count_all_calls,
 };
 use std::alloc::{AllocError, Global};
 use std::hash::{BuildHasherDefault, FoldHasher};
@@ -20,7 +20,7 @@ use std::thread::{Threads, map_vec};
 
 type Fold = Shared<BuildHasherDefault<FoldHasher>>;
 
-type Routes = Owned<u64, u64, Fold>;
+type Routes = OwnedIndex<u64, u64, Fold>;
 
 /// The number of stripes of the recorded index.
 const STRIPES: usize = 4;

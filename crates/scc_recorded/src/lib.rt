@@ -1,4 +1,6 @@
-//! Containers in stripes behind locks, whose calls are recorded, and what their histories prove at the end.
+//! Containers in stripes behind locks, whose calls are recorded, and what their histories prove at the end. The crate also
+//! names what a user of such containers needs of the crates below: calls as values, histories, errors, the hasher with
+//! several owners, and the owned containers that stripes are made of.
 #![tactic(auto)]
 
 ghost use Rattle.scc_calls.specs.Copies.{ClonesEqual, MayNotClone};
@@ -26,8 +28,16 @@ pub use closing::Closed;
 pub use counted::CountedStripe;
 pub use finishing::{FinishError, Finished, Unfinished};
 pub use passes::Pass;
-use scc_calls::{Calls, route};
-use scc_history::CallError;
+pub use scc_calls::{
+    CacheCall, Calls, IndexCall, MapCall, Refused, Reply, Request, SetCall, Setting, Step,
+    WholeCalls, every_merge_is_a_run, route, run, runs_mean,
+};
+pub use scc_common::{CloneOwner, MakeError, Shared};
+pub use scc_history::{CallError, Log, Receipt, Stripe, count_all_calls, count_calls};
+pub use scc_owned::index::Owned as OwnedIndex;
+pub use scc_owned::map::Owned as OwnedMap;
+pub use scc_owned_cache::Owned as OwnedCache;
+pub use scc_owned_set::Owned as OwnedSet;
 pub use setups::{Setup, Site};
 use std::alloc::Global;
 use std::sync::ledger::Ledger;

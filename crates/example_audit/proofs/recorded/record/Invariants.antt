@@ -1,5 +1,5 @@
 use Rattle.std.proofs.Common.{Some}
-use Rattle.scc.specs.Setups.{request_of}
+use Rattle.scc_recorded.specs.Setups.{request_of}
 use Rattle.example_audit.proofs.recorded.record.Given as goal
 
 abbrev pub ghosts-record_in-L-Ledger : goal.ghosts-record_in-L-Ledger
