@@ -1,7 +1,7 @@
 // A recorded cache of numbers and texts. A put copies the pair that it evicts before it changes anything, so a put
 // whose copy is refused evicts nothing.
 use crate::expect::{expect, expect_eq};
-use crate::refused::opened::{LentTrial, Lends, outlast};
+use crate::refused::opened::{Lends, LentTrial, outlast};
 use crate::refused::texts::text;
 use scc::hash_cache::Owned;
 use scc::recorded::{CacheCall, CallError, Pass, Recorded, Reply, Shared, Site};
