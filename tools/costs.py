@@ -1,8 +1,8 @@
 """What a first proof of crates costs: how many crates it takes, and how many processor minutes.
 
 tools/measured_minutes.txt has a line `NAME MINUTES` for each crate, for `rest`, which is what a run of ./test spent
-beside its crates, and for `part_1` to `part_4`, the parts of ./test, all in processor minutes; and for `two_cores`, the
-minutes of ./test from nothing on two cores. `tools/processor_minutes --note LOG` writes the file. A crate that has no
+beside its crates, and for `part_1` to `part_4`, the parts of ./test, all in processor minutes; and for `whole`, the
+minutes by the clock of ./test from nothing, and `cores`, on how many cores. `tools/processor_minutes --note LOG` writes the file. A crate that has no
 line there counts by its lines of code.
 """
 import functools

@@ -33,7 +33,7 @@ class Counts(unittest.TestCase):
         text = """| Tests, of which `nothing` 1.0 | 1 |
 | `tools/misuse`: texts | 1000 |
 The longest chain, to `nothing`, takes 1000 processor minutes; the one to `scc` takes 1000.
-From nothing it takes some 1000 minutes on two cores.
+From nothing it takes some 1000 minutes on 9 cores.
 `scc_owned` alone takes 1000 processor minutes to prove, and all below it 1000.
 `scc_recorded` would take 1000 processor minutes with all below it, not 1000, of which 1000, not 1000, one after the other.
 """

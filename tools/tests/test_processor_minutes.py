@@ -44,11 +44,11 @@ class Minutes(unittest.TestCase):
             minutes.print_minutes({"scc_high": 1.25, "scc_low": 5, "elsewhere": 3}, 12 * 60, CRATES)
             print("== part 2 of 4: misuses that fail passed in 1.5 minutes, of 2.5 processor minutes")
             print("on 2 processors, 90.0 minutes, of 176.3 processor minutes")
-        before = {"scc_low": 7.0, "scc_alone": 7.0, "scc_gone": 7.0, "part_1": 0.3, "two_cores": 96.0}
-        wanted = {"scc_low": "5.0", "scc_high": "1.2", "part_1": "0.3", "two_cores": "90.0", "part_2": "2.5", "rest": "2.8"}
+        before = {"scc_low": 7.0, "scc_alone": 7.0, "scc_gone": 7.0, "part_1": 0.3, "whole": 96.0, "cores": 4.0}
+        wanted = {"scc_low": "5.0", "scc_high": "1.2", "part_1": "0.3", "whole": "90.0", "cores": "2", "part_2": "2.5", "rest": "2.8"}
         self.assertEqual(minutes.noted(said.getvalue(), CRATES, before), wanted)
-        on_four = said.getvalue().replace("on 2", "on 4")
-        self.assertEqual(minutes.noted(on_four, CRATES, before)["two_cores"], "96.0")
+        unended = said.getvalue().replace("on 2 processors", "")
+        self.assertEqual(minutes.noted(unended, CRATES, before)["whole"], "96.0")
         self.assertEqual(minutes.noted("  all      12.0\n", CRATES, before), {})
 
     def test_finds_the_crate_of_a_process(self):

@@ -4,16 +4,16 @@
 //! Without arguments it prints its peers and their groups. `NAME GROUP RUNS ENTRIES SEED` measures one group.
 #![tactic(auto)]
 
+mod arguments;
 mod cache;
 mod memory;
 mod own;
 mod peer;
-mod request;
 mod tail;
 
+use arguments::{Group, PeerName, Request, parse_request};
 use bench_kit::arguments::{bad_argument, words};
 use peer::Peer;
-use request::{Group, PeerName, Request, parse_request};
 use scc_owned::map::Owned;
 use std::alloc::Global;
 use std::collections::HashMap;

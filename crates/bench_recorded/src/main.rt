@@ -4,17 +4,17 @@
 //! the contents differ at the end, if an argument is no number, if the number of keys is 0, or if memory is refused.
 #![tactic(auto)]
 
+mod arguments;
 mod pairs;
 mod parts;
 mod plain;
 mod recording;
 mod report;
-mod request;
 mod routed;
 mod runs;
 mod texts;
 
-use request::parse_request;
+use arguments::parse_request;
 use runs::measure;
 use std::alloc::AllocError;
 use std::{env, io};

@@ -1,11 +1,11 @@
 //! Runs of all measures, one after another.
 ghost use Rattle.std.specs.Prelude.{◌≡◌, ◌<◌, ◌↔◌, IsTrue};
 
+use crate::arguments::Request;
 use crate::pairs::drawn_pairs;
 use crate::parts::Outcome;
 use crate::recording::Recording;
 use crate::report::{check, line};
-use crate::request::Request;
 use crate::{plain, recording, routed, texts};
 use std::alloc::Global;
 use std::io;

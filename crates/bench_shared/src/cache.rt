@@ -1,5 +1,5 @@
 //! Steps over a shared cache that get a key, and put it if it is missing.
-use crate::request::Request;
+use crate::arguments::Request;
 use crate::threads::{Outcome, run};
 use bench_kit::arguments::out_of_memory;
 use bench_kit::report::{threads_check, threads_line};

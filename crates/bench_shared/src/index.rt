@@ -1,5 +1,5 @@
 //! Peeks into an index that nobody writes.
-use crate::request::Request;
+use crate::arguments::Request;
 use crate::threads::{Outcome, run};
 use bench_kit::arguments::out_of_memory;
 use bench_kit::report::{threads_check, threads_line};

@@ -1,6 +1,6 @@
 //! Insertions into an empty map by several threads, together and one by one.
+use crate::arguments::Request;
 use crate::reads::{Map, PEER, sum_of_values};
-use crate::request::Request;
 use crate::threads::{Outcome, run};
 use bench_kit::arguments::out_of_memory;
 use bench_kit::report::{nanos, print_quantiles, threads_check, threads_line};

@@ -3,6 +3,7 @@
 //! Without arguments it prints its peers and their groups. `NAME GROUP RUNS ENTRIES SEED` measures one group.
 #![tactic(auto)]
 
+mod arguments;
 mod cache;
 mod index;
 mod insertions;
@@ -10,12 +11,11 @@ mod memory;
 mod memos;
 mod mixed;
 mod reads;
-mod request;
 mod texts;
 mod threads;
 
+use arguments::{Group, Request, parse_request};
 use bench_kit::arguments::words;
-use request::{Group, Request, parse_request};
 use std::alloc::Global;
 use std::hash::RandomState;
 use std::io;

@@ -1,6 +1,6 @@
 //! The bytes that a pair takes in a shared map, by the pages that the process holds.
+use crate::arguments::Request;
 use crate::reads::{Map, PEER, sum_of_values};
-use crate::request::Request;
 use bench_kit::arguments::out_of_memory;
 use bench_kit::report::{check, line};
 use bench_kit::resident::{most_resident, resident};

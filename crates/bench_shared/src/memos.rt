@@ -3,8 +3,8 @@ ghost use Rattle.std.specs.Prelude.{◌*◌};
 ghost use Rattle.std.proofs.Common.{ap};
 ghost use Rattle.std.proofs.lemmas.Bool.{eqb-true};
 
+use crate::arguments::Request;
 use crate::cache::crew_keys;
-use crate::request::Request;
 use crate::threads::run;
 use bench_kit::arguments::out_of_memory;
 use bench_kit::report::threads_line;

@@ -1,6 +1,6 @@
 //! Insertions, removals and reads of keys. Half of the keys are present.
+use crate::arguments::Request;
 use crate::reads::{Checked, Map, Work, measure_one, read};
-use crate::request::Request;
 use bench_kit::steps::{Spread, Step};
 use bench_kit::streams::value;
 use scc_common::InsertError;

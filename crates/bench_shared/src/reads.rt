@@ -1,6 +1,6 @@
 //! Reads and writes of present keys.
+use crate::arguments::Request;
 use crate::mixed::mix;
-use crate::request::Request;
 use crate::threads::{Outcome, run};
 use bench_kit::arguments::out_of_memory;
 use bench_kit::report::{threads_check, threads_line};

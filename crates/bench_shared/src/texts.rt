@@ -1,6 +1,6 @@
 //! Insertions and reads of texts of 20 bytes, under a hasher for keys that others choose.
+use crate::arguments::Request;
 use crate::insertions::part_of;
-use crate::request::Request;
 use crate::threads::{Outcome, run};
 use bench_kit::arguments::out_of_memory;
 use bench_kit::report::{threads_check, threads_line};

@@ -1,5 +1,5 @@
 -- A removal of an entry from a bucket: the last entry takes its place.
-use Rattle.std.proofs.Common.{◌≡◌, ◌≢◌, ℕ, ◌+◌, ◌-◌, ◌*◌, ◌<◌, ◌≤◌, ◌⊎◌, List, [], length, set, get_or, Option, Some, None, sym, ap, ◌∙◌, arith, inl, inr, length-set}
+use Rattle.std.proofs.Common.{◌≡◌, ◌≢◌, ℕ, ◌+◌, ◌-◌, ◌*◌, ◌<◌, ◌≤◌, ◌⊎◌, List, [], length, set, get_or, Option, None, sym, ap, ◌∙◌, arith, inl, inr, length-set}
 use Rattle.std.proofs.lemmas.List.{get_or-set_same, get_or-set_other}
 use Rattle.std.specs.List.{slice_get, swap_remove}
 use native.Mathlib.Decide.{dec_lt}
@@ -73,46 +73,36 @@ module _ {E : Type 0} (rows : List (List ℕ)) (cells : List (Option E)) (kept :
     pub columns-swapped : IsColumns (set rows b row_left) new
     columns-swapped = columns-changed rows cells new kept b row_left within wide count outside window packed-left
 
-  -- the cells without the last entry, and the cells with the last entry in the place of the removed entry
-  abbrev pub without_last : List (Option E)
-  without_last = set cells (32 * b + last) None
+  -- the cells after the last entry has moved into the place of the removed entry
+  abbrev pub over_place : List (Option E)
+  over_place = set (set cells (32 * b + i) (get_or cells (32 * b + last) None)) (32 * b + last) None
 
-  abbrev pub over_place : E → List (Option E)
-  over_place y = set without_last (32 * b + i) (Some y)
+  abbrev at_place : List (Option E)
+  at_place = set cells (32 * b + i) (get_or cells (32 * b + last) None)
 
-  last-within : 32 * b + last < length cells
-  last-within = let s = kept.sized in let m = packed.most in omega arith
+  count_place : length at_place ≡ length cells
+  count_place = length-set cells (32 * b + i) (get_or cells (32 * b + last) None)
 
   clear : (p : ℕ) → (p < 32 * b) ⊎ (32 * b + 32 ≤ p) → (j : ℕ) → j < 32 → p ≢ 32 * b + j
   clear p o j h e = elim o [ inl l ↦ omega arith | inr l ↦ omega arith ]
 
-  module _ (is_last : i ≡ last) where
-    pub windows-last : windows (set rows b row_left) without_last ≡ set (windows rows cells) b window
-    windows-last = let m = packed.most in windows-swapped without_last (length-set cells (32 * b + last) None) (λ p o. get_or-set_other cells (32 * b + last) p None None (clear p o last (omega arith)))
-        (get_or-set_same cells (32 * b + last) None None last-within) (λ e. absurd (e is_last)) (λ j p q. get_or-set_other cells (32 * b + last) (32 * b + j) None None (λ e. q (omega arith)))
+  outside_over : (p : ℕ) → (p < 32 * b) ⊎ (32 * b + 32 ≤ p) → get_or over_place p None ≡ get_or cells p None
+  outside_over p o = let m = packed.most in
+      get_or-set_other at_place (32 * b + last) p None None (clear p o last (omega arith)) ∙ get_or-set_other cells (32 * b + i) p (get_or cells (32 * b + last) None) None (clear p o i (omega arith))
 
-    pub columns-last : IsColumns (set rows b row_left) without_last
-    columns-last = let m = packed.most in columns-swapped without_last (length-set cells (32 * b + last) None) (λ p o. get_or-set_other cells (32 * b + last) p None None (clear p o last (omega arith)))
-        (get_or-set_same cells (32 * b + last) None None last-within) (λ e. absurd (e is_last)) (λ j p q. get_or-set_other cells (32 * b + last) (32 * b + j) None None (λ e. q (omega arith)))
+  at_last_over : get_or over_place (32 * b + last) None ≡ None
+  at_last_over = let s = kept.sized in let m = packed.most in get_or-set_same at_place (32 * b + last) None None (omega (arith, count_place))
 
-  module _ (y : E) (moved : get_or cells (32 * b + last) None ≡ Some y) (not_last : i ≢ last) where
-    count_over : length (over_place y) ≡ length cells
-    count_over = length-set without_last (32 * b + i) (Some y) ∙ length-set cells (32 * b + last) None
+  at_place_over : i ≢ last → get_or over_place (32 * b + i) None ≡ get_or cells (32 * b + last) None
+  at_place_over n = let s = kept.sized in let m = packed.most in
+      get_or-set_other at_place (32 * b + last) (32 * b + i) None None (λ e. n (omega arith)) ∙ get_or-set_same cells (32 * b + i) (get_or cells (32 * b + last) None) None (omega arith)
 
-    outside_over : (p : ℕ) → (p < 32 * b) ⊎ (32 * b + 32 ≤ p) → get_or (over_place y) p None ≡ get_or cells p None
-    outside_over p o = let m = packed.most in get_or-set_other without_last (32 * b + i) p (Some y) None (clear p o i (omega arith)) ∙ get_or-set_other cells (32 * b + last) p None None (clear p o last (omega arith))
+  others_over : (j : ℕ) → j ≢ i → j ≢ last → get_or over_place (32 * b + j) None ≡ get_or cells (32 * b + j) None
+  others_over j p q =
+      get_or-set_other at_place (32 * b + last) (32 * b + j) None None (λ e. q (omega arith)) ∙ get_or-set_other cells (32 * b + i) (32 * b + j) (get_or cells (32 * b + last) None) None (λ e. p (omega arith))
 
-    at_last_over : get_or (over_place y) (32 * b + last) None ≡ None
-    at_last_over = get_or-set_other without_last (32 * b + i) (32 * b + last) (Some y) None (λ e. not_last (omega arith)) ∙ get_or-set_same cells (32 * b + last) None None last-within
+  pub windows-over : windows (set rows b row_left) over_place ≡ set (windows rows cells) b window
+  windows-over = windows-swapped over_place (length-set at_place (32 * b + last) None ∙ count_place) outside_over at_last_over at_place_over others_over
 
-    at_place_over : i ≢ last → get_or (over_place y) (32 * b + i) None ≡ get_or cells (32 * b + last) None
-    at_place_over e = let s = kept.sized in let m = packed.most in let n = length-set cells (32 * b + last) None in get_or-set_same without_last (32 * b + i) (Some y) None (omega arith) ∙ sym moved
-
-    others_over : (j : ℕ) → j ≢ i → j ≢ last → get_or (over_place y) (32 * b + j) None ≡ get_or cells (32 * b + j) None
-    others_over j p q = get_or-set_other without_last (32 * b + i) (32 * b + j) (Some y) None (λ e. p (omega arith)) ∙ get_or-set_other cells (32 * b + last) (32 * b + j) None None (λ e. q (omega arith))
-
-    pub windows-over : windows (set rows b row_left) (over_place y) ≡ set (windows rows cells) b window
-    windows-over = windows-swapped (over_place y) count_over outside_over at_last_over at_place_over others_over
-
-    pub columns-over : IsColumns (set rows b row_left) (over_place y)
-    columns-over = columns-swapped (over_place y) count_over outside_over at_last_over at_place_over others_over
+  pub columns-over : IsColumns (set rows b row_left) over_place
+  columns-over = columns-swapped over_place (length-set at_place (32 * b + last) None ∙ count_place) outside_over at_last_over at_place_over others_over

@@ -245,11 +245,7 @@ impl<E> Columns<E> {
         row[slot] = tag;
         row[last] = 0;
         let base = 32 * bucket;
-        let end = self.slots.take(base + last);
-        if slot == last {
-            return end;
-        }
-        self.slots.replace(base + slot, end)
+        self.slots.take_over(base + slot, base + last)
     }
 
     /// Takes the entry at `slot` out, and returns it. The entries after it move up by one slot.

@@ -10,6 +10,7 @@ pub mod Hinted
 pub mod Inserts
 pub mod KeyWrites
 pub mod Latest
+pub mod Lent
 pub mod Lookups
 pub mod MakingLemmas
 pub mod Mapped

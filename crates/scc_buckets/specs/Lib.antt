@@ -1,4 +1,5 @@
 pub mod Bounded
+pub mod Filling
 pub mod Insertions
 pub mod LendsBuckets
 pub mod Making

@@ -13,6 +13,7 @@ ghost use Rattle.std.specs.Prelude.{◌≡◌, ◌≤◌, ◌<◌, ◌+◌, ◌*
 
 mod bounded;
 mod cloning;
+mod filling;
 mod insert;
 mod lookup;
 mod make;
@@ -32,19 +33,18 @@ use scc_common::{Hashes, Keyed};
 use std::marker::Model;
 
 /// Entries with distinct keys, in buckets. A contract sees the list of each bucket, the number of buckets and the
-/// settings, by the words of `scc_common`. `scc_draining` fills a bucket of the array in place, so it may reach the
-/// array, the router and the two numbers.
+/// settings, by the words of `scc_common`.
 #[derive(Drop)]
 pub struct Buckets<E: Keyed, H: Hashes<E::Key>>
 where
     E::Key: Eq,
 {
-    pub router: Router<H>,
+    router: Router<H>,
     refused: bool,
     marked: bool,
-    pub buckets: Array<E>,
-    pub length: usize,
-    pub overflowing: usize,
+    buckets: Array<E>,
+    length: usize,
+    overflowing: usize,
     asked: usize,
     reserved: usize,
 }

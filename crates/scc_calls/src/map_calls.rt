@@ -1,9 +1,8 @@
 //! The calls of the owned map as values.
 ghost use Rattle.scc_calls.specs.Preparations.{MapPreparesCall, MapPreparesKey};
 
-use crate::map_copied;
 use crate::replies::{CopiesReply, clone_pair, copies, equals};
-use crate::{Calls, Copied, MapCall, Refused, Reply};
+use crate::{Calls, Copied, MapCall, Refused, Reply, map_copied};
 use scc_buckets::Place;
 use scc_common::{Hashes, InsertError, MakeError};
 use scc_owned::map::Owned;

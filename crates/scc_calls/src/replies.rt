@@ -111,10 +111,7 @@ pub(crate) fn clone_twice<X: Clone>(x: &X) -> Result<(X, X), Refused>
 }
 
 /// Returns `Reply::Exists(k, v)` with two copies. Fails if a clone is refused.
-pub(crate) fn exists_copied<K: Clone, V: Clone>(
-    k: K,
-    v: V,
-) -> Result<Copied<Reply<K, V>>, Refused>
+pub(crate) fn exists_copied<K: Clone, V: Clone>(k: K, v: V) -> Result<Copied<Reply<K, V>>, Refused>
     ensures reply { IfOk result (λ r. r.reply ≡ Exists k v) }
     ensures copies { IfOk result (λ r. ⟦<Reply<K, V> as Clone>⟧.is_clone (Exists k v) r.noted
         × ⟦<Reply<K, V> as Clone>⟧.is_clone (Exists k v) r.kept) }

@@ -1,4 +1,3 @@
 pub mod Lists
 pub mod RuleWalks
-pub mod Turned
 pub mod WalkLemmas

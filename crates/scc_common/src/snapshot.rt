@@ -4,6 +4,7 @@ ghost use Rattle.std.specs.Arc.{arc_value};
 ghost use Rattle.std.specs.Iterator.{YieldsFirstBy, item_count};
 
 use crate::{MakeError, Version};
+use std::collections::VecDeque;
 use std::iter::FusedIterator;
 use std::marker::Model;
 use std::sync::Arc;
@@ -12,16 +13,16 @@ use std::sync::Arc;
 /// changes. A contract sees their pairs, in the order in which they come.
 #[derive(Drop)]
 pub struct Iter<K, V> {
-    versions: Vec<Arc<Version<K, V>>>,
+    versions: VecDeque<Arc<Version<K, V>>>,
 }
 
 impl<K, V> Model for Iter<K, V> {
-    ghost use Rattle.std.specs.Prelude.{List, map, reverse};
+    ghost use Rattle.std.specs.Prelude.{List, map};
     ghost use Rattle.std.specs.Arc.{arc_value};
 
     ghost Value = { List (K × V) };
 
-    ghost view = { λ s. reverse (map arc_value s.versions.items) };
+    ghost view = { λ s. map arc_value s.versions.items };
 }
 
 impl<K: Drop, V: Drop> Iterator for Iter<K, V> {
@@ -33,7 +34,7 @@ impl<K: Drop, V: Drop> Iterator for Iter<K, V> {
 
     /// Returns the next version, or `None` after the last. Allocates nothing.
     fn next(&mut self) -> Option<Arc<Version<K, V>>> {
-        self.versions.pop()
+        self.versions.pop_front()
     }
 }
 
@@ -44,9 +45,9 @@ impl<K: Drop, V: Drop> Iter<K, V> {
     pub fn of(versions: Vec<Arc<Version<K, V>>>) -> Self
         ensures { result ≡ map arc_value versions.items }
     {
-        let mut versions = versions;
-        versions.reverse();
-        Iter { versions }
+        Iter {
+            versions: VecDeque::from_vec(versions),
+        }
     }
 
     /// Makes a snapshot of the versions that are still to come. Fails if memory is refused, or if a version has 2^63 -
@@ -70,6 +71,6 @@ impl<K: Drop, V: Drop> Iter<K, V> {
                 Err(_back) => return Err(MakeError),
             }
         }
-        Ok(Iter { versions })
+        Ok(Iter::of(versions))
     }
 }

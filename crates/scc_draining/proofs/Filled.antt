@@ -4,13 +4,15 @@ use Rattle.std.specs.List.{flat_map, IsDistinct}
 use Rattle.scc_array.specs.Shelf.{Shelf, empty_shelf, shelf_entries}
 use Rattle.scc_array.specs.Shelves.{shelf_of}
 use Rattle.scc_buckets.specs.Pour.{destined_for}
+use Rattle.scc_buckets.specs.Filling.{IsArrayOf, IsFilledArray}
+use Rattle.scc_buckets.specs.Routes.{Route, route_of}
 use Rattle.scc_buckets.specs.Tables.{IsBuckets}
 use Rattle.scc_buckets.proofs.Arrays.{shelf-at}
 use Rattle.scc_buckets.proofs.Inserts.{bucket-bound}
-use Rattle.scc_buckets.proofs.Views.{count-view, lists-view, settings-view, view_of}
-use Rattle.scc_common.specs.Contents.{Contents, Settings, bucket_count, hash_in, list_of, lists_of, settings_of, IsUniqueBy}
+use Rattle.scc_common.specs.Contents.{Contents, bucket_count, hash_in, list_of, lists_of, settings_of, IsUniqueBy}
 use Rattle.scc_draining.specs.Filling.{Fills}
-use Rattle.scc_draining.proofs.Arriving.{Landed, is-bare, list-were, landed-from, landed-list, landed-spilled, landed-table, distinct-landed, any-ok}
+use Rattle.scc_draining.specs.Moves.{IsDrainable}
+use Rattle.scc_draining.proofs.Arriving.{Landed, count-were, is-bare, list-were, landed-from, landed-list, landed-spilled, landed-table, distinct-landed, any-ok}
 use Rattle.scc_draining.proofs.Buckets.{still-within}
 
 -- the bucket i of the table bs held no entry, and is filled by the entries of olds that belong to it, so that the array
@@ -58,26 +60,50 @@ module _ {E X : Type 0} {hash : E → ℕ} {t i : ℕ} {bs olds news ns : List (
       (distinct-landed eq key c bs were i (shelf_of ns i) es (shelf_of bs i) x.within (shelf-at bs i x.within) x.bare (landed-list hash t i bs (shelf_of bs i) (flat_map shelf_entries olds) left (shelf_of ns i) landed-in) unique there)
 
 -- bs is the array of c, whose list i is empty
-module _ {E K S : Type 0} (hash_of : S → K → ℕ) (key : E → K) {c : Contents E S} {bs : List (Shelf E)} {s : Settings S} {f : Bool × Bool} (view : view_of f bs s ≡ c) {count over : ℕ} (table : IsBuckets (λ e. hash_of s.hasher (key e)) s.skipped bs count over) (i : ℕ) (target : i < bucket_count c) (none : list_of c i ≡ []) where
+module _ {E K S : Type 0} (eq : K → K → Bool) (hash_of : S → K → ℕ) (key : E → K) (c : Contents E S) {bs : List (Shelf E)} {count over : ℕ} (array : IsArrayOf eq key (λ e. hash_in hash_of c (key e)) c bs count over) (i : ℕ) (target : i < bucket_count c) (none : list_of c i ≡ []) where
   pub target-within : i < length bs
-  target-within = let n = count-view bs s c view in omega (arith, target, n)
+  target-within = let n = count-were c bs array.were in omega (arith, target, n)
 
   pub target-bare : shelf_entries (shelf_of bs i) ≡ []
-  target-bare = sym (list-were c bs (lists-view bs s c view) i (shelf_of bs i) target-within (shelf-at bs i target-within)) ∙ none
+  target-bare = sym (list-were c bs array.were i (shelf_of bs i) target-within (shelf-at bs i target-within)) ∙ none
 
   pub target-empty : shelf_of bs i ≡ record empty_shelf { room = (shelf_of bs i).room }
-  target-empty = is-bare (λ e. hash_of s.hasher (key e)) s.skipped i bs (shelf_of bs i) (table.own i (shelf_of bs i) target-within (shelf-at bs i target-within)) target-bare
+  target-empty = is-bare (λ e. hash_in hash_of c (key e)) (settings_of c).skipped i bs (shelf_of bs i) (array.table.own i (shelf_of bs i) target-within (shelf-at bs i target-within)) target-bare
 
-  pub target-filled : {X : Type 0} {n left coming : ℕ} {olds news ns : List (Shelf E)} {r : Result (Unit {0}) X} → n ≡ bucket_count c → length (destined_for (λ e. hash_in hash_of c (key e)) (settings_of c).skipped (bucket_count c) i (flat_map shelf_entries olds)) ≤ coming
-      → Fills (λ e. hash_of s.hasher (key e)) s.skipped n i coming left bs olds r ns news → IsFilled (λ e. hash_of s.hasher (key e)) s.skipped i bs olds news ns count over left coming r
-  target-filled {left = left} {coming = coming} {olds = olds} {news = news} {ns = ns} {r = r} size most fills =
-      let es = flat_map shelf_entries olds in
-      let counted = count-view bs s c view in
-      let made = subst (λ (z : Settings S). length (destined_for (λ e. hash_of z.hasher (key e)) z.skipped (bucket_count c) i es) ≤ coming) (settings-view bs s c view) most in
-      record {
-        table = table;
-        within = target-within;
-        bare = target-bare;
-        most = subst (λ m. length (destined_for (λ e. hash_of s.hasher (key e)) s.skipped m i es) ≤ coming) counted made;
-        fills = subst (λ m. Fills (λ e. hash_of s.hasher (key e)) s.skipped m i coming left bs olds r ns news) (size ∙ counted) fills;
-      }
+  module _ {X : Type 0} {n left coming : ℕ} {olds news ns : List (Shelf E)} {r : Result (Unit {0}) X} (size : n ≡ bucket_count c) (most : length (destined_for (λ e. hash_in hash_of c (key e)) (settings_of c).skipped (bucket_count c) i (flat_map shelf_entries olds)) ≤ coming)
+      (route : Route S) (at : route ≡ route_of c) (fills : Fills (λ e. hash_of route.hasher (key e)) route.skipped n i coming left bs olds r ns news) where
+    pub target-filled : IsFilled (λ e. hash_in hash_of c (key e)) (settings_of c).skipped i bs olds news ns count over left coming r
+    target-filled =
+        let counted = count-were c bs array.were in
+        let here : Fills (λ e. hash_in hash_of c (key e)) (settings_of c).skipped n i coming left bs olds r ns news = subst (λ (z : Route S). Fills (λ e. hash_of z.hasher (key e)) z.skipped n i coming left bs olds r ns news) at fills in
+        record {
+          table = array.table;
+          within = target-within;
+          bare = target-bare;
+          most = subst (λ m. length (destined_for (λ e. hash_in hash_of c (key e)) (settings_of c).skipped m i (flat_map shelf_entries olds)) ≤ coming) counted most;
+          fills = subst (λ m. Fills (λ e. hash_in hash_of c (key e)) (settings_of c).skipped m i coming left bs olds r ns news) (size ∙ counted) here;
+        }
+
+    -- the array is one of c with a filled bucket
+    pub array-filled : over + left < 2 ^ 62 → IsDistinct eq (map key (flat_map (λ l. l) (set (lists_of c) i (destined_for (λ e. hash_in hash_of c (key e)) (settings_of c).skipped (bucket_count c) i (flat_map shelf_entries olds)))))
+        → IsFilledArray eq key (λ e. hash_in hash_of c (key e)) c i count over ns
+    array-filled few distinct =
+        let there = subst (λ m. IsDistinct eq (map key (flat_map (λ l. l) (set (lists_of c) i (destined_for (λ e. hash_in hash_of c (key e)) (settings_of c).skipped m i (flat_map shelf_entries olds)))))) (count-were c bs array.were) distinct in
+        record {
+          within = within-filled target-filled;
+          table = table-filled target-filled few;
+          unique = distinct-filled target-filled eq key c array.were array.unique there;
+        }
+
+-- a route that is that of c says of entries what c says
+module _ {E K S : Type 0} (hash_of : S → K → ℕ) (key : E → K) (c : Contents E S) (route : Route S) (at : route ≡ route_of c) {n : ℕ} (size : n ≡ bucket_count c) (i : ℕ) (olds : List (Shelf E)) where
+  pub drainable-by : {first last : ℕ} {whole : Bool} → IsDrainable (λ e. hash_in hash_of c (key e)) (settings_of c).skipped (bucket_count c) i first last whole olds → IsDrainable (λ e. hash_of route.hasher (key e)) route.skipped n i first last whole olds
+  drainable-by {first} {last} {whole} h =
+      subst (λ (z : Route S). IsDrainable (λ e. hash_of z.hasher (key e)) z.skipped n i first last whole olds) (sym at)
+      (subst (λ m. IsDrainable (λ e. hash_in hash_of c (key e)) (settings_of c).skipped m i first last whole olds) (sym size) h)
+
+  pub coming-by : (coming : ℕ) → length (destined_for (λ e. hash_in hash_of c (key e)) (settings_of c).skipped (bucket_count c) i (flat_map shelf_entries olds)) ≤ coming
+      → length (destined_for (λ e. hash_of route.hasher (key e)) route.skipped n i (flat_map shelf_entries olds)) ≤ coming
+  coming-by coming h =
+      subst (λ (z : Route S). length (destined_for (λ e. hash_of z.hasher (key e)) z.skipped n i (flat_map shelf_entries olds)) ≤ coming) (sym at)
+      (subst (λ m. length (destined_for (λ e. hash_in hash_of c (key e)) (settings_of c).skipped m i (flat_map shelf_entries olds)) ≤ coming) (sym size) h)

@@ -212,11 +212,22 @@ impl Relocation {
         ensures { MovesTarget (λ e. hash_in H.hash_of current.old (E.key_of e))
             self.now.target coming aside current.old old.old result current.new old.new }
     {
-        let left = overflow_room(current.overflowing + aside);
-        let filled = self.fill(&current.router, old, &mut current.buckets, coming, left);
-        let moved = current.buckets.bucket_len(self.target);
-        current.length += moved;
-        current.overflowing += current.buckets.overflow_len(self.target);
+        let left = overflow_room(current.overflow_len() + aside);
+        let fill = |router: &Router<H>, into: &mut Array<E>, from: &mut Array<E>| -> Result<
+            (),
+            AllocError,
+        >
+            requires drainable { IsDrainable (λ e. H.hash_of router.now.hasher (E.key_of e))
+                router.now.skipped self.now.count self.now.target self.now.first self.now.last self.now.whole from.old }
+            requires target { self.now.target < length into.old }
+            requires empty { shelf_of into.old self.now.target
+                ≡ record empty_shelf { room = (shelf_of into.old self.now.target).room } }
+            requires coming { length (destined_for (λ e. H.hash_of router.now.hasher (E.key_of e))
+                router.now.skipped self.now.count self.now.target (flat_map shelf_entries from.old)) ≤ coming }
+            ensures { Fills (λ e. H.hash_of router.now.hasher (E.key_of e)) router.now.skipped
+                self.entry.now.count self.entry.now.target coming left into.old from.old result into.new from.new }
+        { self.fill(router, from, into, coming, left) };
+        let (filled, moved) = current.fill_by(self.target, old, fill);
         match filled {
             Ok(()) => Ok(moved),
             Err(e) => Err(e),

@@ -3,14 +3,14 @@
 
 pub mod borrowed;
 mod calls;
-mod held;
+mod clone_and_eq;
+mod entry_calls;
 mod hinted;
 pub mod locked;
 mod make;
 mod places;
 mod snapshots;
 mod walk;
-mod whole;
 
 pub use crate::Index as Owned;
 pub use crate::held::{HeldEntry, HeldOccupied, HeldVacant};

@@ -2,13 +2,13 @@
 
 pub mod borrowed;
 mod calls;
-mod held;
+mod clone_and_eq;
+mod entry_calls;
 mod hinted;
 pub mod locked;
 mod make;
 mod places;
 pub mod walk;
-mod whole;
 
 pub use crate::Map as Owned;
 pub use crate::held::{HeldEntry, HeldOccupied, HeldReplace, HeldVacant};

@@ -2,7 +2,7 @@
 //! invariant of each entry, as in `ruled_map`.
 
 mod calls;
-mod held;
+mod entry_calls;
 pub mod locked;
 mod places;
 mod snapshots;

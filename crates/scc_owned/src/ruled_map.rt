@@ -3,7 +3,7 @@
 //! that it does. A contract says it of a pair that the call has read: behind a lock it knows the type of the map alone.
 
 mod calls;
-mod held;
+mod entry_calls;
 pub mod locked;
 mod places;
 mod walk;

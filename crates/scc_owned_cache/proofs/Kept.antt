@@ -13,7 +13,7 @@ use Rattle.scc_table.specs.Places.{spot_of}
 use Rattle.scc_owned_cache.specs.CacheSteps.{IsAbsent, IsLastAt, IsPresent, PutsNew, list_number}
 use Rattle.scc_owned_cache.specs.Caches.{Cached}
 use Rattle.scc_owned_cache.specs.Evictions.{IsEvictedFor}
-use Rattle.scc_owned_cache.specs.KeyCalls.{Recalls, put, refused as refuse}
+use Rattle.scc_owned_cache.specs.KeyCalls.{Recalls, RecallsCloned, dropped, put, refused as refuse, stored}
 use Rattle.scc_owned_cache.specs.ListSteps.{PutsPair}
 use Rattle.scc_owned_cache.proofs.Replies.{there-equal}
 
@@ -78,3 +78,9 @@ pub recalls-made : {K V S : Type 0} (hash : K → ℕ) (eq : K → K → Bool) (
     → Recalls hash eq Made c k v d
 recalls-made hash eq Made c k v d (Ok x) absent made puts refused = put x.0 made (absent, puts)
 recalls-made hash eq Made c k v d (Err p) absent made puts refused = refuse made (refl, absent, refused.1, refused.2)
+
+-- a clone of a value that was made is returned; the value is put in, or memory for a first array is refused
+pub recalls-clone : {K V S : Type 0} (hash : K → ℕ) (eq : K → K → Bool) (C : V → V → Type 0) (Sure : V → Type 0) (Made : V → Type 0) (c : Cached (K × V) S) (k : K) (w v : V) (d : Cached (K × V) S) (r : Result (Option (K × V) × Place) (K × V)) → IsAbsent hash eq c.contents k → Made w → C w v → IfOk r (λ x. PutsNew hash eq c (k, w) x.0 d)
+    → IfErr r (λ p. (p ≡ (k, w)) × (bucket_count c.contents ≡ 0) × (d ≡ c)) → RecallsCloned hash eq C Sure Made c k v d
+recalls-clone hash eq C Sure Made c k w v d (Ok x) absent made clone puts refused = stored w x.0 made clone (absent, puts)
+recalls-clone hash eq C Sure Made c k w v d (Err p) absent made clone puts refused = dropped w made clone (refl, absent, refused.1, refused.2)

@@ -1,7 +1,7 @@
 -- What the calls by key that change a cache do to it, in one word a call. `hash_of` gives the hash of a key under a
 -- hasher.
 use Rattle.std.specs.Prelude.{◌≡◌, ℕ, ◌<◌, Bool, Option, None, Result, Ok, Err, IsOk, IfOk, OnOk, OnSome}
-use Rattle.std.specs.Borrow.{MutBor}
+use Rattle.std.specs.Borrow.{Bor, MutBor}
 use Rattle.std.specs.Fn.{Once}
 use Rattle.scc_common.specs.Contents.{entries, bucket_count, hash_in, waiting_of, IsUnmarked}
 use Rattle.scc_common.specs.Pairs.{find, FindsInstead}
@@ -65,3 +65,36 @@ pub data Recalls {K V S : Type 0} (hash : K → ℕ) (eq : K → K → Bool) (Ma
   put : (x : Option (K × V)) → Made v → Puts hash eq c (k, v) (Ok x) d → Recalls hash eq Made c k v d
   -- k was missing, v was made, and memory for a first array was refused
   refused : Made v → Puts hash eq c (k, v) (Err (Memory (k, v))) d → Recalls hash eq Made c k v d
+
+-- What a call that returns a clone of a value may do. `C v w` says that w may be a clone of v, and `Sure v` that memory
+-- for a clone of v is not refused.
+module _ {K V S : Type 0} (hash : K → ℕ) (eq : K → K → Bool) (C : V → V → Type 0) (Sure : V → Type 0) where
+  -- the contract of a call that returns a clone of the value of k, or of one that it makes, of which `Made` holds: it
+  -- returns v, and turns c into d
+  pub data RecallsCloned (Made : V → Type 0) (c : Cached (K × V) S) (k : K) (v : V) (d : Cached (K × V) S) : Type 0 where
+    -- v is a clone of the value of k, whose pair moved to the end of its list
+    cloned : (at : Place) (s : IsLastAt hash eq c k d at) → C s.pair.1 v → RecallsCloned Made c k v d
+    -- the pair of k moved to the end of its list, memory for a clone of its value was refused, and v was made
+    again : (at : Place) (s : IsLastAt hash eq c k d at) → (Sure s.pair.1 → ⊥) → Made v → RecallsCloned Made c k v d
+    -- k was missing, w was made and put in, and v is a clone of it
+    stored : (w : V) (x : Option (K × V)) → Made w → C w v → Puts hash eq c (k, w) (Ok x) d → RecallsCloned Made c k v d
+    -- k was missing, w was made, v is a clone of it, and memory for a first array was refused
+    dropped : (w : V) → Made w → C w v → Puts hash eq c (k, w) (Err (Memory (k, w))) d → RecallsCloned Made c k v d
+    -- k was missing, v was made, and memory for its clone was refused, so nothing changed
+    unstored : Made v → (Sure v → ⊥) → IsAbsent hash eq c.contents k → d ≡ c → RecallsCloned Made c k v d
+
+  -- what such a call leaves if no value can be made
+  pub data FailsToRecall (c : Cached (K × V) S) (k : K) (d : Cached (K × V) S) : Type 0 where
+    -- k was missing, and nothing changed
+    missing : IsAbsent hash eq c.contents k → d ≡ c → FailsToRecall c k d
+    -- the pair of k moved to the end of its list, and memory for a clone of its value was refused
+    uncloned : (at : Place) (s : IsLastAt hash eq c k d at) → (Sure s.pair.1 → ⊥) → FailsToRecall c k d
+
+-- The pair of k moved to the end of its list, which turned c into d, and a call of f on it returned r.
+pub record RefreshesAndReads {K V S F R : Type 0} (hash : K → ℕ) (eq : K → K → Bool) (g : Once F (Bor K × (Bor V × Unit {0})) R) (f : F) (c : Cached (K × V) S) (k : K) (r : R) (d : Cached (K × V) S) : Type 0 where
+  pub place : Place
+  pub last : IsLastAt hash eq c k d place
+  pub key : Bor K
+  pub value : Bor V
+  pub shows : last.pair ≡ (key.now, value.now)
+  pub met : g.post f (key, (value, tt)) r

@@ -12,17 +12,17 @@ ghost use Rattle.std.specs.Fn.{FnOnceReturnsAtMut, FnOnceTakesAtMut};
 ghost use Rattle.std.specs.Prelude.{◌≡◌, ◌≤◌, ◌*◌, ◌↔◌, Bool, [], length, IfOk, IfSome, IsTrue, MatchOption};
 
 pub mod borrowed;
+mod clone_and_eq;
+mod getting;
 pub mod held;
 mod hinted;
 mod lent;
 pub mod locked;
 mod make;
-mod making;
 mod part;
 mod places;
 mod prepare;
 mod walk;
-mod whole;
 
 pub use borrowed::{Entry, OccupiedEntry, ReplaceResult, VacantEntry};
 use scc_common::{Anything, Hashes, InsertError, Rule, Ruled};

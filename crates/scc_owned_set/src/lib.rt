@@ -2,9 +2,9 @@
 #![tactic(auto)]
 
 ghost use Rattle.scc_common.specs.Contents.{entries, bucket_count, settings_of, notes_of, waiting_of, hash_in, note_of, without_mark};
-ghost use Rattle.scc_common.specs.Pairs.{IsUnique as IsUniqueMap};
-ghost use Rattle.scc_common.specs.Pairs.{find as find_pair};
+ghost use Rattle.scc_common.specs.Pairs.{find as find_pair, FindsInstead as FindsPairInstead, HasRoom as HasRoomForPair, IsUnique as IsUniqueMap};
 ghost use Rattle.scc_common.specs.Steps.{HoldsExactly};
+ghost use Rattle.scc_owned.specs.MapSteps.{Inserts as InsertsPair};
 ghost use Rattle.scc_owned.specs.Rooms.{MakesRoom};
 ghost use Rattle.scc_owned_set.specs.Keys.{find, with_key, FindsInstead, HasRoom, IsUnique};
 ghost use Rattle.scc_owned_set.specs.SetSteps.{Inserts, Reads, Removes, RemovesIf, Replaces};
@@ -17,17 +17,16 @@ ghost use Rattle.std.specs.Result.{OnErr, OnOk};
 ghost use Rattle.scc_table.specs.Arrays.{GrowsByRule, ShrinksByRule};
 ghost use Rattle.scc_table.specs.Places.{IsFoundAt};
 
+mod clone_and_eq;
 pub mod entry;
 mod key_places;
 mod make;
 mod sizes;
 mod walk;
-mod whole;
 
 pub use entry::{OccupiedEntry, Removed};
 use scc_buckets::Place;
 use scc_common::{Hashes, InsertError, KeyError, MakeError};
-use scc_owned::map::borrowed::ReplaceResult;
 use std::hash::{BuildHasher, BuildHasherDefault, FoldHasher, Hash};
 use std::marker::Model;
 
@@ -179,9 +178,10 @@ impl<K: Eq + Hash, H: BuildHasher> Owned<K, H> {
         ensures unique { IsUnique K.eq self.new }
         ensures array { GrowsByRule (λ q. q) (hash_in ⟦<H as Hashes<K>>⟧.hash_of self.old) (find K.eq (entries self.old) k) self.old k result self.new }
     {
-        match self.swap_key(k) {
+        let hash = self.map.hash_of(&k);
+        match self.swap_key(hash, k) {
             Ok(old) => Ok(Some(old)),
-            Err(key) => match self.insert_sync(key) {
+            Err(key) => match self.insert_missing(hash, key) {
                 Ok(()) => Ok(None),
                 Err(e) => Err(e),
             },
@@ -189,8 +189,10 @@ impl<K: Eq + Hash, H: BuildHasher> Owned<K, H> {
     }
 
     /// Puts `k` in the place of the key that equals it, and returns the old key. If no key equals `k`, returns `k`, as
-    /// an `Err`.
-    pub(crate) fn swap_key(&mut self, k: K) -> Result<K, K>
+    /// an `Err`. `hash` must be the hash of `k`.
+    #[inline(always)]
+    fn swap_key(&mut self, hash: u64, k: K) -> Result<K, K>
+        requires { hash ≡ hash_in ⟦<H as Hashes<K>>⟧.hash_of self.old k }
         ensures swapped { IfOk result (λ old. (find K.eq (entries self.old) k ≡ Some old)
             × HoldsExactly self.old (with_key K.eq (entries self.old) k) self.new
             × FindsInstead K.eq (entries self.old) k (Some k) (entries self.new)) }
@@ -200,7 +202,22 @@ impl<K: Eq + Hash, H: BuildHasher> Owned<K, H> {
             × (self.new ≡ self.old)) }
         ensures unique { IsUnique K.eq self.new }
     {
-        swap_in_map(&mut self.map, k)
+        swap_in_map(&mut self.map, hash, k)
+    }
+
+    /// Inserts a key that is missing, as `insert_sync` does. `hash` must be the hash of `k`.
+    #[inline(always)]
+    fn insert_missing(&mut self, hash: u64, k: K) -> Result<(), KeyError<K>>
+        requires hashed { hash ≡ hash_in ⟦<H as Hashes<K>>⟧.hash_of self.old k }
+        requires absent { find K.eq (entries self.old) k ≡ None }
+        ensures step { Inserts K.eq (hash_in ⟦<H as Hashes<K>>⟧.hash_of self.old) self.old k result self.new }
+        ensures succeeds { HasRoom (hash_in ⟦<H as Hashes<K>>⟧.hash_of self.old) self.old k → IsOk result }
+        ensures finds { OnOk result (FindsInstead K.eq (entries self.old) k (Some k) (entries self.new)) }
+        ensures same { OnErr result ((q : K) → find K.eq (entries self.new) q ≡ find K.eq (entries self.old) q) }
+        ensures unique { IsUnique K.eq self.new }
+        ensures array { GrowsByRule (λ q. q) (hash_in ⟦<H as Hashes<K>>⟧.hash_of self.old) (find K.eq (entries self.old) k) self.old k result self.new }
+    {
+        key_answer(insert_in_map(&mut self.map, hash, k))
     }
 
     /// Calls `f` if a key equals `k`. If `f` returns true, removes the key that equals `k` and returns it. If `f`
@@ -249,11 +266,14 @@ fn key_answer<K, R>(answer: Result<R, InsertError<K, ()>>) -> Result<R, KeyError
 }
 
 /// Puts `k` in the place of the map's key that equals it, and returns the old key. If no key equals `k`, returns `k`,
-/// as an `Err`.
+/// as an `Err`. `hash` must be the hash of `k`.
+#[inline(always)]
 fn swap_in_map<K: Eq + Hash, H: BuildHasher>(
     map: &mut scc_owned::map::Owned<K, (), H>,
+    hash: u64,
     k: K,
 ) -> Result<K, K>
+    requires { hash ≡ hash_in ⟦<H as Hashes<K>>⟧.hash_of map.old k }
     ensures swapped { IfOk result (λ old. (find_pair K.eq (entries map.old) k ≡ Some (old, tt))
         × HoldsExactly map.old (set_key (K.eq k) (entries map.old) k) map.new) }
     ensures noted { notes_of map.new ≡ notes_of map.old }
@@ -261,9 +281,32 @@ fn swap_in_map<K: Eq + Hash, H: BuildHasher>(
     ensures missing { IfErr result (λ q. (q ≡ k) × (find_pair K.eq (entries map.old) k ≡ None) × (map.new ≡ map.old)) }
     ensures unique { IsUniqueMap K.eq map.new }
 {
-    match map.replace_sync(k) {
-        ReplaceResult::Replaced(_entry, old) => Ok(old),
-        ReplaceResult::NotReplaced(vacant) => Err(vacant.into_key()),
+    match map.place_of(hash, &k) {
+        Some(place) => Ok(map.replace_key_at(place, k)),
+        None => Err(k),
+    }
+}
+
+/// Inserts a key that the map lacks, as `insert_sync` does. `hash` must be the hash of `k`.
+#[inline(always)]
+fn insert_in_map<K: Eq + Hash, H: BuildHasher>(
+    map: &mut scc_owned::map::Owned<K, (), H>,
+    hash: u64,
+    k: K,
+) -> Result<(), InsertError<K, ()>>
+    requires hashed { hash ≡ hash_in ⟦<H as Hashes<K>>⟧.hash_of map.old k }
+    requires absent { find_pair K.eq (entries map.old) k ≡ None }
+    ensures step { InsertsPair K.eq (hash_in ⟦<H as Hashes<K>>⟧.hash_of map.old) map.old (k, tt) result map.new }
+    ensures succeeds { HasRoomForPair (hash_in ⟦<H as Hashes<K>>⟧.hash_of map.old) map.old k → IsOk result }
+    ensures finds { OnOk result (FindsPairInstead K.eq (entries map.old) k (Some (k, tt)) (entries map.new)) }
+    ensures same { OnErr result ((q : K) → find_pair K.eq (entries map.new) q ≡ find_pair K.eq (entries map.old) q) }
+    ensures unique { IsUniqueMap K.eq map.new }
+    ensures array { GrowsByRule (λ p. p.0) (hash_in ⟦<H as Hashes<K>>⟧.hash_of map.old)
+        (find_pair K.eq (entries map.old) k) map.old k result map.new }
+{
+    match map.insert_new(hash, k, ()) {
+        Ok(_) => Ok(()),
+        Err(pair) => Err(InsertError::Memory(pair)),
     }
 }
 

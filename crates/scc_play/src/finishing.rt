@@ -13,9 +13,9 @@ ghost use Rattle.scc_play.specs.Played.{IsPlayed};
 ghost use Rattle.scc_play.specs.Telling.{AreTold};
 
 use crate::ends::{Cause, End};
+use crate::finished_text::whole_text;
 use crate::printed::Printed;
 use crate::receipts::{calls_of, replies_of};
-use crate::whole::whole_text;
 use scc_recorded::{Closed, FinishError, Pass, Site};
 use scc_script::line::WorkerCall;
 use std::alloc::{AllocError, Global};

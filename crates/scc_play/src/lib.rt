@@ -5,6 +5,7 @@
 #![tactic(auto)]
 
 pub mod ends;
+mod finished_text;
 pub mod finishing;
 mod kinds;
 pub mod play;
@@ -12,5 +13,4 @@ pub mod printed;
 pub mod reasons;
 mod receipts;
 pub mod texts;
-mod whole;
 mod worker;

@@ -12,6 +12,7 @@ ghost use Rattle.scc_recorded.specs.Adds.{MayAnswer};
 ghost use Rattle.std.specs.List.{range_with_len};
 ghost use Rattle.std.specs.Prelude.{◌≡◌, ◌<◌, ◌⊎◌, Err, IfOk, OnErr, IsSome, Some, map, vec_len};
 
+mod all_stripes;
 mod auditing;
 mod checks;
 mod closing;
@@ -20,7 +21,6 @@ mod finishing;
 mod opening;
 mod passes;
 mod setups;
-mod whole;
 
 use crate::closing::StripeRoom;
 use crate::counted::{Count, PartCount};

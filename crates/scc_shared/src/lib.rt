@@ -8,6 +8,7 @@ ghost use Rattle.scc_stripes.specs.Sizes.{IsBitsAsked};
 ghost use Rattle.scc_stripes.specs.Stripes.{stripe_bits};
 ghost use Rattle.std.specs.Prelude.{◌≡◌, IfOk};
 
+mod all_stripes;
 mod entries;
 mod getting;
 pub mod index;
@@ -17,7 +18,6 @@ pub mod ruled_index;
 pub mod ruled_map;
 mod sizes;
 mod unlocked;
-mod whole;
 
 pub use paired::Paired;
 use scc_common::{Keyed, MakeError, Shared};

@@ -5,13 +5,13 @@
 ghost use Rattle.std.specs.Prelude.{◌≡◌, ℕ, max, IfOk};
 ghost use Rattle.scc_common.specs.Sizes.{IsArraySize};
 
+mod all_stripes;
 mod calls;
 mod entries;
-mod making;
+mod getting;
 pub mod ruled;
 mod sizes;
 mod walks;
-mod whole;
 
 use scc_buckets::sizes::slots_for;
 use scc_common::{Anything, MakeError, Rule, Shared, Under};

@@ -7,12 +7,12 @@ ghost use Rattle.scc_stripes.specs.Sizes.{IsBitsAsked};
 ghost use Rattle.scc_stripes.specs.Stripes.{stripe_bits};
 ghost use Rattle.std.specs.Prelude.{◌≡◌, IfOk};
 
+mod all_stripes;
 mod calls;
 mod entries;
 pub mod ruled;
 mod sizes;
 mod walks;
-mod whole;
 
 pub use entries::{HeldKey, OccupiedEntry};
 pub use ruled::RuledSet;

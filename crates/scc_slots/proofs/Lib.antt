@@ -1,4 +1,5 @@
 pub mod Crossing
 pub mod Drained
+pub mod Moved
 pub mod Places
 pub mod Shown

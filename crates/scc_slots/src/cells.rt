@@ -6,7 +6,6 @@ ghost use Rattle.std.specs.Prelude.{◌≡◌, ◌^◌, ◌<◌, [], List, Optio
 use crate::row::{Right, Row, Start, end_row, give_back, no_cells, nowhere, obtain};
 use std::alloc::{AllocError, Global};
 use std::marker::Model;
-use std::mem;
 use std_alloc::room::may_hold;
 
 /// A block of cells. Without cells, there is no block. `Cells` drops no entry: all cells must be free before the block
@@ -94,6 +93,18 @@ impl<E> Cells<E> {
         self.row.take(self.start, cell)
     }
 
+    /// Takes the entry out of `cell`, and moves the entry of the cell `from` there. The cell `from`, which may be the
+    /// same cell, is free then.
+    #[inline(always)]
+    pub fn take_over(&mut self, cell: usize, from: usize) -> E
+        requires cell { IsFilled self.old cell }
+        requires from { IsFilled self.old from }
+        ensures entry { slice_index_or self.old cell None ≡ Some result }
+        ensures cells { self.new ≡ slice_set (slice_set self.old cell (slice_index_or self.old from None)) from None }
+    {
+        self.row.take_over(self.start, cell, from)
+    }
+
     /// Returns the entry of `cell`.
     #[inline(always)]
     pub fn get(&self, cell: usize) -> &E
@@ -111,16 +122,6 @@ impl<E> Cells<E> {
         ensures entry { slice_index_or self.old cell None ≡ Some result.now }
     {
         self.row.get_mut(self.start, cell)
-    }
-
-    /// Writes `entry` over the entry of `cell`, and returns the old entry.
-    #[inline(always)]
-    pub fn replace(&mut self, cell: usize, entry: E) -> E
-        requires { IsFilled self.old cell }
-        ensures entry { slice_index_or self.old cell None ≡ Some result }
-        ensures cells { self.new ≡ slice_set self.old cell (Some entry) }
-    {
-        mem::replace(self.row.get_mut(self.start, cell), entry)
     }
 
     /// Moves the entry of the cell `from` to the free cell `to`.

@@ -153,6 +153,22 @@ impl<E> Row<E> {
         unsafe { start.first.add(cell).read() }
     }
 
+    /// Takes the entry out of `cell`, and moves the entry of the cell `from` there. The cell `from`, which may be the
+    /// same cell, is free then.
+    pub(crate) fn take_over(&mut self, start: Start<E>, cell: usize, from: usize) -> E
+        requires { (start.first ≡ self.old.start) × IsFilled self.old.cells cell × IsFilled self.old.cells from }
+        ensures entry { slice_index_or self.old.cells cell None ≡ Some result }
+        ensures cells { (self.new.start ≡ self.old.start) × (self.new.cells
+            ≡ slice_set (slice_set self.old.cells cell (slice_index_or self.old.cells from None)) from None) }
+    {
+        unsafe {
+            let entry = start.first.add(cell).read();
+            let moved = start.first.add(from).read();
+            start.first.cast_mut().add(cell).write(moved);
+            entry
+        }
+    }
+
     /// Returns the entry of `cell`.
     pub(crate) fn get(&self, start: Start<E>, cell: usize) -> &E
         requires { (start.first ≡ self.now.start) × IsFilled self.now.cells cell }

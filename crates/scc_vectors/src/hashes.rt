@@ -1,8 +1,7 @@
-// How often a call of a shared container hashes its key. A contract sees answers, and no hash.
+// How often a call of a container hashes its key. A contract sees answers, and no hash.
 use crate::expect::{expect, expect_eq};
-use scc::hash_map::Owned;
 use scc::recorded::{Calls, MapCall};
-use scc::{HashIndex, HashMap};
+use scc::{HashIndex, HashMap, hash_map, hash_set};
 use std::alloc::{AllocError, Global};
 use std::hash::BuildHasher;
 use std::sync::atomic::{AtomicU64, Ordering};
@@ -109,7 +108,7 @@ fn an_index_hashes_a_present_key_once(rt: HostRuntime) {
 
 /// Returns the hashes of a call as a stripe of a recorded map makes it.
 fn on_a_stripe(
-    map: &mut Owned<u64, u64, Counting>,
+    map: &mut hash_map::Owned<u64, u64, Counting>,
     call: MapCall<u64, u64>,
     built: &AtomicU64,
 ) -> u64 {
@@ -123,7 +122,7 @@ fn on_a_stripe(
 fn a_recorded_call_is_hashed_once_in_its_stripe(rt: HostRuntime) {
     match shared_hasher(rt.alloc()) {
         Ok((hasher, built)) => {
-            let mut map = Owned::with_hasher(rt.alloc(), hasher);
+            let mut map = hash_map::Owned::with_hasher(rt.alloc(), hasher);
             let new = on_a_stripe(&mut map, MapCall::Insert(7, 0), &*built);
             let again = on_a_stripe(&mut map, MapCall::Insert(7, 1), &*built);
             let upsert = on_a_stripe(&mut map, MapCall::Upsert(7, 2), &*built);
@@ -136,6 +135,21 @@ fn a_recorded_call_is_hashed_once_in_its_stripe(rt: HostRuntime) {
                 [new, again, upsert, replace, read, contains, remove],
                 [1; 7],
             );
+        }
+        Err(_) => expect(&rt, false),
+    }
+}
+
+/// A replacement inserts a missing key where its search ended, so it hashes a key once, missing or present.
+#[test]
+fn a_replaced_key_of_an_owned_set_is_hashed_once(rt: HostRuntime) {
+    match shared_hasher(rt.alloc()) {
+        Ok((hasher, built)) => {
+            let mut set = hash_set::Owned::with_hasher(rt.alloc(), hasher);
+            let new = set.replace_sync(7u64).is_ok();
+            let missing = since(&*built);
+            let old = set.replace_sync(7).is_ok();
+            expect_eq(&rt, (new, missing, old, since(&*built)), (true, 1, true, 1));
         }
         Err(_) => expect(&rt, false),
     }

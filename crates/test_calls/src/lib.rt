@@ -6,6 +6,8 @@ mod caches;
 #[cfg(test)]
 mod closures;
 #[cfg(test)]
+mod containers;
+#[cfg(test)]
 mod entries;
 #[cfg(test)]
 mod expect;
@@ -15,5 +17,3 @@ mod growth;
 mod rooms;
 #[cfg(test)]
 mod rows;
-#[cfg(test)]
-mod whole;

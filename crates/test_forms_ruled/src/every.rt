@@ -1,6 +1,6 @@
 //! A case, tried in every kind and form of container.
 
-use crate::held::Held;
+use crate::with_runtime::Held;
 use scc_common::Anything;
 use scc_shared::ruled_index::RuledIndex;
 use scc_shared::ruled_map::RuledMap;

@@ -2,4 +2,4 @@
 #![tactic(auto)]
 
 pub mod every;
-pub mod held;
+pub mod with_runtime;

@@ -1,6 +1,6 @@
 //! A case, tried in every kind and form of container.
 
-use crate::held::Held;
+use crate::with_runtime::Held;
 use scc_shared::index::HashIndex;
 use scc_shared::map::HashMap;
 use scc_shared_cache::HashCache;

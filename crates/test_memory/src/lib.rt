@@ -6,6 +6,8 @@
 #[cfg(test)]
 mod clones;
 #[cfg(test)]
+mod constructors;
+#[cfg(test)]
 mod copies;
 #[cfg(test)]
 mod crowds;
@@ -17,8 +19,6 @@ mod insertions;
 mod looks;
 #[cfg(test)]
 mod makers;
-#[cfg(test)]
-mod making;
 #[cfg(test)]
 mod meetings;
 #[cfg(test)]

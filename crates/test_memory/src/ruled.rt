@@ -1,9 +1,9 @@
 // The kinds under a rule, in the cases of the other forms.
+use crate::constructors::expect_made;
 use crate::copies::{Copying, Snapshot, expect_job};
 use crate::crowds::Crowd;
 use crate::insertions::{Failing, SOME, State, expect_insertions};
 use crate::makers::{Of, with};
-use crate::making::expect_made;
 use crate::removals::expect_shrinks;
 use crate::reservations::{Greatest, Reservation};
 use crate::versions::{Change, Changing};

@@ -10,7 +10,7 @@ use std::io::Print;
 use std::process::Abort;
 use std::sync::Wait;
 use test_forms::token::Token;
-use test_forms_ruled::held::Held;
+use test_forms_ruled::with_runtime::Held;
 use test_kit::masked::{Masked, ZERO};
 use test_kit::refusals::Refusal;
 

@@ -17,8 +17,8 @@ use test_forms::form::Form;
 use test_forms::list::List;
 use test_forms::numbered::Seen;
 use test_forms::token::Token;
-use test_forms_ruled::held::Held as RuledHeld;
-use test_forms_shared::held::Held;
+use test_forms_ruled::with_runtime::Held as RuledHeld;
+use test_forms_shared::with_runtime::Held;
 use test_kit::lines::say;
 use test_kit::masked::{Masked, SAME};
 

@@ -5,21 +5,21 @@
 //! none of these, and 3 if memory was refused or a line could not be written.
 #![tactic(auto)]
 
+mod arguments;
 mod called;
 mod counted;
 mod finished;
 mod kinds;
 mod phases;
 mod plain;
-mod request;
 mod rounds;
 mod ruled;
 mod tally;
 mod turns;
 mod workers;
 
+use arguments::{Request, parse_request};
 use phases::run_phases;
-use request::{Request, parse_request};
 use rounds::soak;
 use std::alloc::AllocError;
 use std::process::ExitCode;

@@ -1,8 +1,8 @@
 //! Rounds of calls on each kind of container, in which the keys that went in and came out must add up.
 
+use crate::arguments::Request;
 use crate::called::{Cache, Called, Index, Map, Set};
 use crate::counted::Counts;
-use crate::request::Request;
 use crate::ruled::{Cache as RuledCache, Index as RuledIndex, Map as RuledMap, Set as RuledSet};
 use crate::tally::{Tally, draw_call};
 use std::alloc::Global;

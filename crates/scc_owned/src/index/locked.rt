@@ -1,6 +1,6 @@
 //! The entries of a locked stripe of an index. An entry holds the lock of its stripe as long as the entry lives.
 
-mod making;
+mod from_guard;
 mod methods;
 pub mod walk;
 

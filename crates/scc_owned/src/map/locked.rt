@@ -1,7 +1,7 @@
 //! The entries of a locked stripe of a map. An entry holds the lock of its stripe as long as the entry lives.
 
+mod from_guard;
 mod insertions;
-mod making;
 mod methods;
 pub mod walk;
 

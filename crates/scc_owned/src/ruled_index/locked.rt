@@ -1,7 +1,7 @@
 //! The entries of a locked stripe of an index under a rule. An entry holds the lock of its stripe as long as the entry
 //! lives.
 
-mod making;
+mod from_guard;
 mod methods;
 
 use crate::locked as generic;

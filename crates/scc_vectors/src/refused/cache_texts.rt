@@ -1,7 +1,7 @@
 // A recorded cache of numbers and texts. A put copies the pair that it evicts before it changes anything, so a put
 // whose copy is refused evicts nothing.
 use crate::expect::{expect, expect_eq};
-use crate::refused::opened::{Trial, outlast};
+use crate::refused::opened::{Lends, LentTrial, outlast};
 use crate::refused::texts::text;
 use scc::hash_cache::Owned;
 use scc::recorded::{CacheCall, CallError, Pass, Recorded, Reply, Shared, Site};
@@ -131,7 +131,7 @@ fn expect_first<L: Ledger, M: Site<Shared<Zero>>, R: Abort + Print + Wait>(
 #[derive(Drop)]
 struct Puts;
 
-impl Trial<Names> for Puts {
+impl LentTrial<Names> for Puts {
     fn hasher(hasher: Shared<Zero>) -> Shared<Zero> {
         hasher
     }
@@ -139,21 +139,17 @@ impl Trial<Names> for Puts {
     fn run<L: Ledger, M: Site<Shared<Zero>>, R: AllocGlobal + Abort + Print + Wait>(
         rt: &R,
         refusal: &mut Refusal,
-        opened: &mut Option<(Recorded<Names, L, M>, Vec<Pass<Names, L>>)>,
+        recorded: &Recorded<Names, L, M>,
+        pass: &mut Pass<Names, L>,
     ) {
-        let Some((recorded, handed)) = opened.take() else {
-            return expect(rt, false);
-        };
-        for mut pass in handed {
-            for key in 0..33 {
-                expect_put(rt, refusal, &recorded, &mut pass, key);
-            }
-            expect_eq(rt, length(rt, refusal, &recorded, &mut pass), Some(32));
+        for key in 0..33 {
+            expect_put(rt, refusal, recorded, pass, key);
         }
+        expect_eq(rt, length(rt, refusal, recorded, pass), Some(32));
     }
 }
 
 #[test]
 fn recorded_strings_on_a_cache_refused_copy(rt: HostRuntime) {
-    outlast::<Names, Puts, _>(&rt, "a recorded cache of texts", (64, 64), 1);
+    outlast::<Names, Lends<Puts>, _>(&rt, "a recorded cache of texts", (64, 64), 1);
 }

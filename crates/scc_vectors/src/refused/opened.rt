@@ -26,6 +26,47 @@ pub(crate) trait Trial<C: Calls + Drop> {
     );
 }
 
+/// What is tried with a recorded container that is lent, and with each of its passes. A cache of texts has so many types
+/// that the borrow check covers no `run` of `Trial` that takes one.
+pub(crate) trait LentTrial<C: Calls + Drop> {
+    /// Returns the hasher that the container is made with.
+    fn hasher(hasher: Shared<Zero>) -> C::Hasher;
+
+    /// Tries the container.
+    fn run<L: Ledger, M: Site<C::Hasher>, R: AllocGlobal + Abort + Print + Wait>(
+        rt: &R,
+        refusal: &mut Refusal,
+        recorded: &Recorded<C, L, M>,
+        pass: &mut Pass<C, L>,
+    );
+}
+
+/// The trial that lends the container to another one.
+pub(crate) struct Lends<T> {
+    _lent: T,
+}
+
+impl<C: Calls + Drop, T: LentTrial<C>> Trial<C> for Lends<T> {
+    fn hasher(hasher: Shared<Zero>) -> C::Hasher {
+        T::hasher(hasher)
+    }
+
+    fn run<L: Ledger, M: Site<C::Hasher>, R: AllocGlobal + Abort + Print + Wait>(
+        rt: &R,
+        refusal: &mut Refusal,
+        opened: &mut Option<(Recorded<C, L, M>, Vec<Pass<C, L>>)>,
+    ) {
+        match opened {
+            Some((recorded, passes)) => {
+                for pass in passes.as_mut_slice() {
+                    T::run(rt, refusal, recorded, pass);
+                }
+            }
+            None => expect(rt, false),
+        }
+    }
+}
+
 /// Returns one owner of the hasher, or `None` if memory is refused each time.
 fn shared<R: AllocGlobal + Print>(rt: &R, refusal: &mut Refusal) -> Option<Shared<Zero>> {
     for _ in 0..TRIES {

@@ -55,4 +55,3 @@ returns-in-Some g c =
       err = (search rules);
       refused = (search rules);
     }
-

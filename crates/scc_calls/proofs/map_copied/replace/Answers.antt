@@ -39,4 +39,3 @@ returns-in_ok-noted-in-Some g c =
       err = (search rules);
       refused = (search rules);
     }
-

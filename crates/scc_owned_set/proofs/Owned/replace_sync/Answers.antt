@@ -1,9 +1,10 @@
-use Rattle.std.proofs.Common.{◌≡◌, ℕ, Bool, Err, IsOk, None, ap, rules, subst, ◌∙◌}
+use Rattle.std.proofs.Common.{◌≡◌, ℕ, Bool, Err, IsOk, None, sym, ap, rules, subst, ◌∙◌}
 use Rattle.scc_common.specs.Contents.{Contents, bucket_count, entries, key_hash}
 use Rattle.scc_owned_set.specs.Keys.{find}
 use Rattle.scc_owned_set.specs.SetSteps.{Inserts, Replaces}
 use Rattle.scc_common.specs.declared.errors.KeyError.{KeyError}
 use Rattle.scc_common.specs.declared.errors.KeyError.TheVariants.{Exists, Memory}
+use Rattle.scc_owned_set.proofs.Sets.{hash-same}
 use Rattle.scc_owned_set.proofs.Owned.replace_sync.Goals as goal
 
 -- if the key is missing, a refused insertion is a refused replacement: both are refused for memory alone
@@ -42,14 +43,14 @@ returns-in-Ok-clause-array g c =
       waiting = (search rules);
     }
 
-pub returns-in-Ok-insert_sync-clause-array : goal.returns-in-Ok-insert_sync-clause-array
-returns-in-Ok-insert_sync-clause-array g c =
+pub returns-in-Ok-insert_missing-clause-array : goal.returns-in-Ok-insert_missing-clause-array
+returns-in-Ok-insert_missing-clause-array g c =
     let missing = c.in-Err.ensures.missing in
     record {
-      kept = (λ n r. c.insert_sync.ensures.array.kept (rw (missing.2, missing.0) n) (rw (missing.2, missing.0) r) ∙ ap bucket_count missing.2);
-      once = (λ r. c.insert_sync.ensures.array.once (rw (missing.2, missing.0) r) ∙ ap bucket_count missing.2);
+      kept = (λ n r. c.insert_missing.ensures.array.kept (rw (missing.2, missing.0) n) (rw (missing.2, missing.0) r) ∙ ap bucket_count missing.2);
+      once = (λ r. c.insert_missing.ensures.array.once (rw (missing.2, missing.0) r) ∙ ap bucket_count missing.2);
       growth = (search rules);
-      due = (λ n. let d = c.insert_sync.ensures.array.due (rw (missing.2, missing.0) n) in rw (missing.2, missing.0) at d);
+      due = (λ n. let d = c.insert_missing.ensures.array.due (rw (missing.2, missing.0) n) in rw (missing.2, missing.0) at d);
       first = (search rules);
       noted = (search rules);
       relocates = (search rules);
@@ -57,30 +58,43 @@ returns-in-Ok-insert_sync-clause-array g c =
       waiting = (search rules);
     }
 
-pub returns-in-Err-insert_sync-clause-step : goal.returns-in-Err-insert_sync-clause-step
-returns-in-Err-insert_sync-clause-step g c =
+pub returns-in-Err-insert_missing-clause-step : goal.returns-in-Err-insert_missing-clause-step
+returns-in-Err-insert_missing-clause-step g c =
     let missing = c.in-Err.ensures.missing in
-    let step = rw c.in-Err-insert_sync.is at c.insert_sync.ensures.step in
-    refused-then g.K.PartialEq.eq (key_hash g.H.BuildHasher g.H.Hasher.Hasher g.K.Hash.hash_input) c.swap_key.new.self c.args.self.now c.insert_sync.new.self c.in-Err.key c.args.k c.in-Err-insert_sync.e missing.2 missing.0 missing.1 step
+    let step = rw c.in-Err-insert_missing.is at c.insert_missing.ensures.step in
+    refused-then g.K.PartialEq.eq (key_hash g.H.BuildHasher g.H.Hasher.Hasher g.K.Hash.hash_input) c.swap_key.new.self c.args.self.now c.insert_missing.new.self c.in-Err.key c.args.k c.in-Err-insert_missing.e missing.2 missing.0 missing.1 step
 
-pub returns-in-Err-insert_sync-clause-succeeds : goal.returns-in-Err-insert_sync-clause-succeeds
-returns-in-Err-insert_sync-clause-succeeds g c =
+pub returns-in-Err-insert_missing-clause-succeeds : goal.returns-in-Err-insert_missing-clause-succeeds
+returns-in-Err-insert_missing-clause-succeeds g c =
     let missing = c.in-Err.ensures.missing in
-    let step = rw c.in-Err-insert_sync.is at c.insert_sync.ensures.step in
-    (λ r. let h : IsOk c.insert_sync.result = c.insert_sync.ensures.succeeds (rw (missing.2, missing.0) missing.1) (rw (missing.2, missing.0) r) in rw c.in-Err-insert_sync.is at h)
+    let step = rw c.in-Err-insert_missing.is at c.insert_missing.ensures.step in
+    (λ r. let h : IsOk c.insert_missing.result = c.insert_missing.ensures.succeeds (rw (missing.2, missing.0) r) in rw c.in-Err-insert_missing.is at h)
 
-pub returns-in-Err-insert_sync-clause-array : goal.returns-in-Err-insert_sync-clause-array
-returns-in-Err-insert_sync-clause-array g c =
+pub returns-in-Err-insert_missing-clause-array : goal.returns-in-Err-insert_missing-clause-array
+returns-in-Err-insert_missing-clause-array g c =
     let missing = c.in-Err.ensures.missing in
-    let step = rw c.in-Err-insert_sync.is at c.insert_sync.ensures.step in
+    let step = rw c.in-Err-insert_missing.is at c.insert_missing.ensures.step in
     record {
-      kept = (λ n r. c.insert_sync.ensures.array.kept (rw (missing.2, missing.0) n) (rw (missing.2, missing.0) r) ∙ ap bucket_count missing.2);
-      once = (λ r. c.insert_sync.ensures.array.once (rw (missing.2, missing.0) r) ∙ ap bucket_count missing.2);
+      kept = (λ n r. c.insert_missing.ensures.array.kept (rw (missing.2, missing.0) n) (rw (missing.2, missing.0) r) ∙ ap bucket_count missing.2);
+      once = (λ r. c.insert_missing.ensures.array.once (rw (missing.2, missing.0) r) ∙ ap bucket_count missing.2);
       growth = (search rules);
-      due = (λ n. let due = c.insert_sync.ensures.array.due (rw (missing.2, missing.0) n) in rw (missing.2, missing.0) at due);
+      due = (λ n. let due = c.insert_missing.ensures.array.due (rw (missing.2, missing.0) n) in rw (missing.2, missing.0) at due);
       first = (search rules);
       noted = (search rules);
       relocates = (search rules);
       two = (search rules);
       waiting = (search rules);
     }
+
+pub swap_key-requires : goal.swap_key-requires
+swap_key-requires g c = rw (← c.self.view_is) (c.hash_of-hash.ensures ∙ ap (λ h. h c.args.k) (sym (hash-same g.H.BuildHasher g.H.Hasher.Hasher g.K.Hash.hash_input c.self.inside.map)))
+
+pub insert_missing-requires-clause-hashed : goal.insert_missing-requires-clause-hashed
+insert_missing-requires-clause-hashed g c =
+    let missing = c.in-Err.ensures.missing in
+    rw (missing.2, missing.0, ← c.self.view_is) (c.hash_of-hash.ensures ∙ ap (λ h. h c.args.k) (sym (hash-same g.H.BuildHasher g.H.Hasher.Hasher g.K.Hash.hash_input c.self.inside.map)))
+
+pub insert_missing-requires-clause-absent : goal.insert_missing-requires-clause-absent
+insert_missing-requires-clause-absent g c =
+    let missing = c.in-Err.ensures.missing in
+    rw (missing.2, missing.0) missing.1

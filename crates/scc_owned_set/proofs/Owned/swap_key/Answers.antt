@@ -1,4 +1,5 @@
-use Rattle.scc_owned_set.proofs.Sets.{waiting-keys, noted-keys, swapped-keys, missing-keys, unique-keys}
+use Rattle.std.proofs.Common.{ap, ◌∙◌}
+use Rattle.scc_owned_set.proofs.Sets.{hash-same, waiting-keys, noted-keys, swapped-keys, missing-keys, unique-keys}
 use Rattle.scc_owned_set.proofs.Owned.swap_key.Goals as goal
 
 pub returns-clause-swapped : goal.returns-clause-swapped
@@ -15,3 +16,6 @@ returns-clause-noted g c = rw (← c.self.view_is) (noted-keys _ _ c.swap_in_map
 
 pub returns-clause-waiting : goal.returns-clause-waiting
 returns-clause-waiting g c = rw (← c.self.view_is) (waiting-keys _ _ c.swap_in_map.ensures.waiting)
+
+pub swap_in_map-requires : goal.swap_in_map-requires
+swap_in_map-requires g c = (rw (← c.self.view_is) at c.requires) ∙ ap (λ h. h c.args.k) (hash-same g.H.BuildHasher g.H.Hasher.Hasher g.K.Hash.hash_input c.self.inside.map)

@@ -1,134 +1,106 @@
-use Rattle.std.proofs.Common.{◌≡◌, ◌∙◌, ◌+◌, ◌^◌, ◌<◌, [], length, map, set, refl, sym, ap, subst, arith}
+use Rattle.std.proofs.Common.{◌≡◌, ◌∙◌, ◌+◌, ◌^◌, ◌<◌, ◌≤◌, ℕ, List, [], length, map, set, sym, ap, subst, arith, Result}
+use Rattle.std.specs.List.{flat_map}
+use Rattle.std.specs.Result.{OnOk, OnErr}
+use Rattle.std.specs.declared.alloc.AllocError.{AllocError}
 use Rattle.scc_array.specs.Shelves.{shelf_of}
-use Rattle.scc_array.specs.Shelf.{empty_shelf, shelf_entries}
+use Rattle.scc_array.specs.Shelf.{Shelf, empty_shelf, shelf_entries}
 use Rattle.scc_buckets.proofs.Arrays.{shelf-at}
-use Rattle.scc_buckets.proofs.Bounds.{routed-view}
-use Rattle.scc_buckets.proofs.Inserts.{table-bound}
-use Rattle.scc_buckets.proofs.Views.{count-view, entries-view, lists-view, owed-view, refused-view, settings-view, spilled-view, view_of, waiting-view}
-use Rattle.scc_common.specs.Contents.{Settings, bucket_count, hash_in, lists_of, overflow_of, settings_of, IsRouted, IsUniqueBy}
-use Rattle.scc_draining.specs.Moves.{Drains}
-use Rattle.scc_draining.proofs.Arriving.{lists-set, same-contents, same-lists}
-use Rattle.scc_draining.proofs.Filled.{bucket-filled, distinct-filled, spilled-filled, spilled-none, table-filled, target-empty, target-filled, target-within, within-filled}
+use Rattle.scc_buckets.specs.Pour.{destined_for}
+use Rattle.scc_common.specs.Contents.{bucket_count, hash_in, lists_of, overflow_of, settings_of}
+use Rattle.scc_draining.specs.Filling.{Fills}
+use Rattle.scc_draining.specs.Moves.{Drains, IsDrainable}
+use Rattle.scc_draining.proofs.Arriving.{count-were, lists-set, same-contents, same-lists}
+use Rattle.scc_draining.proofs.Filled.{array-filled, coming-by, drainable-by, spilled-filled, spilled-none, target-empty, target-filled, target-within}
 use Rattle.scc_draining.proofs.relocate.Relocation.move_in.Goals as goal
-use Rattle.scc_draining.proofs.relocate.Relocation.move_in.Goals.{in-Ok, in-Err}
 
-pub overflow_room-left-requires : goal.overflow_room-left-requires
-overflow_room-left-requires g c =
-    let over : c.current.inside.overflowing ≡ overflow_of c.args.current.now = c.current.invariant.table.spilled ∙ sym (spilled-view c.current.inside.buckets _ c.args.current.now c.current.view_is) in
-    omega (arith, over, c.requires.aside)
+pub fill_by-filled-requires-clause-takes : goal.fill_by-filled-requires-clause-takes
+fill_by-filled-requires-clause-takes g c = λ bs n m array r a b is_r is_into is_olds.
+    let cur = c.args.current.now in let task = c.args.self.now in let i = task.target in
+    let hash = λ (e : g.row.E.Denot). g.H.Hashes.hash_of r.now.hasher (g.E.Keyed.key_of e) in
+    let within = target-within g.E.Key.PartialEq.eq g.H.Hashes.hash_of g.E.Keyed.key_of cur array i c.requires.target c.requires.bare in
+    let bare = target-empty g.E.Key.PartialEq.eq g.H.Hashes.hash_of g.E.Keyed.key_of cur array i c.requires.target c.requires.bare in
+    let drainable = drainable-by g.H.Hashes.hash_of g.E.Keyed.key_of cur r.now is_r c.requires.count i c.args.old.now c.requires.drainable in
+    let coming = coming-by g.H.Hashes.hash_of g.E.Keyed.key_of cur r.now is_r c.requires.count i c.args.old.now c.args.coming c.requires.coming in (
+      subst (λ (z : List (Shelf g.row.E.Denot)). IsDrainable hash r.now.skipped task.count i task.first task.last task.whole z) (sym is_olds) drainable,
+      (
+        subst (λ (z : List (Shelf g.row.E.Denot)). i < length z) (sym is_into) within,
+        (
+          subst (λ (z : List (Shelf g.row.E.Denot)). shelf_of z i ≡ record empty_shelf { room = (shelf_of z i).room }) (sym is_into) bare,
+          subst (λ (z : List (Shelf g.row.E.Denot)). length (destined_for hash r.now.skipped task.count i (flat_map shelf_entries z)) ≤ c.args.coming) (sym is_olds) coming,
+        ),
+      ),
+    )
 
-pub fill-filled-requires-clause-drainable : goal.fill-filled-requires-clause-drainable
-fill-filled-requires-clause-drainable g c =
-    let made = settings-view c.current.inside.buckets _ c.args.current.now c.current.view_is in
-    rw c.requires.count (rw (made, hash_in) at c.requires.drainable)
+pub fill_by-filled-requires-clause-keeps : goal.fill_by-filled-requires-clause-keeps
+fill_by-filled-requires-clause-keeps g c = λ bs filled news n m r array called.
+    let cur = c.args.current.now in let task = c.args.self.now in let i = task.target in
+    let hash = λ (e : g.row.E.Denot). g.H.Hashes.hash_of called.router.now.hasher (g.E.Keyed.key_of e) in
+    let met : Fills hash called.router.now.skipped task.count i c.args.coming c.overflow_room-left.result called.first.now called.second.now r called.first_left.now called.second_left.now = called.called in
+    let fills : Fills hash called.router.now.skipped task.count i c.args.coming c.overflow_room-left.result bs c.args.old.now r filled news = rw (called.is_into, called.is_olds, called.is_filled, called.is_news) at met in
+    let few : m + c.overflow_room-left.result < 2 ^ 62 = omega (arith, c.overflow_room-left.ensures, c.overflow_len.ensures.value, array.overflowing) in
+    array-filled g.E.Key.PartialEq.eq g.H.Hashes.hash_of g.E.Keyed.key_of cur array i c.requires.target c.requires.bare c.requires.count c.requires.coming called.router.now called.shows fills few c.requires.unique
 
-pub fill-filled-requires-clause-coming : goal.fill-filled-requires-clause-coming
-fill-filled-requires-clause-coming g c =
-    let made = settings-view c.current.inside.buckets _ c.args.current.now c.current.view_is in
-    rw c.requires.count (rw (made, hash_in) at c.requires.coming)
-
-pub fill-filled-requires-clause-target : goal.fill-filled-requires-clause-target
-fill-filled-requires-clause-target g c = target-within g.H.Hashes.hash_of g.E.Keyed.key_of c.current.view_is c.current.invariant.table c.args.self.now.target c.requires.target c.requires.bare
-
-pub fill-filled-requires-clause-empty : goal.fill-filled-requires-clause-empty
-fill-filled-requires-clause-empty g c = target-empty g.H.Hashes.hash_of g.E.Keyed.key_of c.current.view_is c.current.invariant.table c.args.self.now.target c.requires.target c.requires.bare
-
-pub bucket_len-moved-requires-clause-bucket : goal.bucket_len-moved-requires-clause-bucket
-bucket_len-moved-requires-clause-bucket g c = within-filled (target-filled g.H.Hashes.hash_of g.E.Keyed.key_of c.current.view_is c.current.invariant.table c.args.self.now.target c.requires.target c.requires.bare c.requires.count c.requires.coming c.fill-filled.ensures)
-
-pub bucket_len-moved-requires-clause-few : goal.bucket_len-moved-requires-clause-few
-bucket_len-moved-requires-clause-few g c =
-    let x = target-filled g.H.Hashes.hash_of g.E.Keyed.key_of c.current.view_is c.current.invariant.table c.args.self.now.target c.requires.target c.requires.bare c.requires.count c.requires.coming c.fill-filled.ensures in
-    let few : c.current.inside.overflowing + c.overflow_room-left.result < 2 ^ 62 = omega (arith, c.overflow_room-left.ensures) in
-    bucket-filled x few
-
-pub overflow_add-current : goal.overflow_add-current
-overflow_add-current g c =
-    let x = target-filled g.H.Hashes.hash_of g.E.Keyed.key_of c.current.view_is c.current.invariant.table c.args.self.now.target c.requires.target c.requires.bare c.requires.count c.requires.coming c.fill-filled.ensures in
-    let few : c.current.inside.overflowing + c.overflow_room-left.result < 2 ^ 62 = omega (arith, c.overflow_room-left.ensures) in
-    let most = table-bound _ _ _ _ c.fill-filled.new.into (table-filled x few) in
-    record { fits = omega (arith, c.bucket_len-moved.ensures, most) }
-
-pub overflow_len-requires : goal.overflow_len-requires
-overflow_len-requires g c = within-filled (target-filled g.H.Hashes.hash_of g.E.Keyed.key_of c.current.view_is c.current.invariant.table c.args.self.now.target c.requires.target c.requires.bare c.requires.count c.requires.coming c.fill-filled.ensures)
-
-pub overflow_add-current-2 : goal.overflow_add-current-2
-overflow_add-current-2 g c =
-    let x = target-filled g.H.Hashes.hash_of g.E.Keyed.key_of c.current.view_is c.current.invariant.table c.args.self.now.target c.requires.target c.requires.bare c.requires.count c.requires.coming c.fill-filled.ensures in
-    let few : c.current.inside.overflowing + c.overflow_room-left.result < 2 ^ 62 = omega (arith, c.overflow_room-left.ensures) in
-    let filled = table-filled x few in
-    record { fits = omega (arith, c.overflow_len.ensures, filled.few) }
-
-pub invariant_of-current : goal.invariant_of-current
-invariant_of-current g c =
-    let x = target-filled g.H.Hashes.hash_of g.E.Keyed.key_of c.current.view_is c.current.invariant.table c.args.self.now.target c.requires.target c.requires.bare c.requires.count c.requires.coming c.fill-filled.ensures in
-    let few : c.current.inside.overflowing + c.overflow_room-left.result < 2 ^ 62 = omega (arith, c.overflow_room-left.ensures) in
-    let cur = c.args.current.now in
-    let bs = c.current.inside.buckets in
-    let there = rw (settings-view bs _ cur c.current.view_is, count-view bs _ cur c.current.view_is, hash_in) at c.requires.unique in
-    let unique : IsUniqueBy g.E.Key.PartialEq.eq g.E.Keyed.key_of cur = rw (entries-view bs _ cur c.current.view_is) c.current.invariant.unique in
+pub returns-in-Ok : goal.returns-in-Ok
+returns-in-Ok g c =
+    let cur = c.args.current.now in let task = c.args.self.now in let i = task.target in
+    let e = c.fill_by-filled.ensures in let bs = e.before in let ns = e.after in
+    let d = c.fill_by-filled.new.self in let news = c.fill_by-filled.new.old in
+    let r : Result (Unit {0}) AllocError = c.fill_by-filled.result.0 in
+    let hash = λ (y : g.row.E.Denot). g.H.Hashes.hash_of e.called.router.now.hasher (g.E.Keyed.key_of y) in
+    let met : Fills hash e.called.router.now.skipped task.count i c.args.coming c.overflow_room-left.result e.called.first.now e.called.second.now r e.called.first_left.now e.called.second_left.now = e.called.called in
+    let fills : Fills hash e.called.router.now.skipped task.count i c.args.coming c.overflow_room-left.result bs c.args.old.now r ns news = rw (e.called.is_into, e.called.is_olds, e.called.is_filled, e.called.is_news) at met in
+    let x = target-filled g.E.Key.PartialEq.eq g.H.Hashes.hash_of g.E.Keyed.key_of cur e.array i c.requires.target c.requires.bare c.requires.count c.requires.coming e.called.router.now e.called.shows fills in
+    let lists = e.lists ∙ ap (map shelf_entries) x.fills.others ∙ lists-set g.E.Key.PartialEq.eq g.E.Keyed.key_of cur bs e.array.were i (shelf_of ns i) in
+    let now : overflow_of d ≡ e.over + length (shelf_of ns i).overflow = e.spilled in
+    let over = e.array.overflowing in
+    let khash = λ (y : g.row.E.Denot). hash_in g.H.Hashes.hash_of cur (g.E.Keyed.key_of y) in
+    let here : Drains khash (settings_of cur).skipped (length bs) i c.args.old.now empty_shelf news (shelf_of ns i) =
+    subst (λ (z : Result (Unit {0}) AllocError). OnOk z (Drains khash (settings_of cur).skipped (length bs) i c.args.old.now empty_shelf news (shelf_of ns i))) c.in-Ok.is x.fills.ok in
+    let drains : Drains khash (settings_of cur).skipped (bucket_count cur) i c.args.old.now empty_shelf news (shelf_of ns i) =
+    subst (λ (k : ℕ). Drains khash (settings_of cur).skipped k i c.args.old.now empty_shelf news (shelf_of ns i)) (sym (count-were cur bs e.array.were)) here in
+    let es_are = drains.moved.entries_are in
     record {
-      table = rw (c.bucket_len-moved.ensures, c.overflow_len.ensures) (table-filled x few);
-      small_minimum = c.current.invariant.small_minimum;
-      unique = distinct-filled x g.E.Key.PartialEq.eq g.E.Keyed.key_of cur (lists-view bs _ cur c.current.view_is) unique there;
+      ok = record {
+        lists = lists ∙ ap (set (lists_of cur) i) es_are;
+        moved = e.moved ∙ ap length es_are;
+        settings = e.settings;
+        refused = e.noted;
+        count = drains.count;
+        kept = drains.kept;
+        own = drains.own;
+        overflow = drains.overflow;
+      };
+      few = let less = spilled-filled x in omega (arith, now, over, less, c.overflow_room-left.ensures, c.overflow_len.ensures.value);
+      short = λ h. let none = spilled-none x h in omega (arith, now, over, none);
+      err = tt;
+      stays = tt;
+      refused = tt;
+      routed = e.array.routed;
     }
 
-pub returns : goal.returns
-returns g c =
-    let x = target-filled g.H.Hashes.hash_of g.E.Keyed.key_of c.current.view_is c.current.invariant.table c.args.self.now.target c.requires.target c.requires.bare c.requires.count c.requires.coming c.fill-filled.ensures in
-    let few : c.current.inside.overflowing + c.overflow_room-left.result < 2 ^ 62 = omega (arith, c.overflow_room-left.ensures) in
-    let cur = c.args.current.now in
-    let bs = c.current.inside.buckets in
-    let ns = c.fill-filled.new.into in
-    let i = c.args.self.now.target in
-    let made = settings-view bs _ cur c.current.view_is in
-    let moved : c.bucket_len-moved.result ≡ length (shelf_entries (shelf_of ns i)) = c.bucket_len-moved.ensures in
-    let spilled : c.overflow_len.result ≡ length (shelf_of ns i).overflow = c.overflow_len.ensures in
-    let were = lists-view bs _ cur c.current.view_is in
-    let over : c.current.inside.overflowing ≡ overflow_of cur = c.current.invariant.table.spilled ∙ sym (spilled-view bs _ cur c.current.view_is) in
-    let inside = c.current.inside in
-    let d = view_of (inside.refused, inside.marked) ns (record { hasher = inside.router.hasher; skipped = inside.router.skipped; asked = inside.asked; reserved = inside.reserved }) in
-    let same = settings-view ns _ d refl ∙ sym made in
-    let noted = refused-view ns _ d refl ∙ sym (refused-view bs _ cur c.current.view_is) in
-    let lists = lists-view ns _ d refl ∙ ap (map shelf_entries) x.fills.others ∙ lists-set g.E.Key.PartialEq.eq g.E.Keyed.key_of cur bs were i (shelf_of ns i) in
-    let now = spilled-view ns _ d refl ∙ sym (table-filled x few).spilled in
-    let khash = λ (e : g.row.E.Denot). hash_in g.H.Hashes.hash_of cur (g.E.Keyed.key_of e) in
-    let routed : IsRouted khash cur = rw (made, hash_in) (routed-view _ _ _ bs _ cur c.current.view_is c.current.invariant.table) in
-    elim c.match-filled.branch [
-      | in-Ok w ↦
-          let drains : Drains khash (settings_of cur).skipped (bucket_count cur) i c.args.old.now empty_shelf c.fill-filled.new.old (shelf_of ns i) =
-          subst (λ (s : Settings g.row.H.Denot). Drains (λ (e : g.row.E.Denot). g.H.Hashes.hash_of s.hasher (g.E.Keyed.key_of e)) s.skipped (bucket_count cur) i c.args.old.now empty_shelf c.fill-filled.new.old (shelf_of ns i)) (sym made)
-          (rw c.requires.count at w.in-Ok.ensures.ok) in
-          let es_are = drains.moved.entries_are in
-          rw w.result-is (record {
-            ok = record {
-              lists = lists ∙ ap (set (lists_of cur) i) es_are;
-              moved = moved ∙ ap length es_are;
-              settings = same;
-              refused = noted;
-              count = drains.count;
-              kept = drains.kept;
-              own = drains.own;
-              overflow = drains.overflow;
-            };
-            few = let less = spilled-filled x in omega (arith, now, over, less, c.overflow_room-left.ensures);
-            short = λ f. let none = spilled-none x f in omega (arith, now, over, none);
-            err = tt;
-            stays = tt;
-            refused = tt;
-            routed = routed;
-          })
-      | in-Err w ↦
-          let none : shelf_entries (shelf_of ns i) ≡ [] = ap shelf_entries w.in-Err.ensures.stays in
-          let no_overflow : length (shelf_of ns i).overflow ≡ 0 = ap (λ z. length z.overflow) w.in-Err.ensures.stays in
-          rw w.result-is (record {
-            ok = tt;
-            few = tt;
-            short = tt;
-            err = same-contents cur d (lists ∙ same-lists g.E.Key.PartialEq.eq g.E.Keyed.key_of cur bs were i (shelf_of ns i) (shelf_of bs i) x.within (shelf-at bs i x.within) x.bare none) same noted (omega (arith, now, over, no_overflow))
-                (waiting-view ns _ d refl ∙ sym (waiting-view bs _ cur c.current.view_is)) (owed-view ns _ d refl ∙ sym (owed-view bs _ cur c.current.view_is));
-            stays = w.in-Err.ensures.err;
-            refused = w.in-Err.ensures.refused;
-            routed = routed;
-          })
-    ]
+pub returns-in-Err : goal.returns-in-Err
+returns-in-Err g c =
+    let cur = c.args.current.now in let task = c.args.self.now in let i = task.target in
+    let e = c.fill_by-filled.ensures in let bs = e.before in let ns = e.after in
+    let d = c.fill_by-filled.new.self in let news = c.fill_by-filled.new.old in
+    let r : Result (Unit {0}) AllocError = c.fill_by-filled.result.0 in
+    let hash = λ (y : g.row.E.Denot). g.H.Hashes.hash_of e.called.router.now.hasher (g.E.Keyed.key_of y) in
+    let met : Fills hash e.called.router.now.skipped task.count i c.args.coming c.overflow_room-left.result e.called.first.now e.called.second.now r e.called.first_left.now e.called.second_left.now = e.called.called in
+    let fills : Fills hash e.called.router.now.skipped task.count i c.args.coming c.overflow_room-left.result bs c.args.old.now r ns news = rw (e.called.is_into, e.called.is_olds, e.called.is_filled, e.called.is_news) at met in
+    let x = target-filled g.E.Key.PartialEq.eq g.H.Hashes.hash_of g.E.Keyed.key_of cur e.array i c.requires.target c.requires.bare c.requires.count c.requires.coming e.called.router.now e.called.shows fills in
+    let lists = e.lists ∙ ap (map shelf_entries) x.fills.others ∙ lists-set g.E.Key.PartialEq.eq g.E.Keyed.key_of cur bs e.array.were i (shelf_of ns i) in
+    let now : overflow_of d ≡ e.over + length (shelf_of ns i).overflow = e.spilled in
+    let over = e.array.overflowing in
+    let empty : shelf_of ns i ≡ record empty_shelf { room = (shelf_of ns i).room } =
+    subst (λ (z : Result (Unit {0}) AllocError). OnErr z (shelf_of ns i ≡ record empty_shelf { room = (shelf_of ns i).room })) c.in-Err.is x.fills.stays in
+    let none : shelf_entries (shelf_of ns i) ≡ [] = ap shelf_entries empty in
+    let no_overflow : length (shelf_of ns i).overflow ≡ 0 = ap (λ (z : Shelf g.row.E.Denot). length z.overflow) empty in
+    record {
+      ok = tt;
+      few = tt;
+      short = tt;
+      err = same-contents cur d (lists ∙ same-lists g.E.Key.PartialEq.eq g.E.Keyed.key_of cur bs e.array.were i (shelf_of ns i) (shelf_of bs i) x.within (shelf-at bs i x.within) x.bare none) e.settings e.noted (omega (arith, now, over, no_overflow)) e.waiting e.owed;
+      stays = subst (λ (z : Result (Unit {0}) AllocError). OnErr z (news ≡ c.args.old.now)) c.in-Err.is x.fills.err;
+      refused = subst (λ (z : Result (Unit {0}) AllocError). OnErr z (32 < c.args.coming)) c.in-Err.is x.fills.refused;
+      routed = e.array.routed;
+    }

@@ -1,0 +1,15 @@
+use Rattle.scc_owned.proofs.EntrySteps.{stands-in, passes-here}
+use Rattle.scc_owned.proofs.RuledFronts.{front-kept}
+use Rattle.scc_owned.proofs.ruled_map.locked.from_guard.HeldOccupied+G+N+Ruled+K+V+R+H.passing.Goals as goal
+
+pub at-requires-clause-within : goal.at-requires-clause-within
+at-requires-clause-within g c = let at = rw c.look.ensures at c.in-Some.ensures.place in at.0
+
+pub returns-in-Some-clause-here : goal.returns-in-Some-clause-here
+returns-in-Some-clause-here g c = stands-in c.at.result _ c.at.ensures.guard
+
+pub returns-in-Some-clause-first : goal.returns-in-Some-clause-first
+returns-in-Some-clause-first g c =
+    let at = rw c.look.ensures at c.in-Some.ensures.place in
+    let kept = front-kept g.R.Rule.holds c.at.result _ _ c.at.ensures.guard c.at.ensures.place at.1.here at.2 in
+    (passes-here c.at.result _ _ c.at.ensures.guard c.at.ensures.place at.1, kept.0, kept.1)

@@ -1,0 +1,11 @@
+use Rattle.std.proofs.Common.{◌≡◌, Some, refl, of_calls}
+use Rattle.std.specs.Option.{option_eq}
+use Rattle.scc_common.specs.Contents.{entries}
+use Rattle.scc_common.specs.Pairs.{find}
+use Rattle.scc_common.proofs.RuleWalks.{walk-of-kept}
+use Rattle.scc_table.proofs.walks.Comparisons.{walk-list_all}
+use Rattle.scc_owned_cache.proofs.clone_and_eq.Owned+K+V+H.is_within.Goals as goal
+
+pub returns : goal.returns
+returns g c =
+    walk-list_all (λ f. f.0.now ≡ c.args.other.now) (λ p. option_eq (λ p q. g.V.PartialEq.eq p.1 q.1) (Some p) (find g.K.PartialEq.eq (entries c.args.other.now.contents) p.0)) (λ f p r f' i called. let m = called.called.met in rw (← called.shows) (search of_calls)) refl (walk-of-kept (λ _ _. Unit {0}) _ c.iter_lent.ensures.walks)
