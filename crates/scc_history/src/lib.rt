@@ -109,11 +109,13 @@ impl<C: Calls> Stripe<C> {
                 record_refused(history, before, container.buckets(), stamp);
                 Err(CallError::Container)
             }
-            Ok(Copied {
-                reply,
-                noted: given,
-                kept: told,
-            }) => {
+            Ok(
+                Copied {
+                    reply,
+                    noted: given,
+                    kept: told,
+                },
+            ) => {
                 record_call(
                     history,
                     before,
