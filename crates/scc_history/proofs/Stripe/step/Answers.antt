@@ -29,8 +29,8 @@ invariant_of-self-in-Ok g c =
     let number = c.args.log.now.number in
     let e : c.record_call.new.history.items ≡ old.history.items ++ recorded (m.size (m.state old.container)) (m.size (m.state new)) stamp number c.in-Some-reserve_places.noted c.in-Ok.given = cc in
     let h : old.last < stamp = omega (arith, next) in
-    let made = c.in-Ok.ensures.ok in
-    let equal = c.in-Ok.ensures.copies.0 in
+    let made = rw c.in-Ok.reply-is at c.in-Ok.ensures.ok in
+    let equal = rw (c.in-Ok.reply-is, c.in-Ok.given-is) at c.in-Ok.ensures.copies.0 in
     let same = c.requires.calls c.args.call c.in-Some-reserve_places.noted c.in-Some-reserve_places.ensures.clones.0 in
     let noted = changes-by m.size (m.resizes (m.setting old.container)) (m.moves (m.setting old.container)) (m.means (m.setting old.container)) c.args.call c.in-Some-reserve_places.noted c.in-Ok.reply c.in-Ok.given (m.state old.container) (m.state new) (λ s t h. g.met.C.Calls.means_alike (m.setting old.container) s t c.args.call c.in-Some-reserve_places.noted c.in-Ok.reply c.in-Ok.given g.met.C.Call.PartialEq.laws g.met.C.Reply.PartialEq.laws (inr same) (inr equal) (g.met.C.Calls.moves_mean c.requires.replies (m.setting old.container) s t c.args.call c.in-Ok.reply h)) made in
     record {
